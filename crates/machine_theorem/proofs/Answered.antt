@@ -7,6 +7,10 @@ use Rattle.fis_view.specs.declared.view.Fis.{Fis}
 use Rattle.fis_view.specs.declared.view.Fis.TheVariants as view
 use Rattle.fis_view.specs.declared.view.FisFault.{FisFault}
 use Rattle.block_command.specs.declared.command.Command.{Command}
+use Rattle.block_command.specs.declared.command.Stage.{Stage}
+use Rattle.block_command.specs.declared.command.Stage.TheVariants.{Sending}
+use Rattle.block_command.specs.Moments.{Moment, is_ended}
+use Rattle.block_command.proofs.Door.{at as moment}
 use Rattle.block_disk.specs.Laws.{Page}
 use Rattle.block_queue.specs.Line.{command_at}
 use Rattle.ata_command.specs.Courses.{resets}
@@ -14,7 +18,7 @@ use Rattle.ata_reply.specs.declared.reply.Reply.{Reply}
 use Rattle.ata_reply.specs.declared.reply.Reply.TheVariants as replies
 use Rattle.disk_pages.specs.declared.profile.Profile.{Profile}
 use Rattle.sata_disk.specs.Hearing.{is_command}
-use Rattle.sata_disk.specs.Sending.{IsOut}
+use Rattle.sata_disk.specs.Sending.{IsOut, out_at}
 use Rattle.sata_disk.specs.State.{DiskState, commands as line_of, is_taken, new_disk}
 use Rattle.sata_disk.specs.declared.out.Out.{Out}
 use Rattle.sata_disk.specs.declared.out.Out.TheVariants as out
@@ -26,11 +30,12 @@ use Rattle.sata_disk_laws.specs.Laws.{reached}
 use Rattle.sata_disk_laws.proofs.Door.{calls_both}
 use Rattle.sata_disk_laws.specs.Once.{AnswersAreSingle, ForAnswer, ForEnd, ForLast, ForNothing, ForSignature, Host, IsAccepted, IsDue, IsOutDue, IsRefused, Wait, announced, command_given, control_given, data_got_by, fis_given, host_after, host_of, is_for_data, new_host, none_open, out_got, place_in, reply_got, unheard_of, waits_for_nothing}
 use Rattle.machine_theorem.specs.InTurn.{AreKeptOn, CommandsGoInTurn, IsIdle, IsInTurn, IsKeptOn, IsUnanswered, answered_in, answers_one, commands, heard_in, hears_one, is_answer, is_asking, is_register, sets_reset}
+use Rattle.machine_theorem.specs.SingleBytes.{SingleDataGoInTurn}
 use Rattle.machine_theorem.specs.Tags.{once_if}
 use Rattle.machine_theorem.proofs.TagAsked.{Outcome, outcome}
 use Rattle.machine_theorem.proofs.TagAsked.Outcome.{Nothing, Taken}
 use Rattle.machine_theorem.proofs.TagCounts.{due_at, first_calls, held_of_taken, host_then, none_held, one_call_more}
-use Rattle.machine_theorem.proofs.TagKept.{IsNoFis, call_held, call_takes, held_at, others_none}
+use Rattle.machine_theorem.proofs.TagKept.{IsNoFis, call_held, call_takes, held_at, held_is, held_of, others_none}
 use Rattle.machine_theorem.proofs.TagPages.{page_same}
 
 pub record Laws : Type 0 where
@@ -50,21 +55,21 @@ answered_both (x ∷ xs) ys = let more = answered_both xs ys in omega (arith, mo
 
 -- ---- what a host waits for
 
-abbrev waiting : Host → ℕ
+abbrev pub waiting : Host → ℕ
 waiting h = once_if (not (waits_for_nothing h.waits))
 
 none_waits : (h : Host) → h.waits ≡ ForNothing → waiting h ≡ 0
 none_waits h e = ap (λ (w : Wait). once_if (not (waits_for_nothing w))) e
 
-for_nothing : (w : Wait) → once_if (not (waits_for_nothing w)) ≡ 0 → w ≡ ForNothing
+pub for_nothing : (w : Wait) → once_if (not (waits_for_nothing w)) ≡ 0 → w ≡ ForNothing
 for_nothing ForNothing none = refl
 for_nothing other none = absurd (cc)
 
 -- the host behind a FIS of the disk
-record IsOver (h k : Host) (answer : Bool) : Type 0 where
-  clear : k.in_reset ≡ h.in_reset
-  few : once_if answer + waiting k ≤ waiting h
-  free : answer ≡ true → k.waits ≡ ForNothing
+pub record IsOver (h k : Host) (answer : Bool) : Type 0 where
+  pub clear : k.in_reset ≡ h.in_reset
+  pub few : once_if answer + waiting k ≤ waiting h
+  pub free : answer ≡ true → k.waits ≡ ForNothing
 
 one_waits : (h : Host) (w : Wait) → h.waits ≡ w → waits_for_nothing w ≡ false → waiting h ≡ 1
 one_waits h w e busy = ap (λ (v : Wait). once_if (not (waits_for_nothing v))) e ∙ ap (λ (b : Bool). once_if (not b)) busy
@@ -108,7 +113,7 @@ data_over : (h : Host) (w : Wait) → IsOver h (data_got_by h w) false
 data_over h ForLast = stays_so h _ refl (omega arith)
 data_over h w = stays_so h _ refl (omega arith)
 
-out_over : (h : Host) (o : Out) → IsOutDue h o → IsOver h (out_got h o) (is_answer o)
+pub out_over : (h : Host) (o : Out) → IsOutDue h o → IsOver h (out_got h o) (is_answer o)
 out_over h (out.Own r) due = reply_over h r due
 out_over h (out.Beside r) due = reply_over h r due
 out_over h (out.Of p r) due = reply_over h r due.0
@@ -158,25 +163,35 @@ fis_over h (Err e) clear calm = same_given h clear
 
 -- ---- what is counted
 
-no_data : (w : Wait) → w ≡ ForNothing → is_for_data w ≡ true → ⊥
+pub no_data : (w : Wait) → w ≡ ForNothing → is_for_data w ≡ true → ⊥
 no_data ForNothing e is = cc
 no_data w e is = absurd (by (sym (ap is_for_data e) ∙ is))
   where
     by : is_for_data ForNothing ≡ true → ⊥
     by e = cc
 
+-- the command whose Data go next
+stage_of : (d : DiskState) (place len : ℕ) (c : Command) (past : ℕ) (bytes : List ℕ) (sent : ℕ) (stage : Stage)
+    → Some (out.Data place len) ≡ out_at d place (Some (moment c past bytes sent stage)) → is_ended stage ≡ false
+stage_of d place len c past bytes sent Sending e = refl
+stage_of d place len c past bytes sent stage e = absurd (cc)
+
+pub data_held : (d : DiskState) (place len : ℕ) (x : Option Moment) → Some (out.Data place len) ≡ out_at d place x → (c : Command) × (held_of x ≡ Some c)
+data_held d place len None e = absurd (cc)
+data_held d place len (Some m) e = (m.command, held_is m (stage_of d place len m.command m.done m.bytes m.sent m.stage e))
+
 -- of the calls of a disk, those behind some
 module _ (laws : Laws) (p : Profile) (limit : ℕ) (base : List Call) where
-  abbrev host : List Call → Host
+  abbrev pub host : List Call → Host
   host done = host_of new_host (base ++ done)
 
-  abbrev disk : List Call → DiskState
+  abbrev pub disk : List Call → DiskState
   disk done = reached p limit (base ++ done)
 
-  one_more : (done : List Call) (x : Call) → disk (done ++ x ∷ []) ≡ after_call (disk done) x
+  pub one_more : (done : List Call) (x : Call) → disk (done ++ x ∷ []) ≡ after_call (disk done) x
   one_more done x = ap (reached p limit) (sym (append_assoc base done (x ∷ []))) ∙ one_call_more p limit (base ++ done) x
 
-  host_more : (done : List Call) (x : Call) → host (done ++ x ∷ []) ≡ host_after (host done) x
+  pub host_more : (done : List Call) (x : Call) → host (done ++ x ∷ []) ≡ host_after (host done) x
   host_more done x = ap (host_of new_host) (sym (append_assoc base done (x ∷ []))) ∙ host_then (base ++ done) x new_host
 
   -- a command was asked for behind all that were answered
@@ -197,9 +212,9 @@ module _ (laws : Laws) (p : Profile) (limit : ℕ) (base : List Call) where
     behind : answered_in done ≤ heard_in front
     quiet : answered_in later ≡ 0
 
-  record Counted (done : List Call) : Type 0 where
-    clear : (host done).in_reset ≡ false
-    fewer : answered_in done + waiting (host done) ≤ heard_in done
+  pub record Counted (done : List Call) : Type 0 where
+    pub clear : (host done).in_reset ≡ false
+    pub fewer : answered_in done + waiting (host done) ≤ heard_in done
     last : 1 ≤ waiting (host done) → Last done
     since : (c : Command) → held_at (line_of (disk done)) 32 ≡ Some c → Since done c
 
@@ -243,7 +258,7 @@ module _ (laws : Laws) (p : Profile) (limit : ℕ) (base : List Call) where
       }
 
   -- none is under way while the host waits for nothing
-  none_under : (done : List Call) → AreCalls (new_disk p limit) (base ++ done) → (host done).waits ≡ ForNothing → (c : Command) → held_at (line_of (disk done)) 32 ≡ Some c → ⊥
+  pub none_under : (done : List Call) → AreCalls (new_disk p limit) (base ++ done) → (host done).waits ≡ ForNothing → (c : Command) → held_at (line_of (disk done)) 32 ≡ Some c → ⊥
   none_under done are free c held = by (is_taken (line_of (disk done)) 32) refl
     where
       by : (b : Bool) → is_taken (line_of (disk done)) 32 ≡ b → ⊥
@@ -295,7 +310,7 @@ module _ (laws : Laws) (p : Profile) (limit : ℕ) (base : List Call) where
           (q.since c (call_held (disk done) (Sends o) 32 c (others_none (disk done) (Sends o) tt) (ap (λ (d : DiskState). held_at (line_of d) 32) (sym (one_more done (Sends o))) ∙ h)))
 
   -- it hears
-  asks_it : (bytes f : List ℕ) → seen bytes ≡ Ok (view.RegH2D f) → is_command f ≡ true → is_asking bytes ≡ true
+  pub asks_it : (bytes f : List ℕ) → seen bytes ≡ Ok (view.RegH2D f) → is_command f ≡ true → is_asking bytes ≡ true
   asks_it bytes f viewed is = ap commands viewed ∙ is
 
   heard_since : (done : List Call) (bytes : List ℕ) → Outcome (disk done) (seen bytes) → answered_in done ≤ heard_in done → ((c : Command) → held_at (line_of (disk done)) 32 ≡ Some c → Since done c)
@@ -363,7 +378,7 @@ module _ (laws : Laws) (p : Profile) (limit : ℕ) (base : List Call) where
   step done (Asks r) are on q = kept done (Asks r) refl refl tt q
   step done (Answers n a) are on q = kept done (Answers n a) refl refl tt q
 
-  walk : (later done : List Call) → AreCalls (new_disk p limit) (base ++ (done ++ later)) → AreKeptOn later → Counted done → Counted (done ++ later)
+  pub walk : (later done : List Call) → AreCalls (new_disk p limit) (base ++ (done ++ later)) → AreKeptOn later → Counted done → Counted (done ++ later)
   walk [] done are on q = subst Counted (sym (append-nil done)) q
   walk (x ∷ later) done are on q =
       let same : (done ++ x ∷ []) ++ later ≡ done ++ x ∷ later = append_assoc done (x ∷ []) later in
@@ -372,7 +387,7 @@ module _ (laws : Laws) (p : Profile) (limit : ℕ) (base : List Call) where
       let next = step done x (first_calls (base ++ (done ++ x ∷ [])) later (new_disk p limit) whole) on.0 q in
       subst Counted same (walk later (done ++ x ∷ []) all on.1 next)
 
-  begins : AreCalls (new_disk p limit) base → IsIdle (host_of new_host base) → Counted []
+  pub begins : AreCalls (new_disk p limit) base → IsIdle (host_of new_host base) → Counted []
   begins are idle =
       let none = append-nil base in
       let free : (host []).waits ≡ ForNothing = ap (λ (l : List Call). (host_of new_host l).waits) none ∙ idle.waits in
@@ -411,6 +426,24 @@ module _ (laws : Laws) (p : Profile) (limit : ℕ) (base : List Call) where
         last = λ few. omega (arith, all, behind, few);
       })
 
+  -- Data of the command that is not queued
+  data_now : (done : List Call) → AreCalls (new_disk p limit) (base ++ done) → Counted done → (len : ℕ) → IsOut (disk done) (Some (out.Data 32 len)) → (page : Page)
+      → page_in p limit (base ++ done) 32 ≡ Some page → IsInTurn p limit base done page.command
+  data_now done are q len is page books =
+      let it = data_held (disk done) 32 len (command_at (line_of (disk done)) 32) is.3 in
+      let same : page.command ≡ it.0 = page_same p limit (base ++ done) 32 it.0 page it.1 books in
+      let s = q.since it.0 it.1 in
+      let all = all_heard done it.0 s in
+      let behind = s.behind in
+      subst (IsInTurn p limit base done) (sym same) (record {
+        asked = s.asked;
+        front = s.front;
+        split = s.split;
+        asks = s.asks;
+        behind = s.behind;
+        last = λ few. omega (arith, all, behind, few);
+      })
+
   -- an answer is that of the command which was heard last
   answers : (done : List Call) → AreCalls (new_disk p limit) (base ++ done) → Counted done → (o : Out) → IsOut (disk done) (Some o) → is_answer o ≡ true → IsUnanswered done
   answers done are q o is answer =
@@ -433,6 +466,11 @@ module _ (laws : Laws) (p : Profile) (limit : ℕ) (base : List Call) where
         quiet = l.quiet;
         last = λ some. omega (arith, all, asks, behind, some);
       }
+
+pub single_data_go : Laws → SingleDataGoInTurn
+single_data_go laws p limit base calls are idle on len is page books =
+    let q = walk laws p limit base calls [] are on (begins laws p limit base (first_calls base calls (new_disk p limit) are) idle) in
+    data_now laws p limit base calls are q len is page books
 
 pub go_in_turn : Laws → CommandsGoInTurn
 go_in_turn laws p limit base calls are idle on =

@@ -74,7 +74,7 @@ last_order laws s some =
 
 -- ---- it alone
 
-one_asks : (s : Stretch) (f : Stamped) → is_for s.many s.n f ≡ true → asks_of s.tag (heard_as f) ≡ true → asked_of s.many s.n s.tag (f ∷ []) ≡ heard_as f ∷ []
+pub one_asks : (s : Stretch) (f : Stamped) → is_for s.many s.n f ≡ true → asks_of s.tag (heard_as f) ≡ true → asked_of s.many s.n s.tag (f ∷ []) ≡ heard_as f ∷ []
 one_asks s f mine asks =
     picked (asks_of s.tag) (is_for s.many s.n f) f ∙ ap (λ (b : Bool). if b then (if asks_of s.tag (heard_as f) then heard_as f ∷ [] else []) else []) mine
     ∙ ap (λ (b : Bool). if b then heard_as f ∷ [] else []) asks

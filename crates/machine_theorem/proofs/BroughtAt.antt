@@ -1,4 +1,4 @@
--- Each byte of a queued read that the guest sees completed was brought at a moment of the machine's run.
+-- Each byte of a read that came was brought at a moment of the machine's run. So it is of a queued read that the guest sees completed.
 use Rattle.std.proofs.Common.{◌≡◌, ◌⊎◌, ℕ, ◌+◌, ◌<◌, Bool, true, false, List, [], ◌∷◌, ◌++◌, inl, inr, refl, sym, ap, subst, ◌∙◌, arith, get_or, Option}
 use Rattle.std.proofs.Common.{Some, None}
 use Rattle.std.specs.Prelude.{◌==◌, MatchOption, is_some}
@@ -9,6 +9,9 @@ use Rattle.std.proofs.lemmas.List.FromFn.{get_or-range_with_len, length-range_wi
 use Rattle.slots.specs.Bytes.{is_over}
 use Rattle.slots.specs.Slots.{Issue, holds, issue_at, match_some, own_issue}
 use Rattle.slots.specs.Table.{IsIssue}
+use Rattle.slots.specs.Work.{is_read}
+use Rattle.slots.specs.declared.work.Kind.{Kind}
+use Rattle.slots.specs.declared.work.Kind.TheVariants.{QueuedRead}
 use Rattle.hba_fbs.specs.Views.{view_of}
 use Rattle.hba_laws.proofs.Door.{own_here}
 use Rattle.hba_laws.specs.History.{filled, is_all_filled}
@@ -23,13 +26,14 @@ use Rattle.machine_laws.specs.Controllers.{ControllerGoesOn, GathersDue, StaysDu
 use Rattle.machine_laws.specs.Deeds.{Deed, Moved}
 use Rattle.machine_theorem.specs.Brought.{ByteIsBrought, IsReadDone, ReadsAreBrought, ReadsAreBroughtSince}
 use Rattle.machine_theorem.specs.Commands.{AreNotIssued}
-use Rattle.machine_theorem.specs.Filled.{AreNotBrought, Brings, WasBrought}
+use Rattle.machine_theorem.specs.Filled.{AreNotBrought}
 use Rattle.machine_theorem.specs.Orders.{is_sent_of}
 use Rattle.machine_theorem.specs.ReadsWritten.{NoneTaken}
+use Rattle.machine_theorem.specs.SingleReads.{BringsFor, WasBroughtFor}
 use Rattle.machine_theorem.proofs.Cut.{Cut, cut_here, cut_more}
 use Rattle.machine_theorem.proofs.Falls as falls
 use Rattle.machine_theorem.proofs.Falls.{Told, kept_of, named_by, told_now}
-use Rattle.machine_theorem.proofs.FilledCalls.{Then, calls_behind, came_at_last, none_at_first}
+use Rattle.machine_theorem.proofs.FilledCalls.{Then, calls_behind, came_at_last, no_queued_read, none_at_first, queued_brings}
 use Rattle.machine_theorem.proofs.FilledCores.{Behind}
 use Rattle.machine_theorem.proofs.Ordered.{first_ruled}
 use Rattle.machine_theorem.proofs.Own.{last_ruled}
@@ -64,9 +68,9 @@ none_here (call.Said write ∷ before) frame took later none = none_here before 
 none_here (call.Gathered d number f fed ∷ before) frame took later none = none_here before frame took later none
 none_here (call.NotThere d number fed ∷ before) frame took later none = none_here before frame took later none
 
-none_brings : {A : Type 0} (n s k : ℕ) (old : ControllerState) (events : List Event) (new : ControllerState) → NoneTaken events
-    → WasBrought n s k old events new → A
-none_brings n s k old events new none b = none_here b.sooner b.frame b.took b.later (subst NoneTaken b.is none)
+none_brings : {A : Type 0} (r : Kind) (n s k : ℕ) (old : ControllerState) (events : List Event) (new : ControllerState) → NoneTaken events
+    → WasBroughtFor r n s k old events new → A
+none_brings r n s k old events new none b = none_here b.sooner b.frame b.took b.later (subst NoneTaken b.is none)
 
 abbrev head_frame : List ℕ → List Event → List ℕ
 head_frame f (call.Took g t ∷ later) = g
@@ -81,14 +85,14 @@ tail_of [] = []
 tail_of (e ∷ later) = later
 
 -- a list of one call that brings it is this call
-one_brings : (n s k : ℕ) (c : ControllerState) (f : List ℕ) (t : Took) (before : List Event) (mid : ControllerState) → Runs c before mid
+one_brings : (r : Kind) (n s k : ℕ) (c : ControllerState) (f : List ℕ) (t : Took) (before : List Event) (mid : ControllerState) → Runs c before mid
     → (frame : List ℕ) (took : Took) (later : List Event)
-    → call.Took f t ∷ [] ≡ before ++ call.Took frame took ∷ later → Brings n s k mid frame took → Brings n s k c f t
-one_brings n s k c f t [] mid led frame took later is brings =
-    subst (λ (x : ControllerState). Brings n s k x f t) led.1
-    (subst (λ (x : List ℕ). Brings n s k mid x t) (sym (ap (head_frame f) is))
-    (subst (λ (x : Took). Brings n s k mid frame x) (sym (ap (head_took t) is)) brings))
-one_brings n s k c f t (x ∷ before) mid led frame took later is brings = no_split before later (call.Took frame took) (ap tail_of is)
+    → call.Took f t ∷ [] ≡ before ++ call.Took frame took ∷ later → BringsFor r n s k mid frame took → BringsFor r n s k c f t
+one_brings r n s k c f t [] mid led frame took later is brings =
+    subst (λ (x : ControllerState). BringsFor r n s k x f t) led.1
+    (subst (λ (x : List ℕ). BringsFor r n s k mid x t) (sym (ap (head_frame f) is))
+    (subst (λ (x : Took). BringsFor r n s k mid frame x) (sym (ap (head_took t) is)) brings))
+one_brings r n s k c f t (x ∷ before) mid led frame took later is brings = no_split before later (call.Took frame took) (ap tail_of is)
 
 once_both : (s k : ℕ) (xs ys : List Event) → AreNotBrought s k xs → AreNotBrought s k ys → AreNotBrought s k (xs ++ ys)
 once_both s k [] ys a b = b
@@ -97,37 +101,37 @@ once_both s k (x ∷ xs) ys a b = (a.0, once_both s k xs ys a.1 b)
 -- ---- the deed
 
 -- a deed of the run takes a FIS that brings it; since then nothing is issued in the slot, and it is not brought again
-pub record Brought (n s k : ℕ) (at : MachineState) (deeds : List Deed) (now : MachineState) (run : RunsRuled at deeds now) : Type 0 where
+pub record Brought (r : Kind) (n s k : ℕ) (at : MachineState) (deeds : List Deed) (now : MachineState) (run : RunsRuled at deeds now) : Type 0 where
   pub took : Took
   pub cut : Cut (Moved (act.Takes took)) at deeds now run
-  pub brings : Brings n s k cut.mid.controller cut.does.does.frame.bytes took
+  pub brings : BringsFor r n s k cut.mid.controller cut.does.does.frame.bytes took
   pub alone : AreNotIssued s (calls_in cut.next cut.later now cut.rest)
   pub once : AreNotBrought s k (calls_in cut.next cut.later now cut.rest)
 
 -- it came before, and by none of these deeds a command is issued in the slot, or the byte brought again; or one of them brings it
-abbrev pub Since : (n s k : ℕ) → (at : MachineState) → (deeds : List Deed) → (now : MachineState) → RunsRuled at deeds now → Type 0 → Type 0
-Since n s k at deeds now run A =
-    (A × AreNotIssued s (calls_in at deeds now run) × AreNotBrought s k (calls_in at deeds now run)) ⊎ Brought n s k at deeds now run
+abbrev pub Since : Kind → (n s k : ℕ) → (at : MachineState) → (deeds : List Deed) → (now : MachineState) → RunsRuled at deeds now → Type 0 → Type 0
+Since r n s k at deeds now run A =
+    (A × AreNotIssued s (calls_in at deeds now run) × AreNotBrought s k (calls_in at deeds now run)) ⊎ Brought r n s k at deeds now run
 
-brought_by : (n s k : ℕ) (deed : Deed) (at : MachineState) (later : List Deed) (now : MachineState) (run : RunsRuled at (deed ∷ later) now)
-    → WasBrought n s k at.controller (deed_calls at deed run.1.0 run.1.1) run.1.0.controller → AreNotIssued s (calls_in run.1.0 later now run.1.2)
-    → AreNotBrought s k (calls_in run.1.0 later now run.1.2) → Brought n s k at (deed ∷ later) now run
+brought_by : (r : Kind) (n s k : ℕ) (deed : Deed) (at : MachineState) (later : List Deed) (now : MachineState) (run : RunsRuled at (deed ∷ later) now)
+    → WasBroughtFor r n s k at.controller (deed_calls at deed run.1.0 run.1.1) run.1.0.controller → AreNotIssued s (calls_in run.1.0 later now run.1.2)
+    → AreNotBrought s k (calls_in run.1.0 later now run.1.2) → Brought r n s k at (deed ∷ later) now run
 unfolding cut_here
-brought_by n s k (Moved (act.Takes took)) at later now run b alone once = record {
+brought_by r n s k (Moved (act.Takes took)) at later now run b alone once = record {
   took = took;
   cut = cut_here (Moved (act.Takes took)) later at now run;
-  brings = one_brings n s k at.controller run.1.1.does.frame.bytes took b.sooner b.mid b.led b.frame b.took b.later b.is b.brings;
+  brings = one_brings r n s k at.controller run.1.1.does.frame.bytes took b.sooner b.mid b.led b.frame b.took b.later b.is b.brings;
   alone = alone;
   once = once;
 }
-brought_by n s k deed at later now run b alone once =
-    none_brings n s k at.controller (deed_calls at deed run.1.0 run.1.1) run.1.0.controller (deed_none at deed run.1.0 run.1.1 tt) b
+brought_by r n s k deed at later now run b alone once =
+    none_brings r n s k at.controller (deed_calls at deed run.1.0 run.1.1) run.1.0.controller (deed_none at deed run.1.0 run.1.1 tt) b
 
-brought_behind : (n s k : ℕ) (deed : Deed) (at : MachineState) (later : List Deed) (now : MachineState) (run : RunsRuled at (deed ∷ later) now)
-    → Brought n s k run.1.0 later now run.1.2
-    → Brought n s k at (deed ∷ later) now run
+brought_behind : (r : Kind) (n s k : ℕ) (deed : Deed) (at : MachineState) (later : List Deed) (now : MachineState) (run : RunsRuled at (deed ∷ later) now)
+    → Brought r n s k run.1.0 later now run.1.2
+    → Brought r n s k at (deed ∷ later) now run
 unfolding cut_more
-brought_behind n s k deed at later now run b = record {
+brought_behind r n s k deed at later now run b = record {
   took = b.took;
   cut = cut_more (Moved (act.Takes b.took)) deed later at now run b.cut;
   brings = b.brings;
@@ -137,11 +141,11 @@ brought_behind n s k deed at later now run b = record {
 
 -- ---- the run
 
-module _ (laws : Laws) (n : ℕ) (low : n < 16) (s k : ℕ) where
-  run_behind : (deeds : List Deed) (at now : MachineState) (run : RunsRuled at deeds now) (A : Type 0) → GathersDue at → Behind n s k at.controller.core A
-      → Behind n s k now.controller.core (Since n s k at deeds now run A)
+module _ (laws : Laws) (r : Kind) (reads : is_read r ≡ true) (n : ℕ) (low : n < 16) (s k : ℕ) where
+  pub run_behind : (deeds : List Deed) (at now : MachineState) (run : RunsRuled at deeds now) (A : Type 0) → GathersDue at → Behind r n s k at.controller.core A
+      → Behind r n s k now.controller.core (Since r n s k at deeds now run A)
   run_behind [] at now run A due was =
-      subst (λ (m : MachineState). Behind n s k m.controller.core ((A × Unit {0} × Unit {0}) ⊎ Brought n s k at [] now run)) (sym run.1) (record {
+      subst (λ (m : MachineState). Behind r n s k m.controller.core ((A × Unit {0} × Unit {0}) ⊎ Brought r n s k at [] now run)) (sym run.1) (record {
         past = was.past;
         told = was.told;
         back = λ c. inl (was.back c, tt, tt);
@@ -150,23 +154,23 @@ module _ (laws : Laws) (n : ℕ) (low : n < 16) (s k : ℕ) where
       let mid : MachineState = run.1.0 in
       let events : List Event = deed_calls at deed mid run.1.1 in
       let calls : Runs at.controller events mid.controller = laws.goes at deed mid run.1.1 run.0 (first_ruled later mid now run.1.2) due in
-      let one : Behind n s k mid.controller.core (Then n s k at.controller events mid.controller A) =
-      calls_behind laws.setup n low s k events at.controller mid.controller calls A was in
-      let rest = run_behind later mid now run.1.2 (Then n s k at.controller events mid.controller A) (laws.due at deed mid run.1.1 due) one in
+      let one : Behind r n s k mid.controller.core (Then r n s k at.controller events mid.controller A) =
+      calls_behind r reads laws.setup n low s k events at.controller mid.controller calls A was in
+      let rest = run_behind later mid now run.1.2 (Then r n s k at.controller events mid.controller A) (laws.due at deed mid run.1.1 due) one in
       record { past = rest.past; told = rest.told; back = λ c. by (rest.back c) }
     where
-      by : Since n s k run.1.0 later now run.1.2 (Then n s k at.controller (deed_calls at deed run.1.0 run.1.1) run.1.0.controller A)
-          → Since n s k at (deed ∷ later) now run A
-      by (inr b) = inr (brought_behind n s k deed at later now run b)
+      by : Since r n s k run.1.0 later now run.1.2 (Then r n s k at.controller (deed_calls at deed run.1.0 run.1.1) run.1.0.controller A)
+          → Since r n s k at (deed ∷ later) now run A
+      by (inr b) = inr (brought_behind r n s k deed at later now run b)
       by (inl (inl before, none, once)) =
           let events : List Event = deed_calls at deed run.1.0 run.1.1 in
           let rest : List Event = calls_in run.1.0 later now run.1.2 in
           inl (before.0, none_both s events rest before.1 none, once_both s k events rest before.2 once)
-      by (inl (inr b, none, once)) = inr (brought_by n s k deed at later now run b none once)
+      by (inl (inr b, none, once)) = inr (brought_by r n s k deed at later now run b none once)
 
 -- ---- the bit falls
 
-all_at : (g : ℕ → Option ℕ) (len k : ℕ) → is_all_filled g len ≡ true → k < len → is_some (g k) ≡ true
+pub all_at : (g : ℕ → Option ℕ) (len k : ℕ) → is_all_filled g len ≡ true → k < len → is_some (g k) ≡ true
 all_at g len k all lt = elim (cases_Bool (is_some (g k))) [
   | inl here ↦ here
   | inr missing ↦
@@ -193,8 +197,8 @@ module _ (laws : Laws) (now : MachineState) (rules : HasRules now) (t : Told now
       ((t.told issue.dev dev_low).agrees.issues_agree slot issue mine).over_is k ∙ all_at (filled slot (t.past issue.dev)) issue.work.len k moved below
 
 -- a byte that was brought in the run
-abbrev pub byte_is : (n s k : ℕ) (at : MachineState) (deeds : List Deed) (now : MachineState) (run : RunsRuled at deeds now) → Brought n s k at deeds now run
-    → ByteIsBrought n s k at deeds now run
+abbrev pub byte_is : (n s k : ℕ) (at : MachineState) (deeds : List Deed) (now : MachineState) (run : RunsRuled at deeds now)
+    → Brought QueuedRead n s k at deeds now run → ByteIsBrought n s k at deeds now run
 byte_is n s k at deeds now run b = record {
   sooner = b.cut.sooner;
   mid = b.cut.mid;
@@ -206,7 +210,7 @@ byte_is n s k at deeds now run b = record {
   rest = b.cut.rest;
   is = b.cut.is;
   calls = b.cut.events;
-  brings = b.brings;
+  brings = queued_brings n s k b.cut.mid.controller b.cut.does.does.frame.bytes b.took b.brings;
   alone = b.alone;
   once = b.once;
 }
@@ -218,29 +222,37 @@ module _ (laws : Laws) (ports : ℕ) (legacy : Bool) (old : MachineState) (openi
   due_first : GathersDue at
   due_first = (laws.falls.runs old before at first (laws.falls.opens ports legacy old opening (first_ruled before old at first)).due).due
 
+  -- a byte that came of what is issued in a slot, where no such command that was sent stood there as the stretch began
+  pub came_since : (r : Kind) → is_read r ≡ true → (n : ℕ) → n < 16 → (slot : ℕ) → slot < 32
+      → ((i : Issue) → issue_at at.controller.core.slots slot ≡ Some i → i.dev ≡ n → i.work.kind ≡ r → i.sent ≡ false)
+      → (issue : Issue) → issue_at now.controller.core.slots slot ≡ Some issue → issue.dev ≡ n → issue.work.kind ≡ r
+      → (k : ℕ) → is_over issue.over k ≡ true → Brought r n slot k at deeds now run
+  came_since r reads n n_low slot low none issue is own kind k over =
+      let rules : HasRules now = last_ruled deeds at now run in
+      let then' : Told at.controller = told_now laws.falls ports legacy old opening before at first in
+      let past = then'.past n in
+      let start : Behind r n slot k at.controller.core ⊥ = record {
+        past = past;
+        told = then'.told n n_low;
+        back = λ c. none_at_first r n n_low slot k at.controller (kept_of laws.falls at (first_ruled deeds at now run)) past (then'.told n n_low) none c;
+      } in
+      let last = run_behind laws r reads n n_low slot k deeds at now run ⊥ due_first start in
+      by (last.back (came_at_last r n n_low slot k now.controller (kept_of laws.falls now rules) last.past last.told low issue is own kind over))
+    where
+      by : Since r n slot k at deeds now run ⊥ → Brought r n slot k at deeds now run
+      by (inl none) = absurd none.0
+      by (inr b) = b
+
   pub brought_since : (slot : ℕ) → slot < 32 → (issue : Issue) → IsReadDone now slot issue
       → holds (is_sent_of (λ dev. dev == issue.dev)) (issue_at at.controller.core.slots slot) ≡ false
-      → (k : ℕ) → k < issue.work.len → Brought issue.dev slot k at deeds now run
+      → (k : ℕ) → k < issue.work.len → Brought QueuedRead issue.dev slot k at deeds now run
   brought_since slot low issue done none k below =
       let rules : HasRules now = last_ruled deeds at now run in
       let whole = whole_run before old at first deeds now run in
       let t : Told now.controller = told_now laws.falls ports legacy old opening (before ++ deeds) now whole.all in
-      let then' : Told at.controller = told_now laws.falls ports legacy old opening before at first in
-      let n : ℕ = issue.dev in
-      let n_low : n < 16 = dev_low laws now rules t slot low issue done in
-      let past = then'.past n in
-      let start : Behind n slot k at.controller.core ⊥ = record {
-        past = past;
-        told = then'.told n n_low;
-        back = λ c. none_at_first n n_low slot k at.controller (kept_of laws.falls at (first_ruled deeds at now run)) past (then'.told n n_low) none c;
-      } in
-      let last = run_behind laws n n_low slot k deeds at now run ⊥ due_first start in
-      by n (last.back (came_at_last n n_low slot k now.controller (kept_of laws.falls now rules) last.past last.told low issue done.is refl done.kind
-      (over_now laws now rules t slot low issue done k below)))
-    where
-      by : (n : ℕ) → Since n slot k at deeds now run ⊥ → Brought n slot k at deeds now run
-      by n (inl none) = absurd none.0
-      by n (inr b) = b
+      came_since QueuedRead refl issue.dev (dev_low laws now rules t slot low issue done) slot low
+      (no_queued_read issue.dev (issue_at at.controller.core.slots slot) none) issue done.is refl done.kind k
+      (over_now laws now rules t slot low issue done k below)
 
 pub reads_are_since : Laws → ReadsAreBroughtSince
 reads_are_since laws ports legacy old opening before at first deeds now run slot low issue done none k below =
@@ -249,7 +261,7 @@ reads_are_since laws ports legacy old opening before at first deeds now run slot
 -- from the opening
 pub brought_ever : (laws : Laws) (ports : ℕ) (legacy : Bool) (old : MachineState) → IsOpeningMachine ports legacy old → (deeds : List Deed) (now : MachineState)
     (run : RunsRuled old deeds now) (slot : ℕ) → slot < 32 → (issue : Issue) → IsReadDone now slot issue → (k : ℕ) → k < issue.work.len
-    → Brought issue.dev slot k old deeds now run
+    → Brought QueuedRead issue.dev slot k old deeds now run
 brought_ever laws ports legacy old opening deeds now run slot low issue done k below =
     let rules : HasRules old = first_ruled deeds old now run in
     let opens = laws.falls.opens ports legacy old opening rules in

@@ -50,7 +50,7 @@ use Rattle.machine_theorem.proofs.SetupCores.{IsWritten}
 
 -- ---- histories
 
-abbrev NotSent : Event → Type 0
+abbrev pub NotSent : Event → Type 0
 NotSent (history.Sent slot) = ⊥
 NotSent e = Unit {0}
 
@@ -62,7 +62,7 @@ unless_at : (s : ℕ) (b : Bool) (o : Option ℕ) → is_at s (unless b o) ≡ t
 unless_at s true o e = absurd (cc)
 unless_at s false o e = e
 
-one_back : (s : ℕ) (e : Event) → NotSent e → Back s (e ∷ [])
+pub one_back : (s : ℕ) (e : Event) → NotSent e → Back s (e ∷ [])
 one_back s (history.Sent slot) none past e = absurd none
 one_back s (history.Issued slot t) none past e = unless_at s (is_at slot (waiting_in past)) (waiting_in past) e
 one_back s history.Answered none past e = absurd (cc)
@@ -113,7 +113,7 @@ if_not : (b : Bool) (o : Option Event) → IfSome o NotSent → IfSome (if b the
 if_not true o none = tt
 if_not false o none = none
 
-fis_not : (port : Port) (room : Room) (frame : List ℕ) → IfSome (event_by port room frame) NotSent
+pub fis_not : (port : Port) (room : Room) (frame : List ℕ) → IfSome (event_by port room frame) NotSent
 fis_not port room frame =
     let h : Heard = decided (port_of frame) (view_of (port_of frame) port) room (admitted (port_of frame) (seen frame)) in
     if_not (ignores (port_of frame) port frame) (event_heard h (drop 4 frame)) (event_not h.happening h.state.block (drop 4 frame))
@@ -131,7 +131,7 @@ issued_back s commands tables (suc k) =
     both_back s (told_issue k (tables k) (commands k)) (told_issued commands tables k) (issue_back s k (tables k) (commands k)) (issued_back s commands tables k)
 
 -- no command goes to the device
-abbrev IsUnsentTurn : (n : ℕ) → Port → Turn → Type 0
+abbrev pub IsUnsentTurn : (n : ℕ) → Port → Turn → Type 0
 IsUnsentTurn n port (Orders dev slot command) = ((dev == n) && not (holds is_control_issue (issue_at port.slots slot))) ≡ false
 IsUnsentTurn n port turn = Unit {0}
 
@@ -237,7 +237,7 @@ all_plain n (e ∷ later) old new run plain =
     (plain_unsent n old e (All-head IsPlain e later plain), all_plain n later run.0 new run.2 (All-tail IsPlain e later plain))
 
 -- the command of a slot
-orders_unsent : (n slot : ℕ) (port : Port) (o : Option Issue) (l : Option Command) → issue_at port.slots slot ≡ o → holds (is_command_issue n) o ≡ false
+pub orders_unsent : (n slot : ℕ) (port : Port) (o : Option Issue) (l : Option Command) → issue_at port.slots slot ≡ o → holds (is_command_issue n) o ≡ false
     → IsUnsentTurn n port (match_some o Rests (λ issue. match_some l Rests (Orders issue.dev slot)))
 orders_unsent n slot port None l is none = tt
 orders_unsent n slot port (Some issue) None is none = tt
@@ -262,7 +262,7 @@ turned_unsent : (n : ℕ) (o : Option Next) (next : Next) (old : ControllerState
 turned_unsent n None next old new run none = turn_unsent n (is_halted (written old)) old.core.registers.started next old new run none
 turned_unsent n (Some write) next old new run none = next_unsent n next old new run none
 
-feeds_unsent : (n : ℕ) (port : Port) (dev : ℕ) (o : Option (ℕ × ℕ × ℕ)) → IsUnsentTurn n port (match_some o Rests (feeds dev))
+pub feeds_unsent : (n : ℕ) (port : Port) (dev : ℕ) (o : Option (ℕ × ℕ × ℕ)) → IsUnsentTurn n port (match_some o Rests (feeds dev))
 feeds_unsent n port dev None = tt
 feeds_unsent n port dev (Some x) = tt
 

@@ -49,7 +49,7 @@ use Rattle.machine_theorem.proofs.Sent.{seen_data}
 
 -- ---- FISes that are heard
 
-heard_longer : (fises : List (List ℕ)) (calls more : List Call) → AreHeard fises calls → AreHeard fises (calls ++ more)
+pub heard_longer : (fises : List (List ℕ)) (calls more : List Call) → AreHeard fises calls → AreHeard fises (calls ++ more)
 heard_longer [] calls more h = tt
 heard_longer (f ∷ rest) calls more h = record {
   before = h.before;
@@ -58,7 +58,7 @@ heard_longer (f ∷ rest) calls more h = record {
   after = heard_longer rest h.later more h.after;
 }
 
-heard_last : (fises : List (List ℕ)) (calls : List Call) (fis : List ℕ) → AreHeard fises calls → AreHeard (fises ++ fis ∷ []) (calls ++ call.Hears fis ∷ [])
+pub heard_last : (fises : List (List ℕ)) (calls : List Call) (fis : List ℕ) → AreHeard fises calls → AreHeard (fises ++ fis ∷ []) (calls ++ call.Hears fis ∷ [])
 heard_last [] calls fis h = record { before = calls; later = []; is = refl; after = tt }
 heard_last (f ∷ rest) calls fis h = record {
   before = h.before;
@@ -67,7 +67,7 @@ heard_last (f ∷ rest) calls fis h = record {
   after = heard_last rest h.later fis h.after;
 }
 
-payload_last : (fises : List (List ℕ)) (fis : List ℕ) → payloads (fises ++ fis ∷ []) ≡ payloads fises ++ drop 4 fis
+pub payload_last : (fises : List (List ℕ)) (fis : List ℕ) → payloads (fises ++ fis ∷ []) ≡ payloads fises ++ drop 4 fis
 payload_last [] fis = append-nil (drop 4 fis)
 payload_last (f ∷ rest) fis = ap (λ (x : List ℕ). drop 4 f ++ x) (payload_last rest fis) ∙ sym (append_assoc (drop 4 f) (payloads rest) (drop 4 fis))
 
@@ -136,14 +136,14 @@ came_more p limit calls fis type c came h = record {
 
 -- ---- the books, by what is seen
 
-abbrev Holding : Type 1
+abbrev pub Holding : Type 1
 Holding = Command → List ℕ → Type 0
 
-abbrev OfPage : Holding → Option Page → Type 0
+abbrev pub OfPage : Holding → Option Page → Type 0
 OfPage holds None = Unit {0}
 OfPage holds (Some p) = holds p.command p.ledger.came
 
-abbrev OfPages : Holding → List (Option Page) → Type 0
+abbrev pub OfPages : Holding → List (Option Page) → Type 0
 OfPages holds pages = (place : ℕ) → OfPage holds (get_or pages place None)
 
 no_pages : (holds : Holding) → OfPages holds (replicate 33 None)
@@ -170,7 +170,7 @@ flushed_came l true = refl
 flushed_came l false = refl
 
 -- Data that come are behind those that came
-abbrev OfHappening : (was now : Holding) → Happening → Type 0
+abbrev pub OfHappening : (was now : Holding) → Happening → Type 0
 OfHappening was now (CameData part) = (c : Command) (came : List ℕ) → was c came → now c (came ++ part)
 OfHappening was now other = Unit {0}
 
@@ -193,7 +193,7 @@ module _ (was now : Holding) (fresh : (c : Command) → now c []) (stays : (c : 
   more_came c l part true is more = more l.came is
   more_came c l part false is more = stays c l.came is
 
-  ledger_holds : (c : Command) (l : Ledger) (h : Happening) → was c l.came → OfHappening was now h → now c (entered c l h).came
+  pub ledger_holds : (c : Command) (l : Ledger) (h : Happening) → was c l.came → OfHappening was now h → now c (entered c l h).came
   ledger_holds c l (CameData part) is more = more_came c l part l.active is (more c)
   ledger_holds c l (Loaded bytes) is of = same_came c l (given_to l l.wanting bytes) (given_came l l.wanting bytes) is
   ledger_holds c l Stored is of = same_came c l (stored_in l l.storing) (stored_came l l.storing) is
@@ -232,7 +232,7 @@ module _ (was now : Holding) (fresh : (c : Command) → now c []) (stays : (c : 
 
 -- ---- what brings no Data
 
-abbrev NoHappening : Happening → Type 0
+abbrev pub NoHappening : Happening → Type 0
 NoHappening (CameData part) = ⊥
 NoHappening other = Unit {0}
 
@@ -246,19 +246,19 @@ NoSeen (Asked place number s) = NoShown s
 NoSeen (Answered place number h) = NoHappening h
 NoSeen (Drawn number) = Unit {0}
 
-abbrev NoDeed : Deed → Type 0
+abbrev pub NoDeed : Deed → Type 0
 NoDeed (deed.Hears place part) = ⊥
 NoDeed other = Unit {0}
 
-abbrev NoMove : Move → Type 0
+abbrev pub NoMove : Move → Type 0
 NoMove (move.Hears place part) = ⊥
 NoMove other = Unit {0}
 
-abbrev NoStep : Step → Type 0
+abbrev pub NoStep : Step → Type 0
 NoStep (engine.Hears place part) = ⊥
 NoStep other = Unit {0}
 
-none_happens : (holds : Holding) (h : Happening) → NoHappening h → OfHappening holds holds h
+pub none_happens : (holds : Holding) (h : Happening) → NoHappening h → OfHappening holds holds h
 none_happens holds (CameData part) none = absurd none
 none_happens holds other none = tt
 
@@ -278,7 +278,7 @@ all_entered holds fresh [] b before none = before
 all_entered holds fresh (s ∷ later) b before none =
     all_entered holds fresh later (entered_by b s) (seen_entered holds holds fresh (λ c came is. is) b s before (none_seen holds s none.0)) none.1
 
-turn_none : (m : Moment) (t : Turn) → NoHappening (shown m t)
+pub turn_none : (m : Moment) (t : Turn) → NoHappening (shown m t)
 turn_none m turn.Nothing = tt
 turn_none m other = tt
 
@@ -286,7 +286,7 @@ goes_none : (place : ℕ) (x : Option Moment) → NoShown (shown_at place x Goes
 goes_none place None = tt
 goes_none place (Some m) = turn_none m (turn_of m.stage)
 
-told_none : (i : Input) → NoHappening (told i)
+pub told_none : (i : Input) → NoHappening (told i)
 told_none (Loads bytes) = tt
 told_none other = tt
 
@@ -328,7 +328,7 @@ move_deeds s move.Forgives none = tt
 move_deeds s (move.Hears place part) none = absurd none
 move_deeds s other none = (tt, tt)
 
-moves_deeds : (ms : List Move) (s : Schedule) → Each NoMove ms → Each NoDeed (all_deeds s ms)
+pub moves_deeds : (ms : List Move) (s : Schedule) → Each NoMove ms → Each NoDeed (all_deeds s ms)
 unfolding all_deeds
 moves_deeds [] s are = tt
 moves_deeds (m ∷ later) s are = both NoDeed (deeds_of s m) (all_deeds (after_move s m) later) (move_deeds s m are.0) (moves_deeds later (after_move s m) are.1)
@@ -346,7 +346,7 @@ step_moves e engine.SendsAside none = tt
 step_moves e (engine.Hears p part) none = absurd none
 step_moves e other none = (tt, tt)
 
-steps_moves : (ss : List Step) (e : EngineState) → Each NoStep ss → Each NoMove (all_moves e ss)
+pub steps_moves : (ss : List Step) (e : EngineState) → Each NoStep ss → Each NoMove (all_moves e ss)
 unfolding all_moves
 steps_moves [] e are = tt
 steps_moves (s ∷ later) e are = both NoMove (moves_of e s) (all_moves (after_step e s) later) (step_moves e s are.0) (steps_moves later (after_step e s) are.1)
@@ -361,7 +361,7 @@ quiet d steps none =
     deeds_seen (all_deeds d.engine.schedule (all_moves d.engine steps)) (commands d)
     (moves_deeds (all_moves d.engine steps) d.engine.schedule (steps_moves steps d.engine none))
 
-data_shown : (d : DiskState) (place : ℕ) (part : List ℕ)
+pub data_shown : (d : DiskState) (place : ℕ) (part : List ℕ)
     → shown_by d (engine.Hears place part ∷ []) ≡ OnLink (shown_at place (table.at (commands d).queue.table place) (Comes part)) ∷ []
 unfolding seen_of all_deeds all_moves
 data_shown d place part = refl
@@ -371,9 +371,9 @@ unfolding all_steps
 one_call d k = append-nil (steps_of d k)
 
 -- A call brings no Data, or it is the FIS whose payload it brings.
-data CallSteps (k : Call) (steps : List Step) : Type 0 where
+pub data CallSteps (k : Call) (steps : List Step) : Type 0 where
   Quiet : Each NoStep steps → CallSteps k steps
-  Brings : (fis : List ℕ) (place : ℕ) → k ≡ call.Hears fis → IsDataType fis → steps ≡ engine.Hears place (drop 4 fis) ∷ [] → CallSteps k steps
+  Brings : (fis g : List ℕ) (place : ℕ) → k ≡ call.Hears fis → IsDataType fis → view_seen fis ≡ Ok (view.Payload g) → steps ≡ engine.Hears place (drop 4 fis) ∷ [] → CallSteps k steps
 
 act_none : (e : EngineState) (a : Act) → Each NoStep (act_steps e a)
 act_none e act.Nothing = tt
@@ -387,7 +387,7 @@ data_kind : (d : DiskState) (f g : List ℕ) → view_seen f ≡ Ok (view.Payloa
 data_kind d f g is None =
     let type : IsDataType f = payload_type f g is in
     let same : g ≡ f = ap frame_of (seen_data f (view.Payload g) type is) in
-    Brings f (data_place (commands d)) refl type (ap (λ (l : List ℕ). engine.Hears (data_place (commands d)) (drop 4 l) ∷ []) same)
+    Brings f g (data_place (commands d)) refl type is (ap (λ (l : List ℕ). engine.Hears (data_place (commands d)) (drop 4 l) ∷ []) same)
 data_kind d f g is (Some blocks) = Quiet (range_none (ranges_of blocks (facts_of d.profile).sectors (drop 4 g)))
 
 fis_kind : (d : DiskState) (f : List ℕ) (r : Result Fis FisFault) → view_seen f ≡ r → CallSteps (call.Hears f) (fis_steps d r)
@@ -410,7 +410,7 @@ out_none (out.Of p r) = (tt, (tt, tt))
 out_none (out.Data p n) = (tt, (tt, tt))
 out_none other = tt
 
-call_kind : (d : DiskState) (k : Call) → CallSteps k (steps_of d k)
+pub call_kind : (d : DiskState) (k : Call) → CallSteps k (steps_of d k)
 call_kind d (call.Hears f) = fis_kind d f (view_seen f) refl
 call_kind d (call.Starts x) = Quiet (start_none x)
 call_kind d (call.Asks r) = Quiet (ask_none r.place)
@@ -420,6 +420,49 @@ call_kind d other = Quiet (tt, tt)
 one_seen : (b : Books) (s : Seen) → books_after b (s ∷ []) ≡ entered_by b s
 unfolding books_after
 one_seen b s = refl
+
+-- ---- one call
+
+-- a FIS has Data, and the call hears it
+pub record HearsData (k : Call) (fis : List ℕ) : Type 0 where
+  pub is : k ≡ call.Hears fis
+  pub type : IsDataType fis
+  pub frame : List ℕ
+  pub viewed : view_seen fis ≡ Ok (view.Payload frame)
+
+abbrev pub books_of : Profile → (limit : ℕ) → List Call → Books
+books_of p limit calls = books_after no_books (seen_in p limit calls)
+
+-- what holds of the pages before a call, and then behind it
+module _ (was now : Holding) (fresh : (c : Command) → now c []) (longer : (c : Command) (came : List ℕ) → was c came → now c came) where
+  comes : (k : Call) (fis : List ℕ) → ((c : Command) (came : List ℕ) → was c came → now c (came ++ drop 4 fis)) → (place : ℕ) (x : Option Moment)
+      → OfShown was now (shown_at place x (Comes (drop 4 fis)))
+  comes k fis more place None = tt
+  comes k fis more place (Some m) = more
+
+  step : (d : DiskState) (b : Books) (k : Call) (steps : List Step) → CallSteps k steps
+      → ((fis : List ℕ) → HearsData k fis → (c : Command) (came : List ℕ) → was c came → now c (came ++ drop 4 fis)) → OfPages was b.pages
+      → OfPages now (books_after b (shown_by d steps)).pages
+  step d b k steps (Quiet none) more before = all_entered now fresh (shown_by d steps) b (pages_stay was now fresh longer b.pages before) (quiet d steps none)
+  step d b k steps (Brings fis g place is type viewed are) more before =
+      let s : Seen = OnLink (shown_at place (table.at (commands d).queue.table place) (Comes (drop 4 fis))) in
+      subst (λ (ss : List Step). OfPages now (books_after b (shown_by d ss)).pages) (sym are)
+      (subst (λ (xs : List Seen). OfPages now (books_after b xs).pages) (sym (data_shown d place (drop 4 fis)))
+      (subst (λ (x : Books). OfPages now x.pages) (sym (one_seen b s))
+      (seen_entered was now fresh longer b s before
+      (comes k fis (more fis (record { is = is; type = type; frame = g; viewed = viewed })) place (table.at (commands d).queue.table place)))))
+
+  pub next_pages : (p : Profile) (limit : ℕ) (calls : List Call) (k : Call)
+      → ((fis : List ℕ) → HearsData k fis → (c : Command) (came : List ℕ) → was c came → now c (came ++ drop 4 fis)) → OfPages was (books_of p limit calls).pages
+      → OfPages now (books_of p limit (calls ++ k ∷ [])).pages
+  next_pages p limit calls k more before =
+      let d : DiskState = reached p limit calls in
+      let next : OfPages now (books_after (books_of p limit calls) (shown_from d (k ∷ []))).pages =
+      subst (λ (ss : List Step). OfPages now (books_after (books_of p limit calls) (shown_by d ss)).pages) (sym (one_call d k))
+      (step d (books_of p limit calls) k (steps_of d k) (call_kind d k) more before) in
+      let same : books_of p limit (calls ++ k ∷ []) ≡ books_after (books_of p limit calls) (shown_from d (k ∷ [])) =
+      ap (λ (xs : List Seen). books_after no_books xs) (shown_both (new_disk p limit) calls (k ∷ [])) ∙ books_both (seen_in p limit calls) (shown_from d (k ∷ [])) no_books in
+      subst (λ (x : Books). OfPages now x.pages) (sym same) next
 
 -- ---- every run
 
@@ -442,38 +485,18 @@ module _ (asked : CommandsAreAsked) (p : Profile) (limit : ℕ) where
   settled calls place (Some page) is (inl none) = of_asked calls page.command page.ledger.came (asked p limit calls place page is) none
   settled calls place (Some page) is (inr since) = since
 
-  comes : (calls : List Call) (k : Call) (fis : List ℕ) → k ≡ call.Hears fis → IsDataType fis → (place : ℕ) (x : Option Moment)
-      → OfShown (Since calls) (OrNothing (calls ++ k ∷ [])) (shown_at place x (Comes (drop 4 fis)))
-  comes calls k fis is type place None = tt
-  comes calls k fis is type place (Some m) = λ c came since.
-      inr (subst (λ (x : Call). CameSince p limit (calls ++ x ∷ []) c (came ++ drop 4 fis)) (sym is) (came_more p limit calls fis type c came since))
+  longer_then : (calls : List Call) (k : Call) (c : Command) (came : List ℕ) → CameSince p limit calls c came → OrNothing (calls ++ k ∷ []) c came
+  longer_then calls k c came since = inr (came_longer p limit calls k c came since)
 
-  longer : (calls : List Call) (k : Call) (c : Command) (came : List ℕ) → CameSince p limit calls c came → OrNothing (calls ++ k ∷ []) c came
-  longer calls k c came since = inr (came_longer p limit calls k c came since)
-
-  step : (calls : List Call) (d : DiskState) (b : Books) (k : Call) (steps : List Step) → CallSteps k steps → OfPages (Since calls) b.pages
-      → OfPages (OrNothing (calls ++ k ∷ [])) (books_after b (shown_by d steps)).pages
-  step calls d b k steps (Quiet none) before =
-      all_entered (OrNothing (calls ++ k ∷ [])) (λ c. inl refl) (shown_by d steps) b
-      (pages_stay (Since calls) (OrNothing (calls ++ k ∷ [])) (λ c. inl refl) (longer calls k) b.pages before) (quiet d steps none)
-  step calls d b k steps (Brings fis place is type are) before =
-      let s : Seen = OnLink (shown_at place (table.at (commands d).queue.table place) (Comes (drop 4 fis))) in
-      subst (λ (ss : List Step). OfPages (OrNothing (calls ++ k ∷ [])) (books_after b (shown_by d ss)).pages) (sym are)
-      (subst (λ (xs : List Seen). OfPages (OrNothing (calls ++ k ∷ [])) (books_after b xs).pages) (sym (data_shown d place (drop 4 fis)))
-      (subst (λ (x : Books). OfPages (OrNothing (calls ++ k ∷ [])) x.pages) (sym (one_seen b s))
-      (seen_entered (Since calls) (OrNothing (calls ++ k ∷ [])) (λ c. inl refl) (longer calls k) b s before
-      (comes calls k fis is type place (table.at (commands d).queue.table place)))))
+  more_then : (calls : List Call) (k : Call) (fis : List ℕ) → HearsData k fis → (c : Command) (came : List ℕ) → CameSince p limit calls c came
+      → OrNothing (calls ++ k ∷ []) c (came ++ drop 4 fis)
+  more_then calls k fis it c came since =
+      inr (subst (λ (x : Call). CameSince p limit (calls ++ x ∷ []) c (came ++ drop 4 fis)) (sym it.is) (came_more p limit calls fis it.type c came since))
 
   one : (calls : List Call) (k : Call) → OfPages (Since calls) (books calls).pages → OfPages (Since (calls ++ k ∷ [])) (books (calls ++ k ∷ [])).pages
   one calls k before place =
-      let d : DiskState = reached p limit calls in
-      let next : OfPages (OrNothing (calls ++ k ∷ [])) (books_after (books calls) (shown_from d (k ∷ []))).pages =
-      subst (λ (ss : List Step). OfPages (OrNothing (calls ++ k ∷ [])) (books_after (books calls) (shown_by d ss)).pages) (sym (one_call d k))
-      (step calls d (books calls) k (steps_of d k) (call_kind d k) before) in
-      let same : books (calls ++ k ∷ []) ≡ books_after (books calls) (shown_from d (k ∷ [])) =
-      ap (λ (xs : List Seen). books_after no_books xs) (shown_both (new_disk p limit) calls (k ∷ [])) ∙ books_both (seen_in p limit calls) (shown_from d (k ∷ [])) no_books in
       settled (calls ++ k ∷ []) place (page_in p limit (calls ++ k ∷ []) place) refl
-      (subst (λ (x : Books). OfPages (OrNothing (calls ++ k ∷ [])) x.pages) (sym same) next place)
+      (next_pages (Since calls) (OrNothing (calls ++ k ∷ [])) (λ c. inl refl) (longer_then calls k) p limit calls k (more_then calls k) before place)
 
   from : (later calls : List Call) → OfPages (Since calls) (books calls).pages → OfPages (Since (calls ++ later)) (books (calls ++ later)).pages
   from [] calls before = subst (λ (l : List Call). OfPages (Since l) (books l).pages) (sym (append-nil calls)) before

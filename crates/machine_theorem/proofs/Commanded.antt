@@ -28,7 +28,8 @@ use Rattle.machine_theorem.specs.Identity.{heard_as, is_for, picks}
 use Rattle.machine_theorem.specs.InTurn.{commands, heard_in, is_asking}
 use Rattle.machine_theorem.specs.Singles.{AllOfDevice}
 use Rattle.machine_theorem.specs.Tags.{asks_with, once_if}
-use Rattle.machine_theorem.specs.Waits.{AllKeepWaiting, commanded_in, is_commanded, taken_in}
+use Rattle.machine_theorem.specs.Following.{AllHeardWell}
+use Rattle.machine_theorem.specs.Waits.{AllKeepWaiting, AllPlain, commanded_in, is_commanded, taken_in}
 use Rattle.machine_theorem.proofs.Asking.{AllDataAskNone, DataAskNone}
 use Rattle.machine_theorem.proofs.Fallen.{if_one, map_both}
 use Rattle.machine_theorem.proofs.OneConn.{no_length}
@@ -143,7 +144,7 @@ module _ (many : Bool) (n : ℕ) where
       let long = ap (λ (l : List (List ℕ)). length l) (frame_asks f) ∙ short (passes f) (heard_as f) in
       both_true (is_for many n f) (is_asking (heard_as f)) (omega (arith, long, some))
 
-  asking_is : (e : Event) → IsNoCommand e → 1 ≤ length (asked (e ∷ [])) → IsAsking e
+  pub asking_is : (e : Event) → IsNoCommand e → 1 ≤ length (asked (e ∷ [])) → IsAsking e
   asking_is (call.Turned (next.Order to slot fis)) none some =
       let it = frame_some (stamped to fis) some in
       record { to = to; slot = slot; fis = fis; is = refl; own = it.0; asks = it.1 }
@@ -152,7 +153,7 @@ module _ (many : Bool) (n : ℕ) where
   asking_is (call.Turned other) none some = no_frame _ refl some
   asking_is other none some = no_frame _ refl some
 
-  asked_one : (e : Event) (it : IsAsking e) → asked (e ∷ []) ≡ marked it.fis 0 ∷ []
+  pub asked_one : (e : Event) (it : IsAsking e) → asked (e ∷ []) ≡ marked it.fis 0 ∷ []
   asked_one e it =
       let f : Stamped = stamped it.to it.fis in
       ap (λ (x : Event). asked (x ∷ [])) it.is ∙ frame_asks f ∙ ap (λ (b : Bool). if b && is_asking (heard_as f) then heard_as f ∷ [] else []) it.own ∙ ap (λ (b : Bool). if b then heard_as f ∷ [] else []) it.asks
@@ -228,6 +229,8 @@ module _ (many : Bool) (n : ℕ) where
       pub of_rest : AllOfDevice many n dev at (call.Turned (next.Order to slot fis) ∷ later) now rest
       pub keeps : AllKeepWaiting dev old before at led
       pub keeps_rest : AllKeepWaiting dev at (call.Turned (next.Order to slot fis) ∷ later) now rest
+      pub well : AllHeardWell dev old events now run → AllHeardWell dev old before at led × AllHeardWell dev at (call.Turned (next.Order to slot fis) ∷ later) now rest
+      pub plain : AllPlain dev old events now run → AllPlain dev old before at led × AllPlain dev at (call.Turned (next.Order to slot fis) ∷ later) now rest
 
     here_at : (to slot : ℕ) (fis : List ℕ) (later : List Event) (old now : ControllerState) (run : Runs old (call.Turned (next.Order to slot fis) ∷ later) now)
         → AllOfDevice many n dev old (call.Turned (next.Order to slot fis) ∷ later) now run → AllKeepWaiting dev old (call.Turned (next.Order to slot fis) ∷ later) now run
@@ -255,6 +258,8 @@ module _ (many : Bool) (n : ℕ) where
           of_rest = of;
           keeps = tt;
           keeps_rest = keeps;
+          well = λ w. (tt, w);
+          plain = λ w. (tt, w);
         }
 
     -- it is the first call
@@ -292,6 +297,8 @@ module _ (many : Bool) (n : ℕ) where
           of_rest = l.of_rest;
           keeps = (keeps.0, l.keeps);
           keeps_rest = l.keeps_rest;
+          well = λ w. let r = l.well w.1 in ((w.0, r.0), r.1);
+          plain = λ w. let r = l.plain w.2 in ((w.0, w.1, r.0), r.1);
         }
 
     pub last_asked : (events : List Event) (old now : ControllerState) (run : Runs old events now) → AreNoCommands events → AllOfDevice many n dev old events now run

@@ -8,6 +8,7 @@ use Rattle.std.proofs.lemmas.Grind.{flat_map-append}
 use Rattle.std.proofs.lemmas.List.Elements.{All-contains, Contains-push}
 use Rattle.fis_view.specs.Frames.{Stamped}
 use Rattle.slots.specs.Slots.{Issue, holds, issue_at}
+use Rattle.slots.specs.declared.work.Kind.TheVariants.{QueuedRead}
 use Rattle.hba_fbs.specs.Taking.{port_of}
 use Rattle.hba_fbs.specs.declared.report.Wrote.{Wrote}
 use Rattle.ahci_controller.specs.declared.next.Next.TheVariants as next
@@ -37,6 +38,7 @@ use Rattle.machine_theorem.specs.Orders.{fallen_in, is_sent_of}
 use Rattle.machine_theorem.specs.OwnSlots.{AllKeepLine, BeginsClear, NoneLost, is_of}
 use Rattle.machine_theorem.specs.QueuedOnly.{ByteIsOfDisk, NoneSingle, QueuedReadsAreBrought, SendsQueued}
 use Rattle.machine_theorem.specs.Reads.{IsReadOf}
+use Rattle.machine_theorem.specs.SingleReads.{IsWrittenThen}
 use Rattle.machine_theorem.specs.Tags.{ended_with}
 use Rattle.machine_theorem.proofs.AsSupplied as supplied
 use Rattle.machine_theorem.proofs.AsSupplied.{Went, supplied_at}
@@ -61,7 +63,7 @@ use Rattle.machine_theorem.proofs.StillStands.{none_both}
 use Rattle.machine_theorem.proofs.Stretch.{Stretch, asked, calls, counts, due_at, falls, front, has_disk, orders, stands, whole_run}
 use Rattle.machine_theorem.proofs.TakenWell.{WellRun, well_run}
 use Rattle.machine_theorem.proofs.WrittenBytes as written
-use Rattle.machine_theorem.proofs.WrittenBytes.{is_written, table_is}
+use Rattle.machine_theorem.proofs.WrittenBytes.{is_written, table_is, written_then}
 
 pub record Laws : Type 0 where
   pub moments : moments.Laws
@@ -81,7 +83,7 @@ module _ (laws : Laws) (ports : ℕ) (legacy : Bool) (d : DiskStretch) (opening 
     (keeps : AllKeep d.many d.n d.tag d.at d.deeds d.now d.run) (line : AllKeepLine d.many d.n c dev d.at d.deeds d.now d.run)
     (taken : AllTakenWell dev d.at d.deeds d.now d.run)
     (lost : NoneLost dev (calls_in d.at d.deeds d.now d.run)) (are : AreCalls (new_disk d.p d.limit) d.base) (same : rest.disk ≡ reached d.p d.limit d.base)
-    (issue : Issue) (done : IsReadDone d.now d.tag issue) (k : ℕ) (b : Brought dev d.tag k d.at d.deeds d.now d.run) where
+    (issue : Issue) (done : IsReadDone d.now d.tag issue) (k : ℕ) (b : Brought QueuedRead dev d.tag k d.at d.deeds d.now d.run) where
   abbrev s : Stretch
   s = record {
     ports = ports;
@@ -141,7 +143,7 @@ module _ (laws : Laws) (ports : ℕ) (legacy : Bool) (d : DiskStretch) (opening 
       found_at laws.places ports legacy d.old opening d.before d.at d.first d.many d.n c dev below dev_low begins b.cut.sooner b.cut.mid b.cut.led
       (b.cut.line d.many d.n c dev line).0
       well.runs well.well lost_sooner b.took b.cut.next b.cut.does mine b.brings.own b.brings.calm wrote b.brings.brought b.brings.issue
-      (ap (issue_at b.cut.mid.controller.core.slots) b.brings.slot_is ∙ b.brings.is) b.brings.kind
+      (ap (issue_at b.cut.mid.controller.core.slots) b.brings.slot_is ∙ b.brings.is) b.brings.kind_is
 
   -- ---- it is sent
 
@@ -323,6 +325,11 @@ module _ (laws : Laws) (ports : ℕ) (legacy : Bool) (d : DiskStretch) (opening 
       (disk_same begins.disk rest.disk (sym begins.there ∙ rest.there) ∙ same) b.cut.sooner b.cut.mid b.cut.led f wrote mine
       found.prior found.found j o does sent
 
+  abbrev wrote_then : IsWrittenThen d.tag k b.cut.mid f.bytes wrote b.cut.next b.cut.later
+  wrote_then =
+      written_then laws.written ports legacy d.old opening d.before d.at d.first d.deeds d.now d.run QueuedRead dev d.tag k low
+      issue done.is done.does.does.free b
+
   move_of_disk : SendsQueued d → (a : Act) (does : Does cut.mid (Moved a) cut.next) → b.cut.sooner ≡ cut.sooner ++ Moved a ∷ cut.later
       → sent_by cut.mid (Moved a) cut.next does ≡ f ∷ []
       → HasOrigin cut.mid (Moved a) f → ByteIsOfDisk d dev k
@@ -331,7 +338,7 @@ module _ (laws : Laws) (ports : ℕ) (legacy : Bool) (d : DiskStretch) (opening 
       record {
         brought = byte_is dev d.tag k d.at d.deeds d.now d.run b;
         written =
-            is_written laws.written ports legacy d.old opening d.before d.at d.first d.deeds d.now d.run dev d.tag k low issue done.is done.does.does.free b;
+            is_written dev d.tag k d.at d.deeds d.now d.run b wrote_then;
         sooner = cut.sooner;
         mid = cut.mid;
         led = cut.led;
@@ -348,11 +355,11 @@ module _ (laws : Laws) (ports : ℕ) (legacy : Bool) (d : DiskStretch) (opening 
         given =
             let it = its_byte j place len does sent (place_low place (nat_lt place 32) refl (shut queued) due) in
             sym it.byte
-            ∙ (is_written laws.written ports legacy d.old opening d.before d.at d.first d.deeds d.now d.run dev d.tag k low
-            issue done.is done.does.does.free b).byte_is;
+            ∙ wrote_then.byte_is;
         table =
             let it = its_byte j place len does sent (place_low place (nat_lt place 32) refl (shut queued) due) in
-            table_is laws.written ports legacy d.old opening d.before d.at d.first d.deeds d.now d.run dev d.tag k low issue done.is done.does.does.free b
+            table_is laws.written ports legacy d.old opening d.before d.at d.first d.deeds d.now d.run QueuedRead dev d.tag k low
+            issue done.is done.does.does.free b
             it.whole.all it.supplied.runs it.supplied.source it.supplied.is;
       }
   move_of_disk queued (act.Speaks j (out.Page page)) does is sent has =
@@ -387,12 +394,12 @@ module _ (laws : Laws) (ports : ℕ) (legacy : Bool) (d : DiskStretch) (opening 
 byte_at : Laws → (ports : ℕ) (legacy : Bool) (d : DiskStretch) → IsOpeningMachine ports legacy d.old → (dev : ℕ) → d.tag < 32
     → (rest : IsAtRest d.many d.n d.tag d.old d.before d.at d.first) → (issue : Issue) → IsReadDone d.now d.tag issue → issue.dev ≡ dev
     → own_of d.many d.n dev ≡ true
-    → (k : ℕ) → k < issue.work.len → Brought dev d.tag k d.at d.deeds d.now d.run
+    → (k : ℕ) → k < issue.work.len → Brought QueuedRead dev d.tag k d.at d.deeds d.now d.run
 byte_at laws ports legacy d opening dev low rest issue done is_dev mine k small =
     let none : holds (is_sent_of (λ x. x == issue.dev)) (issue_at d.at.controller.core.slots d.tag) ≡ false =
     subst (λ (x : ℕ). holds (is_sent_of (λ y. y == x)) (issue_at d.at.controller.core.slots d.tag) ≡ false) (sym is_dev)
     (none_of (own_of d.many d.n) dev (issue_at d.at.controller.core.slots d.tag) mine rest.slot) in
-    subst (λ (x : ℕ). Brought x d.tag k d.at d.deeds d.now d.run) is_dev
+    subst (λ (x : ℕ). Brought QueuedRead x d.tag k d.at d.deeds d.now d.run) is_dev
     (brought_since laws.moments ports legacy d.old opening d.before d.at d.first d.deeds d.now d.run d.tag low issue done none k small)
 
 pub completed_reads : Laws → CompletedReadsAreBrought

@@ -14,6 +14,8 @@ use Rattle.machine_theorem.specs.Brought.{AllTakenWell, TakesWell}
 use Rattle.machine_theorem.specs.Identity.{AllKeep, Keeps, calls_of}
 use Rattle.machine_theorem.specs.Orders.{are_ordered, fallen_in, is_fallen, ordered_in}
 use Rattle.machine_theorem.specs.OwnSlots.{AllKeepLine, KeepsLine}
+use Rattle.machine_theorem.specs.QueuedWrites.{AllQueued, HasQueued}
+use Rattle.machine_theorem.specs.SingleBytes.{AllKeepPlain, KeepsPlain}
 use Rattle.machine_theorem.specs.Tags.{once_if}
 use Rattle.machine_theorem.proofs.EndsFew.{sent_of}
 
@@ -40,6 +42,9 @@ pub record Cut (deed : Deed) (at : MachineState) (deeds : List Deed) (now : Mach
   pub line : (many : Bool) (n c dev : ℕ) → AllKeepLine many n c dev at deeds now run
       → AllKeepLine many n c dev at sooner mid led × KeepsLine many n c dev mid deed next does × AllKeepLine many n c dev next later now rest
   pub taken : (dev : ℕ) → AllTakenWell dev at deeds now run → AllTakenWell dev at sooner mid led × TakesWell dev mid deed next does × AllTakenWell dev next later now rest
+  pub queued : (dev : ℕ) → AllQueued dev at deeds now run → AllQueued dev at sooner mid led × HasQueued dev mid.controller
+  pub plain : (many : Bool) (n dev : ℕ) → AllKeepPlain many n dev at deeds now run
+      → AllKeepPlain many n dev at sooner mid led × KeepsPlain many n dev mid deed next does × AllKeepPlain many n dev next later now rest
 
 -- at its first deed
 unfoldable pub cut_here : (deed : Deed) (later : List Deed) (at now : MachineState) (run : RunsRuled at (deed ∷ later) now) → Cut deed at (deed ∷ later) now run
@@ -62,6 +67,8 @@ cut_here deed later at now run = record {
   links = λ l. (tt, l.1);
   line = λ many n c dev k. (k.0.end, k.0, k.1);
   taken = λ dev w. (tt, w.0, w.1);
+  queued = λ dev q. (q.0, q.0);
+  plain = λ many n dev k. (tt, k.0, k.1);
 }
 
 -- or at a later one
@@ -91,6 +98,8 @@ cut_more it deed later at now run c =
       links = λ l. let r = c.links l.1 in ((l.0, r.0), r.1);
       line = λ many n c' dev k. let r = c.line many n c' dev k.1 in ((k.0, r.0), r.1, r.2);
       taken = λ dev w. let r = c.taken dev w.1 in ((w.0, r.0), r.1, r.2);
+      queued = λ dev q. let r = c.queued dev q.1 in ((q.0, r.0), r.1);
+      plain = λ many n dev k. let r = c.plain many n dev k.1 in ((k.0, r.0), r.1, r.2);
     }
 
 -- ---- the last deed that counts

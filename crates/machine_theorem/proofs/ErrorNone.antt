@@ -111,7 +111,7 @@ pub record IsErrorFis (f : List ℕ) : Type 0 where
   pub kind : kind_of f ≡ D2h
   pub error : is_error (field D2h Status f) ≡ true
 
-failed_fis : (f : FanOut) (n : ℕ) (frame : Stamped) (r : Reply) → fails_by r ≡ true → Shows r frame.bytes → IsErrorFis (risen f n frame).bytes
+pub failed_fis : (f : FanOut) (n : ℕ) (frame : Stamped) (r : Reply) → fails_by r ≡ true → Shows r frame.bytes → IsErrorFis (risen f n frame).bytes
 failed_fis f n frame (replies.Failed x) is shows = record {
   kind = ap kind_of_type (type_is f n frame) ∙ seen_kind frame.bytes (view.RegD2H frame.bytes) shows.viewed;
   error = ap is_error (risen_status f n frame ∙ shows.fields Status ∙ cut_status 0x51);

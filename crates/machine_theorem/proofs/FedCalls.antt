@@ -94,7 +94,7 @@ module _ (laws : Laws) (n : ℕ) (low : n < 16) where
       none_taken QueuedWrite refl laws n low (call.Supplied slot number bytes supply) old new does k l tt t was
   call_fed (call.Missed slot number supply) old new does k l well t was = none_taken QueuedWrite refl laws n low (call.Missed slot number supply) old new does k l tt t was
   call_fed (call.Left frame why) old new does k l well t was = none_taken QueuedWrite refl laws n low (call.Left frame why) old new does k l tt t was
-  call_fed (call.Turned next) old new does k l well t was = none_taken QueuedWrite refl laws n low (call.Turned next) old new does k l tt t was
+  call_fed (call.Turned next) old new does k l well t was = none_taken QueuedWrite refl laws n low (call.Turned next) old new does k l refl t was
   call_fed (call.Said write) old new does k l well t was = none_taken QueuedWrite refl laws n low (call.Said write) old new does k l tt t was
   call_fed (call.Gathered dev number frame (fed_answer.Goes message line)) old new does k l well t was =
       gone_case old new dev number frame message line (dev == n) refl does k l t was

@@ -1,4 +1,4 @@
--- A Data FIS for a queued write has what was read for its slot, from the byte that goes next.
+-- A Data FIS has what was read for its slot, from the byte that goes next.
 use Rattle.std.proofs.Common.{◌≡◌, ℕ, ◌<◌, Bool, true, false, List, [], ◌∷◌, get_or, refl, sym, ap, subst, ◌∙◌, inl, inr, Option, Some, None, Result, Ok, Err}
 use Rattle.std.specs.Prelude.{◌⊎◌, ◌==◌, MatchOption, nat_lt}
 use Rattle.std.specs.Bool.{MatchBool}
@@ -6,7 +6,6 @@ use Rattle.std.specs.declared.alloc.AllocError.{AllocError}
 use Rattle.std.proofs.lemmas.Bool.{eqb-true, false≢true, ltb-true}
 use Rattle.fis_view.specs.Frames.{Stamped}
 use Rattle.slots.specs.Slots.{match_some}
-use Rattle.slots.specs.declared.work.Kind.TheVariants.{QueuedWrite}
 use Rattle.hba_fbs.specs.Choosing.{MayChoose}
 use Rattle.hba_fbs.specs.declared.turn.Turn.{Turn}
 use Rattle.hba_fbs.specs.declared.turn.Turn.TheVariants.{Feeds}
@@ -20,7 +19,6 @@ use Rattle.ahci_controller.specs.declared.next.Next.{Next}
 use Rattle.ahci_controller.specs.declared.next.Next.TheVariants as next
 use Rattle.ahci_controller.specs.declared.taking.Hindrance.{Hindrance}
 use Rattle.controller_laws.specs.Events.{IsController}
-use Rattle.sata_disk_books.specs.Counted.{Counted}
 use Rattle.ahci_machine.specs.Acts as acts
 use Rattle.ahci_machine.specs.Acts.{DoesBy, kept_of}
 use Rattle.ahci_machine.specs.Answers.{IsStale, MissesFor, MissesMachine, SuppliesMachine, is_wanted}
@@ -35,17 +33,15 @@ use Rattle.ahci_machine.specs.declared.request.Wanted.TheVariants.{Command, Data
 use Rattle.machine_laws.specs.ControllerLaws.{OpensLawful, OpensSo, RunsRuled}
 use Rattle.machine_laws.specs.Controllers.{ControllerGoesOn, GathersDue, IsGathered, IsLength, StaysDue, data_calls, deed_calls, is_feed_to, is_kept_for, lost_calls, miss_calls, move_calls, rest_calls, supply_calls}
 use Rattle.machine_laws.specs.Deeds.{Deed, Does, Missed, Moved, Supplied, Wrote}
-use Rattle.machine_laws.specs.Feeding.{DataIsRead, DataIsWhatCame, OpensUnread, came_in}
+use Rattle.machine_laws.specs.Feeding.{DataIsRead, DataIsWhatCame, IsReading, OpensUnread, came_in, data_with}
 use Rattle.machine_laws.proofs.Due.{there_is}
 use Rattle.machine_laws.proofs.Wants.{fed_low}
 use Rattle.machine_theorem.specs.Fed.{FedDataAreOfTheirSlots, WasFed}
 use Rattle.machine_theorem.proofs.FedCalls.{Sends, sends}
-use Rattle.machine_theorem.proofs.FeedHolds.{AreMachineCalls, HasTold, Holds, calls_hold, due_to, said_holds, told_on}
+use Rattle.machine_theorem.proofs.FeedHolds.{AreMachineCalls, HasTold, Holds, OneUp, calls_hold, due_to, said_holds, told_on}
 use Rattle.machine_theorem.proofs.FeedStays.{FedBy, Opens, Quiet, Stays, deed_quiet, does_by, none_at}
 use Rattle.machine_theorem.proofs.Ordered.{fed_some, first_ruled}
 use Rattle.machine_theorem.proofs.SetupCalls as setup
-use Rattle.machine_theorem.proofs.SetupCalls.{up_now}
-use Rattle.machine_theorem.proofs.SetupCores.{Beside}
 
 pub record Laws : Type 0 where
   pub setup : setup.Laws
@@ -66,7 +62,7 @@ loses_are : (p : ℕ) (frame : Option Stamped) (why : Hindrance) → AreMachineC
 loses_are p None why = tt
 loses_are p (Some f) why = (tt, tt)
 
-abbrev IsFree : (p : ℕ) → Deed → Type 0
+abbrev pub IsFree : (p : ℕ) → Deed → Type 0
 IsFree p (Moved (act.Turns said)) = is_feed_to p said ≡ false
 IsFree p deed = Unit {0}
 
@@ -98,7 +94,7 @@ misses_are p (Command slot number) old answer new h = (tt, tt)
 misses_are p (Data dev number done) old (Ok it) new h = data_are p (is_wanted old dev number done) (gathering_at old dev) dev old it new h
 misses_are p (Data dev number done) old (Err e) new h = tt
 
-deed_are : (p : ℕ) (old : MachineState) (deed : Deed) (new : MachineState) (h : Does old deed new) → IsFree p deed → AreMachineCalls p (deed_calls old deed new h)
+pub deed_are : (p : ℕ) (old : MachineState) (deed : Deed) (new : MachineState) (h : Does old deed new) → IsFree p deed → AreMachineCalls p (deed_calls old deed new h)
 deed_are p old (Moved a) new h free = move_are p a old h.middle h.does free
 deed_are p old (Wrote offset width value written) new h free = (tt, tt)
 deed_are p old (Supplied w bytes) new h free = supplies_are p w bytes old h.answer new h.supplies
@@ -117,7 +113,7 @@ Held m = HeldBy m.controller m.kept m.gathering
 no_kept : {A : Type 0} (o : Option Next) (n : Next) → o ≡ None → o ≡ Some n → A
 no_kept o n none some = absurd (let both = sym none ∙ some in cc)
 
-no_read : {A : Type 0} (o : Option GatheringState) (g : GatheringState) → o ≡ None → o ≡ Some g → A
+pub no_read : {A : Type 0} (o : Option GatheringState) (g : GatheringState) → o ≡ None → o ≡ Some g → A
 no_read o g none some = absurd (let both = sym none ∙ some in cc)
 
 quiet_held : (old new : MachineState) → Quiet old new → ((p : ℕ) (f : Feed) → Holds old.controller p f → Holds new.controller p f) → Held old → Held new
@@ -161,7 +157,7 @@ fed_by_holds old dev f said (Stays _ w other) was kept = elim (feed_off dev said
   | inr high ↦ λ fed due. absurd (false≢true (sym high ∙ fed_low dev old.controller.wants f.number fed))
 ]
 
-does_same : (said : Next) (old new : MachineState) → DoesBy said old new → (new.controller ≡ old.controller) × (new.kept ≡ None)
+pub does_same : (said : Next) (old new : MachineState) → DoesBy said old new → (new.controller ≡ old.controller) × (new.kept ≡ None)
 does_same (next.Order d s f) old new h = (ap (λ (m : MachineState). m.controller) h.1, ap (λ (m : MachineState). m.kept) h.1)
 does_same (next.Feed to number slot offset len) old new h = (ap (λ (m : MachineState). m.controller) h, ap (λ (m : MachineState). m.kept) h)
 does_same (next.Payload x) old new h = (ap (λ (m : MachineState). m.controller) h, ap (λ (m : MachineState). m.kept) h)
@@ -188,7 +184,7 @@ kept_said (next.Posted m) n e = ap (λ (o : Option Next). match_some o (next.Pos
 kept_said (next.Counted c) n e = ap (λ (o : Option Next). match_some o (next.Counted c) (λ x. x)) e
 kept_said (next.Read a) n e = ap (λ (o : Option Next). match_some o (next.Read a) (λ x. x)) e
 
-kept_off : (said : Next) (dev : ℕ) → is_kept_for dev (kept_of said) ≡ false → is_feed_to dev said ≡ false
+pub kept_off : (said : Next) (dev : ℕ) → is_kept_for dev (kept_of said) ≡ false → is_feed_to dev said ≡ false
 kept_off next.Nothing dev h = refl
 kept_off (next.Order d s f) dev h = h
 kept_off (next.Feed to number slot offset len) dev h = h
@@ -213,7 +209,7 @@ turns_held laws old new said h k told on was =
 
 -- ---- over a run
 
-kept_rules : (m : MachineState) → HasRules m → IsController m.controller
+pub kept_rules : (m : MachineState) → HasRules m → IsController m.controller
 kept_rules m rules = record { port = rules.port; slots = rules.slots; rules = rules.rules }
 
 module _ (laws : Laws) where
@@ -260,7 +256,7 @@ module _ (laws : Laws) where
     pub told : (p : ℕ) → p < 16 → HasTold p m.controller.core
     pub held : Held m
 
-  run_good : (deeds : List Deed) (old now : MachineState) → RunsRuled old deeds now → Good old → Good now
+  pub run_good : (deeds : List Deed) (old now : MachineState) → RunsRuled old deeds now → Good old → Good now
   run_good [] old now run was = subst Good (sym run.1) was
   run_good (deed ∷ later) old now run was =
       let mid : MachineState = run.1.0 in
@@ -273,22 +269,16 @@ module _ (laws : Laws) where
 
 -- ---- what goes
 
-is_wanted_now : (out : Bool) (c d : ControllerState) (dev : ℕ) (message : Bool) (line : Edge) → GathersIf out c dev (fed_answer.Goes message line) d → out ≡ true
+pub is_wanted_now : (out : Bool) (c d : ControllerState) (dev : ℕ) (message : Bool) (line : Edge) → GathersIf out c dev (fed_answer.Goes message line) d → out ≡ true
 is_wanted_now true c d dev message line h = refl
 is_wanted_now false c d dev message line h = absurd (let no = h.1 in cc)
 
-abbrev counted : ℕ → ℕ → Counted
-counted tag count = record { tag = tag; count = count }
-
-same_counted : (a b c d : ℕ) → Some (counted a b) ≡ Some (counted c d) → (a ≡ c) × (b ≡ d)
-same_counted a b c d e = (ap (λ (o : Option Counted). match_some o a (λ x. x.tag)) e, ap (λ (o : Option Counted). match_some o b (λ x. x.count)) e)
-
-last_rules : (deeds : List Deed) (old now : MachineState) → RunsRuled old deeds now → HasRules now
+pub last_rules : (deeds : List Deed) (old now : MachineState) → RunsRuled old deeds now → HasRules now
 last_rules [] old now run = subst HasRules (sym run.1) run.0
 last_rules (deed ∷ later) old now run = last_rules later run.1.0 now run.1.2
 
 -- nothing is said and nothing is read in a machine that opens
-opens_good : (laws : Laws) (ports : ℕ) (legacy : Bool) (m : MachineState) → IsOpeningMachine ports legacy m → OpensSo m → Good laws m
+pub opens_good : (laws : Laws) (ports : ℕ) (legacy : Bool) (m : MachineState) → IsOpeningMachine ports legacy m → OpensSo m → Good laws m
 opens_good laws ports legacy m opening opened = record {
   due = opened.due;
   told = λ p low. record { past = []; told = opened.told p low };
@@ -298,34 +288,56 @@ opens_good laws ports legacy m opening opened = record {
   };
 }
 
-pub fed_for : Laws → FedDataAreOfTheirSlots
-fed_for laws ports legacy old opening deeds now run dev message line new does slot offset len turn issue there kind =
+-- what goes was read for this slot, from this byte on, and has these bytes
+pub record Fits (supplied : List ℕ) (now : MachineState) (dev : ℕ) (message : Bool) (line : Edge) (new : MachineState) (does : Does now (Moved (act.Gathers dev (fed_answer.Goes message line))) new)
+    (slot offset len : ℕ) : Type 0 where
+  pub slot_is : does.does.gathering.feed.slot ≡ slot
+  pub offset_is : does.does.gathering.feed.offset ≡ offset
+  pub len_is : does.does.gathering.feed.len ≡ len
+  pub bytes : does.does.gathering.bytes ≡ data_with dev supplied
+
+pub fits : (laws : Laws) (now : MachineState) → HasRules now → Good laws now → (dev : ℕ) (supplied : List ℕ) → IsReading now dev supplied → (message : Bool) (line : Edge) (new : MachineState)
+    → (does : Does now (Moved (act.Gathers dev (fed_answer.Goes message line))) new) → (slot offset len : ℕ) → turn_to now.controller dev ≡ Feeds dev slot offset len
+    → Fits supplied now dev message line new does slot offset len
+fits laws now rules good dev supplied reading message line new does slot offset len turn =
     let h = does.does in
-    let opened : OpensSo old = laws.opens ports legacy old opening (first_ruled deeds old now run) in
-    let good : Good laws now = run_good laws deeds old now run (opens_good laws ports legacy old opening opened) in
-    let rules : HasRules now = last_rules deeds old now run in
     let g : GatheringState = h.gathering in
     let c : ControllerState = now.controller in
     let gathered : IsGathered c now.kept h.place g = there_is now h.place g h.there good.due in
     let place : h.place ≡ dev = sym gathered.own ∙ sym h.gathers.is in
     let fed : is_fed c.wants dev g.feed.number ≡ true = is_wanted_now (is_fed c.wants dev g.feed.number) c does.middle.controller dev message line h.gathers.gathers in
-    let low : dev < 16 = ltb-true dev 16 (fed_low dev c.wants g.feed.number fed) in
     let due : due_to c dev ≡ true = fed_some c does.middle.controller dev g.feed.number (fed_answer.Goes message line) tt h.gathers.gathers in
     let off : is_kept_for h.place now.kept ≡ false = ap (is_kept_for h.place) h.done in
     let holds : Holds c dev g.feed = subst (λ (k : ℕ). Holds c k g.feed) place (good.held.read h.place g h.there off) in
-    let is : Beside QueuedWrite dev c.core (Some (record { tag = g.feed.slot; count = g.feed.offset })) = holds fed due in
+    let is : OneUp dev c.core g.feed.slot g.feed.offset = holds fed due in
     let s : Sends c does.middle.controller dev message line = sends (is_fed c.wants dev g.feed.number) c does.middle.controller dev message line h.gathers.gathers in
     let may : MayChoose c.core (Feeds dev slot offset len) = subst (λ (t : Turn). MayChoose c.core t) turn s.sends.may in
     let k : IsController c = kept_rules now rules in
     let fills : FillsFrom slot offset len is.past =
     laws.setup.chosen c.core c.core [] refl (record { cores = record { port = k.port; slots = k.slots }; frames = tt }) dev slot offset len is.past may is.told in
-    let same = same_counted g.feed.slot g.feed.offset slot offset
-    (is.follows slot (up_now QueuedWrite refl laws.setup dev low c is.past slot offset len issue is.told fills there kind) ∙ ap (λ j. Some (record { tag = slot; count = j })) fills.from) in
+    let same = is.one slot fills.is_up in
     let long : IsLength (turn_to c h.place) g.feed.len = gathered.due off (ap (λ (j : ℕ). is_fed c.wants j g.feed.number) place ∙ fed) in
     record {
-      slot_is = same.0;
-      offset_is = same.1;
+      slot_is = sym same.0;
+      offset_is = sym same.1 ∙ fills.from;
       len_is = subst (λ (t : Turn). IsLength t g.feed.len) (ap (turn_to c) place ∙ turn) long;
-      bytes = laws.whole now dev (fed_answer.Goes message line) new does good.due (came_in dev [] old deeds now run)
-          (laws.read dev low old deeds now run opened.due [] (laws.unread ports legacy old opening dev));
+      bytes = laws.whole now dev (fed_answer.Goes message line) new does good.due supplied reading;
     }
+
+-- Data go to one of so many devices
+fed_below : (now : MachineState) (dev : ℕ) (message : Bool) (line : Edge) (new : MachineState) → Does now (Moved (act.Gathers dev (fed_answer.Goes message line))) new → dev < 16
+fed_below now dev message line new does =
+    let h = does.does in
+    let g : GatheringState = h.gathering in
+    let fed : is_fed now.controller.wants dev g.feed.number ≡ true = is_wanted_now (is_fed now.controller.wants dev g.feed.number) now.controller does.middle.controller dev message line h.gathers.gathers in
+    ltb-true dev 16 (fed_low dev now.controller.wants g.feed.number fed)
+
+pub fed_for : Laws → FedDataAreOfTheirSlots
+fed_for laws ports legacy old opening deeds now run dev message line new does slot offset len turn =
+    let opened : OpensSo old = laws.opens ports legacy old opening (first_ruled deeds old now run) in
+    let good : Good laws now = run_good laws deeds old now run (opens_good laws ports legacy old opening opened) in
+    let low : dev < 16 = fed_below now dev message line new does in
+    let it : Fits (came_in dev [] old deeds now run) now dev message line new does slot offset len =
+    fits laws now (last_rules deeds old now run) good dev (came_in dev [] old deeds now run)
+    (laws.read dev low old deeds now run opened.due [] (laws.unread ports legacy old opening dev)) message line new does slot offset len turn in
+    record { slot_is = it.slot_is; offset_is = it.offset_is; len_is = it.len_is; bytes = it.bytes }

@@ -1,17 +1,16 @@
--- While Data of a queued write are wanted for a device, the slot and the place stay those that the controller said.
-use Rattle.std.proofs.Common.{◌≡◌, ℕ, ◌-◌, ◌<◌, ◌^◌, ◌&&◌, Bool, true, false, List, [], ◌∷◌, refl, sym, ap, subst, ◌∙◌, arith, Option, Some, None, w32}
-use Rattle.std.specs.Prelude.{◌==◌, MatchOption, is_some, nat_lt, if◌then◌else◌}
+-- While Data are wanted for a device, the slot and the place stay those that the controller said.
+use Rattle.std.proofs.Common.{◌≡◌, ℕ, ◌-◌, ◌<◌, ◌^◌, ◌&&◌, Bool, true, false, List, [], ◌∷◌, ◌++◌, refl, sym, ap, subst, ◌∙◌, inl, inr, arith, Option, Some, None, w32}
+use Rattle.std.specs.Prelude.{◌==◌, MatchOption, drop, is_some, nat_lt, if◌then◌else◌}
 use Rattle.std.specs.Int.{bit_at}
 use Rattle.std.specs.Option.{option_map}
-use Rattle.std.proofs.lemmas.Bool.{and_parts, eqb-true, eq-eqb, false≢true, ltb-true}
+use Rattle.std.proofs.lemmas.Bool.{and_parts, eqb-true, false≢true, ltb-true}
 use Rattle.std.proofs.lemmas.Nat.{pow_below}
 use Rattle.std.proofs.lemmas.Nat.Bits.{bit_at-pow_same, bit_at_and, bit_at_not}
-use Rattle.fis_view.specs.Seen.{seen}
 use Rattle.guest_fetch.specs.Commands.{Fetched}
 use Rattle.guest_fetch.specs.declared.moves.Move.{Move}
 use Rattle.slots.specs.Data.{payload}
-use Rattle.slots.specs.Slots.{context_of, has_bit, match_some}
-use Rattle.slots.specs.declared.work.Kind.TheVariants.{QueuedWrite}
+use Rattle.slots.specs.Slots.{context_of, has_bit, holds, issue_at, match_some}
+use Rattle.slots.specs.Work.{is_dma, is_read}
 use Rattle.hba_fbs.specs.Bits.{without}
 use Rattle.hba_fbs.specs.Choosing.{MayChoose}
 use Rattle.hba_fbs.specs.Taking.{port_of}
@@ -21,6 +20,7 @@ use Rattle.hba_fbs.specs.declared.turn.Turn.{Turn}
 use Rattle.hba_fbs.specs.declared.turn.Turn.TheVariants.{Feeds, Orders, Rests}
 use Rattle.hba_laws.specs.Agreement.{IsTold}
 use Rattle.hba_laws.specs.CoreHistories.{FillsFrom}
+use Rattle.hba_laws.specs.Delivering.{is_control_issue}
 use Rattle.hba_laws.specs.History as history
 use Rattle.hba_laws.specs.History.{History, is_at, is_set_up, next_number, waiting_in}
 use Rattle.ahci_controller.specs.Fetching.{next_number as next_want}
@@ -31,35 +31,40 @@ use Rattle.ahci_controller.specs.declared.feeding.Fed.TheVariants as fed_answer
 use Rattle.ahci_controller.specs.declared.latch.Edge.{Edge}
 use Rattle.ahci_controller.specs.declared.next.Next.{Next}
 use Rattle.ahci_controller.specs.declared.next.Next.TheVariants as next
-use Rattle.ahci_controller.specs.declared.taking.Took.{Took}
 use Rattle.ahci_controller.specs.declared.wants.Carried.{Carried}
 use Rattle.controller_laws.specs.CoreEvents.{AreCoreEvents, of_all}
 use Rattle.controller_laws.specs.Events as call
 use Rattle.controller_laws.specs.Events.{Does, Event, IsController, Runs}
-use Rattle.sata_disk_books.specs.Counted.{Counted}
 use Rattle.ahci_machine.specs.declared.gathering.Feed.{Feed}
 use Rattle.machine_laws.proofs.Wants.{due_stays, fed_low, gather_stays, miss_stays, not_there_stays, supply_stays, take_stays, turned, unmoved, write_stays, written_stays}
 use Rattle.machine_laws.specs.Controllers.{AreDue, IsLength, is_feed_to}
-use Rattle.machine_theorem.proofs.FedCalls.{Sends, comes_none, none_more, sends}
-use Rattle.machine_theorem.proofs.SetupCalls.{Laws, first_kept, none_taken, taken_beside}
-use Rattle.machine_theorem.proofs.SetupCores.{Beside}
-use Rattle.machine_theorem.proofs.SetupFrames.{told_with}
-use Rattle.machine_theorem.proofs.SetupHistory.{Follows}
+use Rattle.machine_theorem.proofs.CallSteps.{AreIdle, Idly, IsStep, Ordered, Stepped, stepped}
+use Rattle.machine_theorem.proofs.FedCalls.{Sends, sends}
+use Rattle.machine_theorem.proofs.SetupCalls.{Laws, first_kept}
 
 -- ---- what is wanted
 
 abbrev pub due_to : ControllerState → ℕ → Bool
 due_to c dev = is_some (payload (context_of c.core.slots dev))
 
+-- what is set up is for this slot, and the next byte has this number
+abbrev pub IsOne : (slot offset : ℕ) → History → Type 0
+IsOne slot offset past = (s : ℕ) → is_set_up s past ≡ true → (s ≡ slot) × (next_number past ≡ offset)
+
+pub record OneUp (dev : ℕ) (port : Port) (slot offset : ℕ) : Type 0 where
+  pub past : History
+  pub told : IsTold (view_of dev port) past
+  pub one : IsOne slot offset past
+
 abbrev pub Holds : ControllerState → (dev : ℕ) → Feed → Type 0
-Holds c dev f = is_fed c.wants dev f.number ≡ true → due_to c dev ≡ true → Beside QueuedWrite dev c.core (Some (record { tag = f.slot; count = f.offset }))
+Holds c dev f = is_fed c.wants dev f.number ≡ true → due_to c dev ≡ true → OneUp dev c.core f.slot f.offset
 
 abbrev pub IsMachineCall : (dev : ℕ) → Event → Type 0
 IsMachineCall dev (call.Wrote offset value written) = ⊥
 IsMachineCall dev (call.Turned said) = is_feed_to dev said ≡ false
 IsMachineCall dev e = Unit {0}
 
-event_keeps : (p n count : ℕ) (e : Event) (old new : ControllerState) → IsMachineCall p e → Does old e new → AreDue old p n count → AreDue new p n count
+pub event_keeps : (p n count : ℕ) (e : Event) (old new : ControllerState) → IsMachineCall p e → Does old e new → AreDue old p n count → AreDue new p n count
 event_keeps p n count (call.Wrote offset value written) old new is does = absurd is
 event_keeps p n count (call.WroteWide offset width value written) old new is does = due_stays p n count old new (write_stays offset width value p n old new written does)
 event_keeps p n count (call.Supplied slot number bytes supply) old new is does = due_stays p n count old new (supply_stays slot number bytes p n old new supply does)
@@ -76,7 +81,7 @@ no_lengths : (p : ℕ) (o : Option (ℕ × ℕ × ℕ)) → is_some o ≡ true �
 no_lengths p None some zero one = false≢true some
 no_lengths p (Some x) some zero one = omega (arith, zero, one)
 
-due_case : (p n : ℕ) (old new : ControllerState) (was : Bool) (o : Option (ℕ × ℕ × ℕ)) → is_fed old.wants p n ≡ was → payload (context_of old.core.slots p) ≡ o
+pub due_case : (p n : ℕ) (old new : ControllerState) (was : Bool) (o : Option (ℕ × ℕ × ℕ)) → is_fed old.wants p n ≡ was → payload (context_of old.core.slots p) ≡ o
     → ((count : ℕ) → AreDue old p n count → AreDue new p n count) → is_fed new.wants p n ≡ true → due_to new p ≡ true → (is_fed old.wants p n ≡ true) × (due_to old p ≡ true)
 due_case p n old new false o not here keeps fed due =
     absurd (no_lengths p (payload (context_of new.core.slots p)) due (keeps 0 (λ h. absurd (false≢true (sym not ∙ h))) fed) (keeps 1 (λ h. absurd (false≢true (sym not ∙ h))) fed))
@@ -103,47 +108,85 @@ fed_bit c p n h = (and_parts (nat_lt p 16) (has_bit c.wants.feeding p) (and_part
 not_fed : (old new : ControllerState) (p n : ℕ) → p < 16 → new.wants.feeding ≡ without old.wants.feeding (2 ^ p) → is_fed new.wants p n ≡ true → ⊥
 not_fed old new p n low is fed = taken_bit old.wants.feeding p (omega (arith, low)) (ap (λ (m : ℕ). has_bit m p) (sym is) ∙ fed_bit new p n fed)
 
-module _ (laws : Laws) (p : ℕ) (low : p < 16) where
-  abbrev Kept : ControllerState → Option Counted → Type 0
-  Kept c t = Beside QueuedWrite p c.core t
+-- ---- what is set up stays so
 
-  took_kept : (old new : ControllerState) (frame : List ℕ) (took : Took) (does : Does old (call.Took frame took) new) → IsController old → IsController new → (n : ℕ) → is_fed new.wants p n ≡ true
-      → (own : Bool) → (port_of frame == p) ≡ own → (t : Option Counted) → Kept old t → Kept new t
-  took_kept old new frame took does k l n fed true own t was =
-      absurd (not_fed old new p n low (ap (λ (c : ControllerState). c.wants.feeding) does.hears.rest ∙ ap (λ (j : ℕ). without old.wants.feeding (2 ^ j)) (eqb-true (port_of frame) p own)) fed)
-  took_kept old new frame took does k l n fed false own t was =
-      subst (λ (b : Bool). Kept new (if b then told_with none_more (seen frame) t else t)) own
-      (taken_beside QueuedWrite refl laws p low none_more old new frame took does k l (λ same. absurd (false≢true (sym own ∙ eq-eqb (port_of frame) p same))) t (comes_none laws p low old k t) was)
+if_not : (b x : Bool) → (if b then false else x) ≡ true → x ≡ true
+if_not true x e = absurd (false≢true e)
+if_not false x e = e
+
+one_idle : (slot offset : ℕ) (h past : History) → AreIdle h → IsOne slot offset past → IsOne slot offset (h ++ past)
+one_idle slot offset [] past idle one = one
+one_idle slot offset (history.Issued k t ∷ h) past idle one = λ s up. one_idle slot offset h past idle.1 one s (if_not (k == s) (is_set_up s (h ++ past)) up)
+one_idle slot offset (history.Emptied ∷ h) past idle one = λ s up. one_idle slot offset h past idle.1 one s up
+one_idle slot offset (e ∷ h) past idle one = absurd idle.0
+
+one_sent : (slot offset k len : ℕ) (reads dma control : Bool) (past : History) → dma ≡ false → IsOne slot offset past
+    → IsOne slot offset (((if dma then history.SetUp k 0 len reads ∷ [] else []) ++ (if control then history.SentControl k else history.Sent k) ∷ []) ++ past)
+one_sent slot offset k len reads true control past e one = absurd (cc)
+one_sent slot offset k len reads false true past e one = λ s up. one s up
+one_sent slot offset k len reads false false past e one = λ s up. one s up
+
+module _ (laws : Laws) (p : ℕ) (low : p < 16) (slot offset : ℕ) where
+  same_kept : (new : Port) (past now : History) → IsTold (view_of p new) now → now ≡ past → IsOne slot offset past → OneUp p new slot offset
+  same_kept new past now told same one = record { past = now; told = told; one = subst (IsOne slot offset) (sym same) one }
+
+  idle_kept : (new : Port) (past now : History) → IsTold (view_of p new) now → Idly past now → IsOne slot offset past → OneUp p new slot offset
+  idle_kept new past now told idle one =
+      record { past = now; told = told; one = subst (IsOne slot offset) (sym idle.is) (one_idle slot offset idle.events past idle.idle one) }
+
+  order_kept : (old new : ControllerState) (k : ℕ) (past now : History) → IsTold (view_of p new.core) now → Ordered p old new.core k past now → due_to new p ≡ true
+      → IsOne slot offset past → OneUp p new.core slot offset
+  order_kept old new k past now told o due one = record {
+    past = now;
+    told = told;
+    one = subst (IsOne slot offset) (sym o.is) (by (is_dma o.issue.work.kind) refl);
+  }
+    where
+      by : (b : Bool) → is_dma o.issue.work.kind ≡ b
+          → IsOne slot offset (((if is_dma o.issue.work.kind then history.SetUp k 0 o.issue.work.len (is_read o.issue.work.kind) ∷ [] else [])
+          ++ (if holds is_control_issue (issue_at old.core.slots k) then history.SentControl k else history.Sent k) ∷ []) ++ past)
+      by true dma = absurd (false≢true (sym (ap is_some (o.fresh dma)) ∙ due))
+      by false dma =
+          one_sent slot offset k o.issue.work.len (is_read o.issue.work.kind) (is_dma o.issue.work.kind) (holds is_control_issue (issue_at old.core.slots k)) past dma one
 
   goes_kept : (old new : ControllerState) (dev number : ℕ) (frame : List ℕ) (message : Bool) (line : Edge) (does : Does old (call.Gathered dev number frame (fed_answer.Goes message line)) new)
-      → IsController old → IsController new → (n : ℕ) → is_fed new.wants p n ≡ true → (own : Bool) → (dev == p) ≡ own → (t : Option Counted) → Kept old t → Kept new t
-  goes_kept old new dev number frame message line does k l n fed true own t was =
+      → (n : ℕ) → is_fed new.wants p n ≡ true → (own : Bool) → (dev == p) ≡ own → (past now : History) → IsTold (view_of p new.core) now
+      → now ≡ (if own then history.Carried (drop 4 frame) ∷ [] else []) ++ past → IsOne slot offset past → OneUp p new.core slot offset
+  goes_kept old new dev number frame message line does n fed true own past now told is one =
       let s : Sends old new dev message line = sends (is_fed old.wants dev number) old new dev message line does.1 in
       absurd (not_fed old new p n low (ap (λ (c : ControllerState). c.wants.feeding) s.sends.rest ∙ ap (λ (j : ℕ). without old.wants.feeding (2 ^ j)) (eqb-true dev p own)) fed)
-  goes_kept old new dev number frame message line does k l n fed false own t was =
-      none_taken QueuedWrite refl laws p low (call.Gathered dev number frame (fed_answer.Goes message line)) old new does k l (λ e. own) t was
+  goes_kept old new dev number frame message line does n fed false own past now told is one = same_kept new.core past now told is one
 
-  event_kept : (e : Event) (old new : ControllerState) (does : Does old e new) → IsController old → IsController new → (n : ℕ) → is_fed new.wants p n ≡ true → (t : Option Counted)
-      → Kept old t → Kept new t
-  event_kept (call.Took frame took) old new does k l n fed t was = took_kept old new frame took does k l n fed (port_of frame == p) refl t was
-  event_kept (call.Gathered dev number frame (fed_answer.Goes message line)) old new does k l n fed t was =
-      goes_kept old new dev number frame message line does k l n fed (dev == p) refl t was
-  event_kept (call.Gathered dev number frame other) old new does k l n fed t was = none_taken QueuedWrite refl laws p low (call.Gathered dev number frame other) old new does k l tt t was
-  event_kept (call.Wrote offset value written) old new does k l n fed t was = none_taken QueuedWrite refl laws p low (call.Wrote offset value written) old new does k l tt t was
-  event_kept (call.WroteWide offset width value written) old new does k l n fed t was =
-      none_taken QueuedWrite refl laws p low (call.WroteWide offset width value written) old new does k l tt t was
-  event_kept (call.Supplied slot number bytes supply) old new does k l n fed t was =
-      none_taken QueuedWrite refl laws p low (call.Supplied slot number bytes supply) old new does k l tt t was
-  event_kept (call.Missed slot number supply) old new does k l n fed t was = none_taken QueuedWrite refl laws p low (call.Missed slot number supply) old new does k l tt t was
-  event_kept (call.Left frame why) old new does k l n fed t was = none_taken QueuedWrite refl laws p low (call.Left frame why) old new does k l tt t was
-  event_kept (call.Turned said) old new does k l n fed t was = none_taken QueuedWrite refl laws p low (call.Turned said) old new does k l tt t was
-  event_kept (call.Said write) old new does k l n fed t was = none_taken QueuedWrite refl laws p low (call.Said write) old new does k l tt t was
-  event_kept (call.NotThere dev number fed') old new does k l n fed t was = none_taken QueuedWrite refl laws p low (call.NotThere dev number fed') old new does k l tt t was
+  step_kept : (e : Event) (old new : ControllerState) (does : Does old e new) → (n : ℕ) → is_fed new.wants p n ≡ true → due_to new p ≡ true → (past now : History)
+      → IsTold (view_of p new.core) now → IsStep p e old new.core past now → IsOne slot offset past → OneUp p new.core slot offset
+  step_kept (call.Took frame took) old new does n fed due past now told (inl same) one = same_kept new.core past now told same one
+  step_kept (call.Took frame took) old new does n fed due past now told (inr heard) one =
+      absurd (not_fed old new p n low (ap (λ (c : ControllerState). c.wants.feeding) does.hears.rest ∙ ap (λ (j : ℕ). without old.wants.feeding (2 ^ j)) (eqb-true (port_of frame) p heard.own)) fed)
+  step_kept (call.Turned (next.Order to k fis)) old new does n fed due past now told (inl idle) one = idle_kept new.core past now told idle one
+  step_kept (call.Turned (next.Order to k fis)) old new does n fed due past now told (inr o) one = order_kept old new k past now told o due one
+  step_kept (call.Turned other) old new does n fed due past now told step one = idle_kept new.core past now told step one
+  step_kept (call.Gathered dev number frame (fed_answer.Goes message line)) old new does n fed due past now told step one =
+      goes_kept old new dev number frame message line does n fed (dev == p) refl past now told step one
+  step_kept (call.Gathered dev number frame other) old new does n fed due past now told step one = idle_kept new.core past now told step one
+  step_kept (call.Wrote offset' value written') old new does n fed due past now told step one = idle_kept new.core past now told step one
+  step_kept (call.WroteWide offset' width value written') old new does n fed due past now told step one = idle_kept new.core past now told step one
+  step_kept (call.Supplied k number bytes supply) old new does n fed due past now told step one = idle_kept new.core past now told step one
+  step_kept (call.Missed k number supply) old new does n fed due past now told step one = idle_kept new.core past now told step one
+  step_kept (call.Left frame why) old new does n fed due past now told step one = idle_kept new.core past now told step one
+  step_kept (call.Said write) old new does n fed due past now told step one = idle_kept new.core past now told step one
+  step_kept (call.NotThere dev number fed') old new does n fed due past now told step one = idle_kept new.core past now told step one
 
+  event_kept : (e : Event) (old new : ControllerState) (does : Does old e new) → IsController old → IsController new → (n : ℕ) → is_fed new.wants p n ≡ true → due_to new p ≡ true
+      → OneUp p old.core slot offset → OneUp p new.core slot offset
+  event_kept e old new does k l n fed due was =
+      let s : Stepped p e old new was.past = stepped (record { events = laws.events; views = laws.views }) p low e old new k l does was.past was.told in
+      step_kept e old new does n fed due was.past s.now s.told s.step was.one
+
+module _ (laws : Laws) (p : ℕ) (low : p < 16) where
   pub event_holds : (e : Event) (old new : ControllerState) → IsMachineCall p e → (does : Does old e new) → IsController old → IsController new → (f : Feed) → Holds old p f → Holds new p f
   event_holds e old new is does k l f was fed due =
       let both = due_case p f.number old new (is_fed old.wants p f.number) (payload (context_of old.core.slots p)) refl refl (λ count. event_keeps p f.number count e old new is does) fed due in
-      event_kept e old new does k l f.number fed _ (was both.0 both.1)
+      event_kept laws p low f.slot f.offset e old new does k l f.number fed due (was both.0 both.1)
 
 abbrev pub AreMachineCalls : (dev : ℕ) → List Event → Type 0
 AreMachineCalls dev [] = Unit {0}
@@ -256,10 +299,6 @@ both_at : (s r : ℕ) (o : Option ℕ) → is_at s o ≡ true → is_at r o ≡ 
 both_at s r None one two = absurd (false≢true one)
 both_at s r (Some k) one two = sym (eqb-true k s one) ∙ eqb-true k r two
 
-if_not : (b x : Bool) → (if b then false else x) ≡ true → x ≡ true
-if_not true x e = absurd (false≢true e)
-if_not false x e = e
-
 one_up : (s r : ℕ) (past : History) → is_set_up s past ≡ true → is_set_up r past ≡ true → s ≡ r
 one_up s r [] one two = absurd (false≢true one)
 one_up s r (history.Issued slot t ∷ past) one two = one_up s r past (if_not (slot == s) _ one) (if_not (slot == r) _ two)
@@ -272,9 +311,8 @@ one_up s r (history.Answered ∷ past) one two = one_up s r past one two
 one_up s r (history.Named mask ∷ past) one two = one_up s r past one two
 one_up s r (history.Emptied ∷ past) one two = one_up s r past one two
 
-filled_follows : (slot offset len : ℕ) (past : History) → FillsFrom slot offset len past → Follows QueuedWrite past (Some (record { tag = slot; count = offset }))
-filled_follows slot offset len past fills s up =
-    ap (λ k. Some (record { tag = k; count = offset })) (one_up slot s past fills.is_up up.up) ∙ ap (λ k. Some (record { tag = s; count = k })) (sym fills.from)
+filled_one : (slot offset len : ℕ) (past : History) → FillsFrom slot offset len past → IsOne slot offset past
+filled_one slot offset len past fills s up = (one_up s slot past up fills.is_up, fills.from)
 
 -- ---- each device has a history
 
@@ -293,5 +331,4 @@ said_holds laws p number slot offset len low old new k turns was fed due =
     let s : SaysFeed old p slot offset len new = says_feed p number slot offset len old new turns in
     let fills : FillsFrom slot offset len was.past =
     laws.chosen old.core old.core [] refl (record { cores = record { port = k.port; slots = k.slots }; frames = tt }) p slot offset len was.past s.may was.told in
-    subst (λ (c : Port). Beside QueuedWrite p c (Some (record { tag = slot; count = offset }))) (sym s.core)
-    (record { past = was.past; told = was.told; follows = filled_follows slot offset len was.past fills })
+    subst (λ (c : Port). OneUp p c slot offset) (sym s.core) (record { past = was.past; told = was.told; one = filled_one slot offset len was.past fills })

@@ -285,7 +285,7 @@ does_by (next.Read ask) old new h dev g is = same_by (next.Read ask) old new (λ
 
 -- ---- the law
 
-rests_from : (old new : MachineState) → acts.RestsNow old new → FromOld old new
+pub rests_from : (old new : MachineState) → acts.RestsNow old new → FromOld old new
 rests_from old new (inl same) = same_from old new (ap (λ (m : MachineState). m.gathering) same)
 rests_from old new (inr turns) = turns_from old new next.Nothing turns
 
@@ -296,7 +296,7 @@ fed_law old dev f said (Stays _ was other) = inr was
 moved_gathering : (mid new : MachineState) → new ≡ acts.turned mid new.first new.turn → new.gathering ≡ mid.gathering
 moved_gathering mid new is = ap (λ (m : MachineState). m.gathering) is
 
-at_mid : (mid new : MachineState) → new ≡ acts.turned mid new.first new.turn → (dev : ℕ) (g : GatheringState) → gathering_at new dev ≡ Some g → gathering_at mid dev ≡ Some g
+pub at_mid : (mid new : MachineState) → new ≡ acts.turned mid new.first new.turn → (dev : ℕ) (g : GatheringState) → gathering_at new dev ≡ Some g → gathering_at mid dev ≡ Some g
 at_mid mid new is dev g there = ap (λ (l : List (Option GatheringState)). get_or l dev None) (sym (moved_gathering mid new is)) ∙ there
 
 pub feeds_stay : FeedsStay

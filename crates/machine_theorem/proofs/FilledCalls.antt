@@ -1,14 +1,15 @@
--- Each byte of a queued read that came, over the calls of a controller.
+-- Each byte of a read that came, over the calls of a controller.
 use Rattle.std.proofs.Common.{◌≡◌, ◌⊎◌, ℕ, ◌<◌, ◌/◌, ◌&&◌, Bool, true, false, List, [], ◌∷◌, ◌++◌, inl, inr, refl, sym, ap, subst, ◌∙◌, arith, Option}
 use Rattle.std.proofs.Common.{Some, None}
-use Rattle.std.specs.Prelude.{◌==◌, MatchOption, if◌then◌else◌, replicate}
+use Rattle.std.specs.Prelude.{◌==◌, MatchOption, if◌then◌else◌, is_some, not, replicate}
 use Rattle.std.specs.Option.{option_map}
 use Rattle.std.proofs.lemmas.Bool.{cases_lt, eq-eqb, eqb-true, false≢true, true≢false}
 use Rattle.std.proofs.lemmas.List.{get_or-map, get_or-replicate, get_or_past, length-replicate}
 use Rattle.slots.specs.Bytes.{is_over, none_over}
 use Rattle.slots.specs.Slots.{Issue, Slots, holds, issue_at, match_some, own_issue, owned_by, slots_of}
 use Rattle.slots.specs.Table.{IsIssue}
-use Rattle.slots.specs.Work.{is_queued}
+use Rattle.slots.specs.Work.{is_queued, is_read}
+use Rattle.slots.specs.declared.work.Kind.{Kind}
 use Rattle.slots.specs.declared.work.Kind.TheVariants.{QueuedRead}
 use Rattle.slots.specs.declared.work.Work.{Work}
 use Rattle.hba_fbs.specs.Taking.{port_of}
@@ -17,7 +18,8 @@ use Rattle.hba_laws.proofs.Door.{own_here, own_in}
 use Rattle.hba_laws.specs.Agreement.{IsTold, work_of_issue}
 use Rattle.hba_laws.specs.CoreHistories.{event_by}
 use Rattle.hba_laws.specs.Cores as core
-use Rattle.hba_laws.specs.History.{History, issued}
+use Rattle.hba_laws.specs.History as history
+use Rattle.hba_laws.specs.History.{History, Transfer, filled, issued}
 use Rattle.ahci_controller.specs.States.{ControllerState}
 use Rattle.ahci_controller.specs.Taking.{room_for}
 use Rattle.ahci_controller.specs.declared.feeding.Fed.TheVariants as fed_answer
@@ -26,8 +28,9 @@ use Rattle.controller_laws.specs.CoreEvents.{AreCoreEvents, of_event, of_frame}
 use Rattle.controller_laws.specs.Events as call
 use Rattle.controller_laws.specs.Events.{Does, Event, IsController, Runs}
 use Rattle.machine_theorem.specs.Commands.{AreNotIssued, issues_in}
-use Rattle.machine_theorem.specs.Filled.{AreNotBrought, Brings, BringsNot, FilledWereBrought, WasBrought}
+use Rattle.machine_theorem.specs.Filled.{AreNotBrought, Brings, BringsNot, FilledWereBrought}
 use Rattle.machine_theorem.specs.Orders.{is_sent_of}
+use Rattle.machine_theorem.specs.SingleReads.{BringsFor, FilledSinglesWereBrought, WasBroughtFor, is_sent_read, is_single_read}
 use Rattle.machine_theorem.proofs.Completed.{transfer_of}
 use Rattle.machine_theorem.proofs.Ordered.{last_kept}
 use Rattle.machine_theorem.proofs.SetupCalls.{IsNoTake, Laws, call_none, core_events, first_kept}
@@ -35,7 +38,7 @@ use Rattle.machine_theorem.proofs.SetupCores.{told_next}
 use Rattle.machine_theorem.proofs.SetupFrames.{has_up, the_issue}
 use Rattle.machine_theorem.proofs.Stood.{issues_are_alone}
 use Rattle.machine_theorem.proofs.FilledHistory.{HasCame}
-use Rattle.machine_theorem.proofs.FilledCores.{Behind, FillsNow, cores_behind, fis_back}
+use Rattle.machine_theorem.proofs.FilledCores.{Behind, FillsNow, cores_behind, data_back, fis_back}
 use Rattle.machine_theorem.proofs.FilledFrames.{brings_it, brings_not, wrote_fits}
 
 -- ---- what stands in a slot for a device
@@ -70,13 +73,13 @@ over_none len k = elim (cases_lt (k / 4) (len / 4)) [
 -- ---- one call
 
 -- by a call byte k is brought
-abbrev BringsBy : (n s k : ℕ) → ControllerState → Event → Type 0
-BringsBy n s k c (call.Took frame took) = Brings n s k c frame took
-BringsBy n s k c e = ⊥
+abbrev BringsBy : Kind → (n s k : ℕ) → ControllerState → Event → Type 0
+BringsBy r n s k c (call.Took frame took) = BringsFor r n s k c frame took
+BringsBy r n s k c e = ⊥
 
 -- It came before, and the call issues nothing in the slot and does not bring it again; or the call brings it.
-abbrev After : (n s k : ℕ) → ControllerState → Event → Type 0 → Type 0
-After n s k c e A = (A × (issues_in s e ≡ false) × BringsNot s k e) ⊎ BringsBy n s k c e
+abbrev After : Kind → (n s k : ℕ) → ControllerState → Event → Type 0 → Type 0
+After r n s k c e A = (A × (issues_in s e ≡ false) × BringsNot s k e) ⊎ BringsBy r n s k c e
 
 -- what came stands in the slot
 record CameThere (s k : ℕ) (c : ControllerState) : Type 0 where
@@ -84,8 +87,8 @@ record CameThere (s k : ℕ) (c : ControllerState) : Type 0 where
   is : issue_at c.core.slots s ≡ Some issue
   over : is_over issue.over k ≡ true
 
-came_there : (n s k : ℕ) (c : ControllerState) (past : History) → IsTold (view_of n c.core) past → HasCame s k past → CameThere s k c
-came_there n s k c past told came =
+came_there : (r : Kind) (n s k : ℕ) (c : ControllerState) (past : History) → IsTold (view_of n c.core) past → HasCame r s k past → CameThere s k c
+came_there r n s k c past told came =
     let i = the_issue (issued s past) (own_issue (view_of n c.core).slots s) came.transfer (told.issued s) came.is in
     record { issue = i.0; is = (is_there n s c.core.slots i.0 i.1.0).is; over = (told.agrees.issues_agree s i.0 i.1.0).over_is k ∙ came.filled }
 
@@ -108,37 +111,37 @@ none_brings s k old new (call.Said write) kept does there = tt
 none_brings s k old new (call.Gathered dev number frame fed) kept does there = tt
 none_brings s k old new (call.NotThere dev number fed) kept does there = tt
 
-module _ (laws : Laws) (n : ℕ) (low : n < 16) (s k : ℕ) (A : Type 0) where
-  before_call : (e : Event) (old new : ControllerState) → Does old e new → IsController old → Behind n s k old.core A
-      → Behind n s k old.core (After n s k old e A)
+module _ (r : Kind) (reads : is_read r ≡ true) (laws : Laws) (n : ℕ) (low : n < 16) (s k : ℕ) (A : Type 0) where
+  before_call : (e : Event) (old new : ControllerState) → Does old e new → IsController old → Behind r n s k old.core A
+      → Behind r n s k old.core (After r n s k old e A)
   before_call e old new does kept was = record {
     past = was.past;
     told = was.told;
     back = λ c.
-        let there = came_there n s k old was.past was.told c in
+        let there = came_there r n s k old was.past was.told c in
         inl (was.back c, none_issues s old new e kept does there.issue there.is (issues_in s e) refl, none_brings s k old new e kept does there);
   }
 
   none_taken : (e : Event) (old new : ControllerState) (does : Does old e new) → IsController old → IsController new → IsNoTake QueuedRead n e
-      → Behind n s k old.core A → Behind n s k new.core (After n s k old e A)
+      → Behind r n s k old.core A → Behind r n s k new.core (After r n s k old e A)
   none_taken e old new does kept l is was =
       let are : AreCoreEvents old.core (of_event old e new does) new.core = core_events QueuedRead refl laws n low old new e kept l does in
-      cores_behind laws.views n low s k (After n s k old e A) (of_event old e new does) old.core new.core are.run are.sound.cores are.sound.frames
+      cores_behind r reads laws.views n low s k (After r n s k old e A) (of_event old e new does) old.core new.core are.run are.sound.cores are.sound.frames
       (call_none QueuedRead n e old new does is) (before_call e old new does kept was)
 
   -- a FIS is taken
   brings_now : (old new : ControllerState) (frame : List ℕ) (took : Took) → call.Takes old frame took new → port_of frame ≡ n → (past : History)
       → IsTold (view_of n old.core) past
-      → FillsNow s k past frame took.report → Brings n s k old frame took
+      → FillsNow r s k past frame took.report → BringsFor r n s k old frame took
   brings_now old new frame took takes own past told fills =
-      let up = has_up QueuedRead (view_of n old.core) past s told fills.up in
+      let up = has_up r (view_of n old.core) past s told fills.up in
       let there : IsThere n s old.core.slots up.issue = is_there n s old.core.slots up.issue up.is in
       record {
         own = own;
         issue = up.issue;
         is = there.is;
         dev = there.dev;
-        kind = up.kind;
+        kind_is = up.kind;
         calm = (wrote_fits old new frame took takes fills.wrote fills.is).fits.whole;
         wrote = fills.wrote;
         brought = brings_it old new frame took takes fills.wrote fills.is;
@@ -149,15 +152,15 @@ module _ (laws : Laws) (n : ℕ) (low : n < 16) (s k : ℕ) (A : Type 0) where
       }
 
   brings_not_again : (old new : ControllerState) (frame : List ℕ) (took : Took) → call.Takes old frame took new → IsController old → (past : History)
-      → IsTold (view_of n old.core) past → HasCame s k past → BringsNot s k (call.Took frame took)
+      → IsTold (view_of n old.core) past → HasCame r s k past → BringsNot s k (call.Took frame took)
   brings_not_again old new frame took takes kept past told came =
-      none_brings s k old new (call.Took frame took) kept takes (came_there n s k old past told came)
+      none_brings s k old new (call.Took frame took) kept takes (came_there r n s k old past told came)
 
   own_taken : (old new : ControllerState) (frame : List ℕ) (took : Took) (takes : call.Takes old frame took new)
       → core.Hearkens old.core frame (room_for old (port_of frame)) took.report new.core
-      → IsController old → (was : Behind n s k old.core A) → (b : Bool) → (port_of frame == n) ≡ b
+      → IsController old → (was : Behind r n s k old.core A) → (b : Bool) → (port_of frame == n) ≡ b
       → IsTold (view_of n new.core) ((if b then match_some (event_by old.core (room_for old (port_of frame)) frame) [] (λ e. e ∷ []) else []) ++ was.past)
-      → Behind n s k new.core (After n s k old (call.Took frame took) A)
+      → Behind r n s k new.core (After r n s k old (call.Took frame took) A)
   own_taken old new frame took takes hears kept was false own told = record {
     past = was.past;
     told = told;
@@ -174,17 +177,17 @@ module _ (laws : Laws) (n : ℕ) (low : n < 16) (s k : ℕ) (A : Type 0) where
         ];
       }
     where
-      by_fis : port_of frame ≡ n → HasCame s k (match_some (event_by old.core (room_for old (port_of frame)) frame) [] (λ e. e ∷ []) ++ was.past)
-          → FillsNow s k was.past frame took.report ⊎ HasCame s k was.past
+      by_fis : port_of frame ≡ n → HasCame r s k (match_some (event_by old.core (room_for old (port_of frame)) frame) [] (λ e. e ∷ []) ++ was.past)
+          → FillsNow r s k was.past frame took.report ⊎ HasCame r s k was.past
       by_fis same c =
-          fis_back laws.filled s k n old.core new.core frame (room_for old (port_of frame)) took.report same
+          fis_back r laws.filled s k n old.core new.core frame (room_for old (port_of frame)) took.report same
           (record { port = kept.port; slots = kept.slots }) hears was.past was.told c
 
   fis_taken : (old new : ControllerState) (frame : List ℕ) (took : Took) (takes : call.Takes old frame took new) (started : Bool) → IsController old
-      → (are : AreCoreEvents old.core (of_frame started old frame took.report ∷ []) new.core) → Behind n s k old.core A
-      → Behind n s k new.core (After n s k old (call.Took frame took) A)
+      → (are : AreCoreEvents old.core (of_frame started old frame took.report ∷ []) new.core) → Behind r n s k old.core A
+      → Behind r n s k new.core (After r n s k old (call.Took frame took) A)
   fis_taken old new frame took takes false kept are was =
-      cores_behind laws.views n low s k (After n s k old (call.Took frame took) A)
+      cores_behind r reads laws.views n low s k (After r n s k old (call.Took frame took) A)
       (core.Greeted frame took.report ∷ []) old.core new.core are.run are.sound.cores are.sound.frames
       (tt, tt) (before_call (call.Took frame took) old new takes kept was)
   fis_taken old new frame took takes true kept are was =
@@ -196,8 +199,8 @@ module _ (laws : Laws) (n : ℕ) (low : n < 16) (s k : ℕ) (A : Type 0) where
       (told_next QueuedRead refl laws.views n low (core.Took frame room took.report) old.core new.core hears are.sound.cores.0 next are.sound.frames.0
       was.past was.told)
 
-  call_behind : (e : Event) (old new : ControllerState) (does : Does old e new) → IsController old → IsController new → Behind n s k old.core A
-      → Behind n s k new.core (After n s k old e A)
+  call_behind : (e : Event) (old new : ControllerState) (does : Does old e new) → IsController old → IsController new → Behind r n s k old.core A
+      → Behind r n s k new.core (After r n s k old e A)
   call_behind (call.Took frame took) old new does kept l was =
       fis_taken old new frame took does old.core.registers.started kept (core_events QueuedRead refl laws n low old new (call.Took frame took) kept l does) was
   call_behind (call.Wrote offset value written) old new does kept l was = none_taken (call.Wrote offset value written) old new does kept l tt was
@@ -206,23 +209,44 @@ module _ (laws : Laws) (n : ℕ) (low : n < 16) (s k : ℕ) (A : Type 0) where
   call_behind (call.Supplied slot number bytes supply) old new does kept l was = none_taken (call.Supplied slot number bytes supply) old new does kept l tt was
   call_behind (call.Missed slot number supply) old new does kept l was = none_taken (call.Missed slot number supply) old new does kept l tt was
   call_behind (call.Left frame why) old new does kept l was = none_taken (call.Left frame why) old new does kept l tt was
-  call_behind (call.Turned next) old new does kept l was = none_taken (call.Turned next) old new does kept l tt was
+  call_behind (call.Turned next) old new does kept l was = none_taken (call.Turned next) old new does kept l refl was
   call_behind (call.Said write) old new does kept l was = none_taken (call.Said write) old new does kept l tt was
   call_behind (call.Gathered dev number frame (fed_answer.Goes message line)) old new does kept l was =
       none_taken (call.Gathered dev number frame (fed_answer.Goes message line)) old new does kept l (λ e. absurd (true≢false e)) was
   call_behind (call.Gathered dev number frame other) old new does kept l was = none_taken (call.Gathered dev number frame other) old new does kept l tt was
   call_behind (call.NotThere dev number fed) old new does kept l was = none_taken (call.NotThere dev number fed) old new does kept l tt was
 
+-- what is filled behind Data that the FIS carries was brought by it, or came before; so it is too where it ends the command
+pub last_back : (r : Kind) → is_read r ≡ true → Laws → (n : ℕ) → n < 16 → (s k : ℕ) (old new : ControllerState) (frame : List ℕ) (took : Took)
+    → call.Takes old frame took new → IsController old → IsController new → old.core.registers.started ≡ true → port_of frame ≡ n
+    → (past : History) → IsTold (view_of n old.core) past → (bytes : List ℕ) (t : Transfer)
+    → event_by old.core (room_for old (port_of frame)) frame ≡ Some (history.Carried bytes) → issued s past ≡ Some t → t.work.kind ≡ r
+    → is_some (filled s (history.Carried bytes ∷ past) k) ≡ true → BringsFor r n s k old frame took ⊎ HasCame r s k past
+last_back r reads laws n low s k old new frame took takes kept l started own past told bytes t event was kind f =
+    by old.core.registers.started started (core_events QueuedRead refl laws n low old new (call.Took frame took) kept l takes)
+  where
+    now : core.Hearkens old.core frame (room_for old (port_of frame)) took.report new.core → BringsFor r n s k old frame took ⊎ HasCame r s k past
+    now hears =
+        elim (data_back r laws.filled s k n old.core new.core frame (room_for old (port_of frame)) took.report own
+        (record { port = kept.port; slots = kept.slots }) hears past told bytes t event was kind f) [
+          | inl fills ↦ inl (brings_now r reads laws n low s k (Unit {0}) old new frame took takes own past told fills)
+          | inr came ↦ inr came
+        ]
+
+    by : (b : Bool) → b ≡ true → AreCoreEvents old.core (of_frame b old frame took.report ∷ []) new.core → BringsFor r n s k old frame took ⊎ HasCame r s k past
+    by false e are = absurd (false≢true e)
+    by true e are = now (subst (λ p. core.Hearkens old.core frame (room_for old (port_of frame)) took.report p) (sym are.run.2) are.run.1)
+
 -- ---- all of them
 
 -- it came before, and none of these calls issues in the slot or brings it again; or one brings it
-abbrev pub Then : (n s k : ℕ) → ControllerState → List Event → ControllerState → Type 0 → Type 0
-Then n s k old events new A = (A × AreNotIssued s events × AreNotBrought s k events) ⊎ WasBrought n s k old events new
+abbrev pub Then : Kind → (n s k : ℕ) → ControllerState → List Event → ControllerState → Type 0 → Type 0
+Then r n s k old events new A = (A × AreNotIssued s events × AreNotBrought s k events) ⊎ WasBroughtFor r n s k old events new
 
-brought_later : (n s k : ℕ) (e : Event) (old : ControllerState) (later : List Event) (new : ControllerState) (run : Runs old (e ∷ later) new)
-    → WasBrought n s k run.1.0 later new
-    → WasBrought n s k old (e ∷ later) new
-brought_later n s k e old later new run b = record {
+brought_later : (r : Kind) (n s k : ℕ) (e : Event) (old : ControllerState) (later : List Event) (new : ControllerState) (run : Runs old (e ∷ later) new)
+    → WasBroughtFor r n s k run.1.0 later new
+    → WasBroughtFor r n s k old (e ∷ later) new
+brought_later r n s k e old later new run b = record {
   sooner = e ∷ b.sooner;
   mid = b.mid;
   led = (run.0, (run.1.0, run.1.1, b.led));
@@ -238,10 +262,10 @@ brought_later n s k e old later new run b = record {
   once = b.once;
 }
 
-brought_now : (n s k : ℕ) (e : Event) (old : ControllerState) (later : List Event) (new : ControllerState) (run : Runs old (e ∷ later) new)
-    → BringsBy n s k old e → AreNotIssued s later
-    → AreNotBrought s k later → WasBrought n s k old (e ∷ later) new
-brought_now n s k (call.Took frame took) old later new run brings alone once = record {
+brought_now : (r : Kind) (n s k : ℕ) (e : Event) (old : ControllerState) (later : List Event) (new : ControllerState) (run : Runs old (e ∷ later) new)
+    → BringsBy r n s k old e → AreNotIssued s later
+    → AreNotBrought s k later → WasBroughtFor r n s k old (e ∷ later) new
+brought_now r n s k (call.Took frame took) old later new run brings alone once = record {
   sooner = [];
   mid = old;
   led = (run.0, refl);
@@ -256,53 +280,45 @@ brought_now n s k (call.Took frame took) old later new run brings alone once = r
   alone = alone;
   once = once;
 }
-brought_now n s k e old later new run brings alone once = absurd brings
+brought_now r n s k e old later new run brings alone once = absurd brings
 
-module _ (laws : Laws) (n : ℕ) (low : n < 16) (s k : ℕ) where
-  pub calls_behind : (events : List Event) (old new : ControllerState) (run : Runs old events new) (A : Type 0) → Behind n s k old.core A
-      → Behind n s k new.core (Then n s k old events new A)
-  calls_behind [] old new run A was = subst (λ (c : ControllerState). Behind n s k c.core (Then n s k old [] new A)) (sym run.1) (record {
+module _ (r : Kind) (reads : is_read r ≡ true) (laws : Laws) (n : ℕ) (low : n < 16) (s k : ℕ) where
+  pub calls_behind : (events : List Event) (old new : ControllerState) (run : Runs old events new) (A : Type 0) → Behind r n s k old.core A
+      → Behind r n s k new.core (Then r n s k old events new A)
+  calls_behind [] old new run A was = subst (λ (c : ControllerState). Behind r n s k c.core (Then r n s k old [] new A)) (sym run.1) (record {
     past = was.past;
     told = was.told;
     back = λ c. inl (was.back c, tt, tt);
   })
   calls_behind (e ∷ later) old new run A was =
       let mid : ControllerState = run.1.0 in
-      let one : Behind n s k mid.core (After n s k old e A) = call_behind laws n low s k A e old mid run.1.1 run.0 (first_kept later mid new run.1.2) was in
-      let rest : Behind n s k new.core (Then n s k mid later new (After n s k old e A)) = calls_behind later mid new run.1.2 (After n s k old e A) one in
+      let one : Behind r n s k mid.core (After r n s k old e A) = call_behind r reads laws n low s k A e old mid run.1.1 run.0 (first_kept later mid new run.1.2) was in
+      let rest : Behind r n s k new.core (Then r n s k mid later new (After r n s k old e A)) = calls_behind later mid new run.1.2 (After r n s k old e A) one in
       record { past = rest.past; told = rest.told; back = λ c. by (rest.back c) }
     where
-      by : Then n s k run.1.0 later new (After n s k old e A) → Then n s k old (e ∷ later) new A
-      by (inr b) = inr (brought_later n s k e old later new run b)
+      by : Then r n s k run.1.0 later new (After r n s k old e A) → Then r n s k old (e ∷ later) new A
+      by (inr b) = inr (brought_later r n s k e old later new run b)
       by (inl (inl before, none, once)) = inl (before.0, (before.1, none), (before.2, once))
-      by (inl (inr now, none, once)) = inr (brought_now n s k e old later new run now none once)
+      by (inl (inr now, none, once)) = inr (brought_now r n s k e old later new run now none once)
 
--- ---- the law
-
-three : (a b c : Bool) → a ≡ true → b ≡ true → c ≡ true → ((a && b) && c) ≡ true
-three true true c e f g = g
-three true false c e f g = absurd (false≢true f)
-three false b c e f g = absurd (false≢true e)
+-- ---- the laws
 
 -- nothing came of a command that was not sent
-none_came : (i : Issue) (n k : ℕ) → IsIssue i → i.dev ≡ n → i.work.kind ≡ QueuedRead → is_sent_of (λ dev. dev == n) i ≡ false → is_over i.over k ≡ false
-none_came i n k it own kind none = by i.sent refl
-  where
-    by : (b : Bool) → i.sent ≡ b → is_over i.over k ≡ false
-    by false e = ap (λ (l : List Bool). is_over l k) (it.unsent e) ∙ over_none i.work.len k
-    by true e = absurd (false≢true (sym none ∙ three (is_queued i.work.kind) (i.dev == n) i.sent (ap is_queued kind) (eq-eqb i.dev n own) e))
+none_came : (i : Issue) (k : ℕ) → IsIssue i → i.sent ≡ false → is_over i.over k ≡ false
+none_came i k it unsent = ap (λ (l : List Bool). is_over l k) (it.unsent unsent) ∙ over_none i.work.len k
 
-module _ (n : ℕ) (low : n < 16) (s k : ℕ) (c : ControllerState) (kept : IsController c) (past : History) (told : IsTold (view_of n c.core) past) where
-  pub none_at_first : holds (is_sent_of (λ dev. dev == n)) (issue_at c.core.slots s) ≡ false → HasCame s k past → ⊥
+module _ (r : Kind) (n : ℕ) (low : n < 16) (s k : ℕ) (c : ControllerState) (kept : IsController c) (past : History) (told : IsTold (view_of n c.core) past) where
+  -- where no command of this kind that was sent stands in the slot, nothing came of one
+  pub none_at_first : ((i : Issue) → issue_at c.core.slots s ≡ Some i → i.dev ≡ n → i.work.kind ≡ r → i.sent ≡ false) → HasCame r s k past → ⊥
   none_at_first none came =
       let i = the_issue (issued s past) (own_issue (view_of n c.core).slots s) came.transfer (told.issued s) came.is in
       let there : IsThere n s c.core.slots i.0 = is_there n s c.core.slots i.0 i.1.0 in
       let it : IsIssue i.0 = subst (λ (o : Option Issue). MatchOption o (Unit {0}) IsIssue) there.is (kept.slots.issues s) in
-      let kind : i.0.work.kind ≡ QueuedRead = ap (λ (w : Work). w.kind) i.1.1 ∙ came.kind in
+      let kind : i.0.work.kind ≡ r = ap (λ (w : Work). w.kind) i.1.1 ∙ came.kind in
       let agrees = told.agrees.issues_agree s i.0 i.1.0 in
-      false≢true (sym (none_came i.0 n k it there.dev kind (sym (ap (holds (is_sent_of (λ dev. dev == n))) there.is) ∙ none)) ∙ agrees.over_is k ∙ came.filled)
+      false≢true (sym (none_came i.0 k it (none i.0 there.is there.dev kind)) ∙ agrees.over_is k ∙ came.filled)
 
-  pub came_at_last : s < 32 → (i : Issue) → issue_at c.core.slots s ≡ Some i → i.dev ≡ n → i.work.kind ≡ QueuedRead → is_over i.over k ≡ true → HasCame s k past
+  pub came_at_last : s < 32 → (i : Issue) → issue_at c.core.slots s ≡ Some i → i.dev ≡ n → i.work.kind ≡ r → is_over i.over k ≡ true → HasCame r s k past
   came_at_last below i is own kind over =
       let mine : own_issue (view_of n c.core).slots s ≡ Some i =
       subst (λ (j : ℕ). own_issue (slots_of j c.core.slots) s ≡ Some i) own
@@ -310,13 +326,91 @@ module _ (n : ℕ) (low : n < 16) (s k : ℕ) (c : ControllerState) (kept : IsCo
       let t = transfer_of (issued s past) i.work (told.issued s ∙ ap (option_map work_of_issue) mine) in
       record { transfer = t.0; is = t.1.0; kind = ap (λ (w : Work). w.kind) t.1.1 ∙ kind; filled = sym ((told.agrees.issues_agree s i mine).over_is k) ∙ over }
 
-pub filled_were_brought : Laws → FilledWereBrought
-filled_were_brought laws n low s below old new events run past told none issue is own kind k over =
-    let first : Behind n s k old.core ⊥ =
-    record { past = past; told = told; back = λ c. none_at_first n low s k old (first_kept events old new run) past told none c } in
-    let last : Behind n s k new.core (Then n s k old events new ⊥) = calls_behind laws n low s k events old new run ⊥ first in
-    by (last.back (came_at_last n low s k new (last_kept events old new run) last.past last.told below issue is own kind over))
+three : (a b c : Bool) → a ≡ true → b ≡ true → c ≡ true → ((a && b) && c) ≡ true
+three true true c e f g = g
+three true false c e f g = absurd (false≢true f)
+three false b c e f g = absurd (false≢true e)
+
+unsent_by : (b x : Bool) → (x ≡ true → b ≡ true) → b ≡ false → x ≡ false
+unsent_by b true then' none = absurd (false≢true (sym none ∙ then' refl))
+unsent_by b false then' none = refl
+
+-- so it is of a queued read
+pub no_queued_read : (n : ℕ) (o : Option Issue) → holds (is_sent_of (λ dev. dev == n)) o ≡ false → (i : Issue) → o ≡ Some i → i.dev ≡ n
+    → i.work.kind ≡ QueuedRead → i.sent ≡ false
+no_queued_read n o none i is own kind =
+    unsent_by (is_sent_of (λ dev. dev == n) i) i.sent
+    (λ sent. three (is_queued i.work.kind) (i.dev == n) i.sent (ap is_queued kind) (eq-eqb i.dev n own) sent)
+    (sym (ap (holds (is_sent_of (λ dev. dev == n))) is) ∙ none)
+
+-- and of a read that is not queued
+pub no_single_read : (r : Kind) (n : ℕ) (o : Option Issue) → is_single_read r ≡ true → holds (is_sent_read n) o ≡ false → (i : Issue) → o ≡ Some i → i.dev ≡ n
+    → i.work.kind ≡ r → i.sent ≡ false
+no_single_read r n o single none i is own kind =
+    unsent_by (is_sent_read n i) i.sent
+    (λ sent. three (is_single_read i.work.kind) (i.dev == n) i.sent (ap is_single_read kind ∙ single) (eq-eqb i.dev n own) sent)
+    (sym (ap (holds (is_sent_read n)) is) ∙ none)
+
+pub single_reads : (r : Kind) → is_single_read r ≡ true → is_read r ≡ true
+single_reads r single = by (is_read r) (not (is_queued r)) single
   where
-    by : Then n s k old events new ⊥ → WasBrought n s k old events new
+    by : (a b : Bool) → (a && b) ≡ true → a ≡ true
+    by true b e = refl
+    by false b e = absurd (false≢true e)
+
+-- over a stretch of calls that begins where none stands
+filled_for : Laws → (r : Kind) → is_read r ≡ true → (n : ℕ) → n < 16 → (s k : ℕ) → s < 32 → (old new : ControllerState) (events : List Event) → Runs old events new
+    → (past : History) → IsTold (view_of n old.core) past
+    → ((i : Issue) → issue_at old.core.slots s ≡ Some i → i.dev ≡ n → i.work.kind ≡ r → i.sent ≡ false)
+    → (issue : Issue) → issue_at new.core.slots s ≡ Some issue → issue.dev ≡ n → issue.work.kind ≡ r → is_over issue.over k ≡ true
+    → WasBroughtFor r n s k old events new
+filled_for laws r reads n low s k below old new events run past told none issue is own kind over =
+    let first : Behind r n s k old.core ⊥ =
+    record { past = past; told = told; back = λ c. none_at_first r n low s k old (first_kept events old new run) past told none c } in
+    let last : Behind r n s k new.core (Then r n s k old events new ⊥) = calls_behind r reads laws n low s k events old new run ⊥ first in
+    by (last.back (came_at_last r n low s k new (last_kept events old new run) last.past last.told below issue is own kind over))
+  where
+    by : Then r n s k old events new ⊥ → WasBroughtFor r n s k old events new
     by (inl none) = absurd none.0
     by (inr b) = b
+
+abbrev pub queued_brings : (n s k : ℕ) (c : ControllerState) (frame : List ℕ) (took : Took) → BringsFor QueuedRead n s k c frame took → Brings n s k c frame took
+queued_brings n s k c frame took b = record {
+  own = b.own;
+  issue = b.issue;
+  is = b.is;
+  dev = b.dev;
+  kind = b.kind_is;
+  calm = b.calm;
+  wrote = b.wrote;
+  brought = b.brought;
+  slot_is = b.slot_is;
+  whole = b.whole;
+  from = b.from;
+  to = b.to;
+}
+
+pub filled_were_brought : Laws → FilledWereBrought
+filled_were_brought laws n low s below old new events run past told none issue is own kind k over =
+    let b =
+    filled_for laws QueuedRead refl n low s k below old new events run past told (no_queued_read n (issue_at old.core.slots s) none) issue is own kind over in
+    record {
+      sooner = b.sooner;
+      mid = b.mid;
+      led = b.led;
+      frame = b.frame;
+      took = b.took;
+      after = b.after;
+      takes = b.takes;
+      later = b.later;
+      rest = b.rest;
+      is = b.is;
+      brings = queued_brings n s k b.mid b.frame b.took b.brings;
+      alone = b.alone;
+      once = b.once;
+    }
+
+pub filled_singles_were_brought : Laws → FilledSinglesWereBrought
+filled_singles_were_brought laws n low s below old new events run past told none issue is own single k over =
+    filled_for laws issue.work.kind (single_reads issue.work.kind single) n low s k below old new events run past told
+    (no_single_read issue.work.kind n (issue_at old.core.slots s) single none) issue is own refl over

@@ -1,21 +1,21 @@
--- Each byte of a queued read that a history of its device has as filled was filled by Data, since the command was issued.
+-- Each byte of a command that a history of its device has as filled was filled by Data, since the command was issued.
 use Rattle.std.proofs.Common.{◌≡◌, ◌⊎◌, ℕ, zero, suc, ◌+◌, ◌-◌, ◌&&◌, Bool, true, false, List, [], ◌∷◌, ◌++◌, length, inl, inr, refl, sym, ap, ◌∙◌}
 use Rattle.std.proofs.Common.{Option, Some, None}
 use Rattle.std.specs.Prelude.{◌==◌, if◌then◌else◌, is_some, nat_le, nat_lt, slice_get}
 use Rattle.std.proofs.lemmas.Bool.{eqb-true, false≢true}
 use Rattle.host_memory.specs.declared.table.Prd.{Prd}
-use Rattle.slots.specs.declared.work.Kind.TheVariants.{QueuedRead}
+use Rattle.slots.specs.declared.work.Kind.{Kind}
 use Rattle.hba_commands.specs.declared.command.Command.{Command}
 use Rattle.hba_laws.specs.Alike.{told_issue, told_issued}
 use Rattle.hba_laws.specs.History as history
 use Rattle.hba_laws.specs.History.{Event, History, Transfer, filled, filled_from, is_at, is_set_up, issued, next_number, none_filled, waiting_in}
 use Rattle.machine_theorem.proofs.SetupHistory.{IsUp, if_not, was_issued}
 
--- what is issued in a slot is a queued read, and its byte k is filled
-pub record HasCame (s k : ℕ) (past : History) : Type 0 where
+-- what is issued in a slot is a command of this kind, and its byte k is filled
+pub record HasCame (r : Kind) (s k : ℕ) (past : History) : Type 0 where
   pub transfer : Transfer
   pub is : issued s past ≡ Some transfer
-  pub kind : transfer.work.kind ≡ QueuedRead
+  pub kind : transfer.work.kind ≡ r
   pub filled : is_some (filled s past k) ≡ true
 
 -- ---- events without Data
@@ -29,24 +29,24 @@ issue_case : (s k : ℕ) (past : History) (b : Bool) (t x : Transfer) → (if b 
 issue_case s k past true t x e f = absurd (false≢true f)
 issue_case s k past false t x e f = (e, f)
 
-pub none_back : (s k : ℕ) (e : Event) (past : History) → HasNoData e → HasCame s k (e ∷ past) → HasCame s k past
-none_back s k (history.Carried bytes) past none c = absurd none
-none_back s k (history.Issued slot t) past none c =
+pub none_back : (r : Kind) (s k : ℕ) (e : Event) (past : History) → HasNoData e → HasCame r s k (e ∷ past) → HasCame r s k past
+none_back r s k (history.Carried bytes) past none c = absurd none
+none_back r s k (history.Issued slot t) past none c =
     let both = issue_case s k past (slot == s) t c.transfer c.is c.filled in
     record { transfer = c.transfer; is = both.0; kind = c.kind; filled = both.1 }
-none_back s k (history.Sent slot) past none c =
+none_back r s k (history.Sent slot) past none c =
     record { transfer = c.transfer; is = was_issued s (history.Sent slot) past c.transfer tt c.is; kind = c.kind; filled = c.filled }
-none_back s k (history.SentControl slot) past none c =
+none_back r s k (history.SentControl slot) past none c =
     record { transfer = c.transfer; is = was_issued s (history.SentControl slot) past c.transfer tt c.is; kind = c.kind; filled = c.filled }
-none_back s k (history.SetUp tag offset count to_host) past none c =
+none_back r s k (history.SetUp tag offset count to_host) past none c =
     record { transfer = c.transfer; is = was_issued s (history.SetUp tag offset count to_host) past c.transfer tt c.is; kind = c.kind; filled = c.filled }
-none_back s k (history.PioSetUp count to_host ends) past none c =
+none_back r s k (history.PioSetUp count to_host ends) past none c =
     record { transfer = c.transfer; is = was_issued s (history.PioSetUp count to_host ends) past c.transfer tt c.is; kind = c.kind; filled = c.filled }
-none_back s k history.Answered past none c =
+none_back r s k history.Answered past none c =
     record { transfer = c.transfer; is = was_issued s history.Answered past c.transfer tt c.is; kind = c.kind; filled = c.filled }
-none_back s k (history.Named mask) past none c =
+none_back r s k (history.Named mask) past none c =
     record { transfer = c.transfer; is = was_issued s (history.Named mask) past c.transfer tt c.is; kind = c.kind; filled = c.filled }
-none_back s k history.Emptied past none c =
+none_back r s k history.Emptied past none c =
     record { transfer = c.transfer; is = was_issued s history.Emptied past c.transfer tt c.is; kind = c.kind; filled = c.filled }
 
 -- a list of them
@@ -54,9 +54,9 @@ abbrev pub HaveNoData : History → Type 0
 HaveNoData [] = Unit {0}
 HaveNoData (e ∷ past) = HasNoData e × HaveNoData past
 
-pub list_back : (s k : ℕ) (h past : History) → HaveNoData h → HasCame s k (h ++ past) → HasCame s k past
-list_back s k [] past none c = c
-list_back s k (e ∷ h) past none c = list_back s k h past none.1 (none_back s k e (h ++ past) none.0 c)
+pub list_back : (r : Kind) (s k : ℕ) (h past : History) → HaveNoData h → HasCame r s k (h ++ past) → HasCame r s k past
+list_back r s k [] past none c = c
+list_back r s k (e ∷ h) past none c = list_back r s k h past none.1 (none_back r s k e (h ++ past) none.0 c)
 
 pub both_none : (xs ys : History) → HaveNoData xs → HaveNoData ys → HaveNoData (xs ++ ys)
 both_none [] ys a b = b
@@ -87,25 +87,26 @@ filled_case : (k from : ℕ) (bytes : List ℕ) (f : ℕ → Option ℕ) (b : Bo
 filled_case k from bytes f true e is = inl e
 filled_case k from bytes f false e is = inr (ap (λ (x : Bool). is_some (if x then slice_get bytes (k - from) else f k)) (sym e) ∙ is)
 
--- The byte is one of these, or it was filled before.
-pub carried_back : (s k : ℕ) (bytes : List ℕ) (past : History) → HasCame s k (history.Carried bytes ∷ past)
-    → (IsUp QueuedRead s past × IsIn (next_number past) (length bytes) k) ⊎ HasCame s k past
-carried_back s k bytes past c = by (is_set_up s past) refl c.filled
+-- The byte is one of these, or it was filled before. So it is too where the Data end the command.
+pub filled_back : (r : Kind) (s k : ℕ) (bytes : List ℕ) (past : History) (t : Transfer) → issued s past ≡ Some t → t.work.kind ≡ r
+    → is_some (filled s (history.Carried bytes ∷ past) k) ≡ true → (IsUp r s past × IsIn (next_number past) (length bytes) k) ⊎ HasCame r s k past
+filled_back r s k bytes past t was kind f = by (is_set_up s past) refl f
   where
-    was : issued s past ≡ Some c.transfer
-    was = was_issued s (history.Carried bytes) past c.transfer tt c.is
-
-    before : is_some (filled s past k) ≡ true → HasCame s k past
-    before f = record { transfer = c.transfer; is = was; kind = c.kind; filled = f }
+    before : is_some (filled s past k) ≡ true → HasCame r s k past
+    before f = record { transfer = t; is = was; kind = kind; filled = f }
 
     by : (b : Bool) → is_set_up s past ≡ b → is_some ((if b then filled_from (next_number past) bytes (filled s past) else filled s past) k) ≡ true
-        → (IsUp QueuedRead s past × IsIn (next_number past) (length bytes) k) ⊎ HasCame s k past
+        → (IsUp r s past × IsIn (next_number past) (length bytes) k) ⊎ HasCame r s k past
     by false e f = inr (before f)
     by true e f =
         elim (filled_case k (next_number past) bytes (filled s past) (nat_le (next_number past) k && nat_lt k (next_number past + length bytes)) refl f) [
-          | inl here ↦ inl (record { transfer = c.transfer; is = was; up = e; kind = c.kind }, here)
+          | inl here ↦ inl (record { transfer = t; is = was; up = e; kind = kind }, here)
           | inr then' ↦ inr (before then')
         ]
+
+pub carried_back : (r : Kind) (s k : ℕ) (bytes : List ℕ) (past : History) → HasCame r s k (history.Carried bytes ∷ past)
+    → (IsUp r s past × IsIn (next_number past) (length bytes) k) ⊎ HasCame r s k past
+carried_back r s k bytes past c = filled_back r s k bytes past c.transfer (was_issued s (history.Carried bytes) past c.transfer tt c.is) c.kind c.filled
 
 -- ---- one slot is set up
 

@@ -12,6 +12,7 @@ use Rattle.machine_laws.specs.Falling.{AllLast, HasLink}
 use Rattle.machine_theorem.specs.FirstDeeds.{AtSome, begins_ruled, first_deeds, first_run, machine_at}
 use Rattle.machine_theorem.specs.Identity.{AllKeep, IsThere, calls_of}
 use Rattle.machine_theorem.specs.Orders.{fallen_in, ordered_in}
+use Rattle.machine_theorem.specs.OwnSlots.{AllKeepLine}
 use Rattle.machine_theorem.specs.ReadBack.{Falls, FallsAt, FallsBy, IsFree}
 
 -- ---- what the guest keeps to
@@ -37,6 +38,16 @@ pub keeps_to : (many : Bool) (n tag k : ℕ) (deeds : List Deed) (old now : Mach
 keeps_to many n tag zero deeds old now run keeps = there_first many n tag deeds old now run keeps
 keeps_to many n tag (suc k) [] old now run keeps = keeps
 keeps_to many n tag (suc k) (deed ∷ later) old now run keeps = (keeps.0, keeps_to many n tag k later run.1.0 now run.1.2 keeps.1)
+
+line_there : (many : Bool) (n c dev : ℕ) (deeds : List Deed) (old now : MachineState) (run : RunsRuled old deeds now) → AllKeepLine many n c dev old deeds now run → IsThere many n old
+line_there many n c dev [] old now run keeps = keeps
+line_there many n c dev (deed ∷ later) old now run keeps = keeps.0.end
+
+pub line_to : (many : Bool) (n c dev k : ℕ) (deeds : List Deed) (old now : MachineState) (run : RunsRuled old deeds now) → AllKeepLine many n c dev old deeds now run
+    → AllKeepLine many n c dev old (first_deeds k deeds) (machine_at k old deeds now run) (first_run k old deeds now run)
+line_to many n c dev zero deeds old now run keeps = line_there many n c dev deeds old now run keeps
+line_to many n c dev (suc k) [] old now run keeps = keeps
+line_to many n c dev (suc k) (deed ∷ later) old now run keeps = (keeps.0, line_to many n c dev k later run.1.0 now run.1.2 keeps.1)
 
 -- ---- what is counted
 

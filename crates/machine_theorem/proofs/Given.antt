@@ -114,12 +114,12 @@ taken_data laws p limit done tag len low are goes =
     let queued : IsQueued (host_of new_host done) tag = queued_by (host_of new_host done) tag (nat_lt tag 32) refl low due in
     (laws.under_way p limit done are).queued tag low queued.2 ∙ queued.1
 
-record HasNext (x : Option Page) (part : List ℕ) : Type 0 where
-  page : Page
-  is : x ≡ Some page
-  next : AreNext page.ledger part
+pub record HasNext (x : Option Page) (part : List ℕ) : Type 0 where
+  pub page : Page
+  pub is : x ≡ Some page
+  pub next : AreNext page.ledger part
 
-has_next : (x : Option Page) (part : List ℕ) → AreOfPage x part → HasNext x part
+pub has_next : (x : Option Page) (part : List ℕ) → AreOfPage x part → HasNext x part
 has_next None part next = absurd next
 has_next (Some page) part next = record { page = page; is = refl; next = next }
 

@@ -1,10 +1,9 @@
 -- The disk heard a read behind the end of a write. As many commands of the read's tag ended before a moment as FISes with the tag were heard before the write
 -- ended, so the one that asked for what is under way at this moment is none of these.
-use Rattle.std.proofs.Common.{◌≡◌, ℕ, ◌+◌, ◌<◌, ◌≤◌, true, List, [], ◌∷◌, ◌++◌, append_assoc, Some, sym, ap, subst, ◌∙◌, inl, inr, arith}
+use Rattle.std.proofs.Common.{◌≡◌, ℕ, ◌+◌, ◌<◌, ◌≤◌, true, List, [], ◌∷◌, ◌++◌, append_assoc, Some, sym, ap, subst, ◌∙◌, arith}
 use Rattle.fis_view.specs.Frames.{Stamped}
 use Rattle.block_command.specs.declared.command.Command.{Command}
 use Rattle.block_queue.specs.Line.{command_at}
-use Rattle.disk_pages.specs.declared.profile.Profile.{Profile}
 use Rattle.sata_disk.specs.State.{DiskState, commands, is_taken, new_disk}
 use Rattle.sata_disk.specs.declared.out.Out.TheVariants as out
 use Rattle.sata_disk_laws.specs.Calls.{AreCalls, Call, Hears, Sends}
@@ -23,7 +22,7 @@ use Rattle.machine_theorem.specs.ReadBack.{IsUntouched}
 use Rattle.machine_theorem.specs.Tags.{ended_with, heard_with, once_if}
 use Rattle.machine_theorem.proofs.EndsFew.{disk_same}
 use Rattle.machine_theorem.proofs.FirstDeeds.{Fell, calls_to, falls_to, keeps_to, lasts_to, linked_to, orders_to}
-use Rattle.machine_theorem.proofs.HeardBehind.{heard_behind, honest_first, taken_at}
+use Rattle.machine_theorem.proofs.HeardBehind.{heard_behind, honest_first, spared, taken_at}
 use Rattle.machine_theorem.proofs.Stretch.{Fall, Stretch, calls, counts, falls, has_disk, was_free}
 use Rattle.machine_theorem.proofs.TagCounts.{Counted, Since, counted, held_of_taken, one_call_more}
 use Rattle.machine_theorem.proofs.TagKept.{held_at}
@@ -78,11 +77,6 @@ fall s r k f it = record {
 }
 
 -- ---- what is heard
-
-spared : UndisturbedIsSpared → (p : Profile) (limit : ℕ) (first later : List Call) (s : ℕ) → AreCalls (new_disk p limit) (first ++ later)
-    → IsUntouched p limit first later s → AreSparing (reached p limit first) s later
-spared law p limit first later s are (inl sparing) = sparing
-spared law p limit first later s are (inr alone) = law p limit first later s are alone
 
 -- s is the stretch of the write's tag, u of the read's; the write ended within the first deeds of it, and behind them slot r is free; v is a beginning of u, in
 -- which no fewer commands of the tag ended than its bit falls in u, and at whose end one is under way

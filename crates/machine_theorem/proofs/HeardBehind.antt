@@ -1,5 +1,5 @@
 -- The calls of a disk: what is heard behind a call, the command that is taken by it, and a medium that is honest over the first of them.
-use Rattle.std.proofs.Common.{◌≡◌, ℕ, ◌+◌, ◌<◌, ◌≤◌, true, false, List, [], ◌∷◌, ◌++◌, append_assoc, refl, sym, ap, subst, ◌∙◌, arith}
+use Rattle.std.proofs.Common.{◌≡◌, ℕ, ◌+◌, ◌<◌, ◌≤◌, true, false, List, [], ◌∷◌, ◌++◌, append_assoc, refl, sym, ap, subst, ◌∙◌, inl, inr, arith}
 use Rattle.std.specs.Prelude.{Bool, Ok, nat_lt}
 use Rattle.std.proofs.lemmas.Bool.{lt-ltb}
 use Rattle.fis_view.specs.Seen.{seen}
@@ -17,8 +17,9 @@ use Rattle.sata_disk.specs.State.{DiskState, commands, is_taken, new_disk}
 use Rattle.sata_disk.specs.declared.out.Out.{Out}
 use Rattle.sata_disk_laws.specs.Calls.{AreCalls, Call, Hears, Sends, act_steps, after_call, after_calls, fis_steps, steps_of}
 use Rattle.sata_disk_laws.specs.Laws.{reached}
-use Rattle.sata_disk_media.specs.Laws.{IsTakenAt}
+use Rattle.sata_disk_media.specs.Laws.{AreSparing, IsTakenAt, UndisturbedIsSpared}
 use Rattle.sata_disk_media.specs.Media.{IsHonest}
+use Rattle.machine_theorem.specs.ReadBack.{IsUntouched}
 use Rattle.machine_theorem.specs.Tags.{ended_with, heard_with, hears_with}
 use Rattle.machine_theorem.proofs.TagCounts.{Laws, Since, all_heard, counted, ended_both, first_calls, held_of_taken}
 
@@ -54,7 +55,7 @@ takes_by d c (act.Takes k) e = cc
 takes_by d c act.Flushes e = absurd (cc)
 takes_by d c act.Resets e = absurd (cc)
 
-takes_of : (d : DiskState) (bytes fis : List ℕ) (c : Command) → seen bytes ≡ Ok (view.RegH2D fis) → steps_of d (Hears bytes) ≡ engine.Takes c ∷ []
+pub takes_of : (d : DiskState) (bytes fis : List ℕ) (c : Command) → seen bytes ≡ Ok (view.RegH2D fis) → steps_of d (Hears bytes) ≡ engine.Takes c ∷ []
     → (register_told d fis).act ≡ act.Takes c
 takes_of d bytes fis c viewed is = takes_by d c (register_told d fis).act (sym (ap (fis_steps d) viewed) ∙ is)
 
@@ -62,7 +63,7 @@ queued_no_verify : (x : Protocol) → is_queued x ≡ true → is_verify x ≡ f
 queued_no_verify protocol.Queued e = refl
 queued_no_verify other e = absurd (cc)
 
-calls_then : (xs ys : List Call) (d : DiskState) → AreCalls d (xs ++ ys) → AreCalls (after_calls d xs) ys
+pub calls_then : (xs ys : List Call) (d : DiskState) → AreCalls d (xs ++ ys) → AreCalls (after_calls d xs) ys
 unfolding after_calls
 calls_then [] ys d are = are
 calls_then (x ∷ xs) ys d are = calls_then xs ys (after_call d x) are.1
@@ -113,6 +114,11 @@ module _ (laws : Laws) (p : Profile) (limit : ℕ) (base : List Call) (tag : ℕ
       queued_no_verify c.protocol (takes.2 ∙ ap (λ (n : ℕ). nat_lt n 32) s.place ∙ lt-ltb tag 32 low)
 
 -- ---- its medium
+
+pub spared : UndisturbedIsSpared → (p : Profile) (limit : ℕ) (first later : List Call) (s : ℕ) → AreCalls (new_disk p limit) (first ++ later)
+    → IsUntouched p limit first later s → AreSparing (reached p limit first) s later
+spared law p limit first later s are (inl sparing) = sparing
+spared law p limit first later s are (inr alone) = law p limit first later s are alone
 
 pub honest_first : (p : Profile) (limit : ℕ) (xs ys : List Call) → IsHonest p limit (xs ++ ys) → IsHonest p limit xs
 honest_first p limit xs ys honest first middle later r a is = honest first middle (later ++ ys) r a (ap (λ (l : List Call). l ++ ys) is ∙ append_assoc _ _ ys)

@@ -66,7 +66,7 @@ pub record Laws : Type 0 where
 
 -- ---- a stretch
 
-lost_first : (dev : ℕ) (xs ys : List Event) → NoneLost dev (xs ++ ys) → NoneLost dev xs
+pub lost_first : (dev : ℕ) (xs ys : List Event) → NoneLost dev (xs ++ ys) → NoneLost dev xs
 lost_first dev [] ys none = tt
 lost_first dev (call.Left frame why ∷ xs) ys none = (none.0, lost_first dev xs ys none.1)
 lost_first dev (call.Took frame took ∷ xs) ys none = lost_first dev xs ys none
@@ -79,7 +79,7 @@ lost_first dev (call.Said write ∷ xs) ys none = lost_first dev xs ys none
 lost_first dev (call.Gathered d number frame fed ∷ xs) ys none = lost_first dev xs ys none
 lost_first dev (call.NotThere d number fed ∷ xs) ys none = lost_first dev xs ys none
 
-payload_is : (b v : List ℕ) → seen b ≡ Ok (view.Payload v) → is_data b ≡ true
+pub payload_is : (b v : List ℕ) → seen b ≡ Ok (view.Payload v) → is_data b ≡ true
 payload_is b v is = ap is_payload is
 
 -- the Data that were heard, and the one that is to be heard, are some of those that were sent
@@ -143,9 +143,9 @@ module _ (many : Bool) (n c dev : ℕ) (at : MachineState) (deeds : List Deed) (
 
 -- ---- what the disk said
 
-record Extra (xs ys : List Sign) : Type 0 where
-  rest : List Sign
-  is : xs ≡ ys ++ rest
+pub record Extra (xs ys : List Sign) : Type 0 where
+  pub rest : List Sign
+  pub is : xs ≡ ys ++ rest
 
 -- what had come until a moment of the stretch is a beginning of what the disk says in all of it
 module _ (laws : Laws) (ports : ℕ) (legacy : Bool) (old : MachineState) (opening : IsOpeningMachine ports legacy old) (before : List Deed) (at : MachineState) (first : RunsRuled old before at)
@@ -173,7 +173,7 @@ module _ (laws : Laws) (ports : ℕ) (legacy : Bool) (old : MachineState) (openi
       begins n c at mid was all (came_of at sooner mid led) (sent_of at sooner mid led) (laws.order at was risen_at n c low) (laws.order mid all risen_mid n c low)
       (frames_are sooner at mid led was (linked many n c dev sooner at mid led keeps)) begins_at.way begins_at.lasts
 
-  up_first : (sooner : List Deed) (mid : MachineState) (led : RunsRuled at sooner mid) → AllKeepLine many n c dev at sooner mid led → NoneLost dev (calls_in at sooner mid led)
+  pub up_first : (sooner : List Deed) (mid : MachineState) (led : RunsRuled at sooner mid) → AllKeepLine many n c dev at sooner mid led → NoneLost dev (calls_in at sooner mid led)
       → (later : List Stamped) → sent_of at deeds now run ≡ sent_of at sooner mid led ++ later → (said : List Sign) → said ≡ signs_in (of_conn n c (sent_of at deeds now run))
       → Extra said (ups (events_steps dev (calls_in at sooner mid led)))
   up_first sooner mid led keeps lost later is said says =
@@ -189,7 +189,7 @@ module _ (laws : Laws) (ports : ℕ) (legacy : Bool) (old : MachineState) (openi
 
 -- ---- the law
 
-size_within : (hs front : List (List ℕ)) (one two : List ℕ) → one ≡ sizes hs → two ≡ sizes front → Within hs (map as_heard front) → Within one two
+pub size_within : (hs front : List (List ℕ)) (one two : List ℕ) → one ≡ sizes hs → two ≡ sizes front → Within hs (map as_heard front) → Within one two
 size_within hs front one two is same within =
     subst (λ l. Within l two) (sym is) (subst (λ l. Within (sizes hs) l) (sizes_heard front ∙ sym same) (within_map size hs (map as_heard front) within))
 

@@ -63,7 +63,7 @@ record Waits (s : ℕ) (past : History) : Type 0 where
   waits : waiting_in past ≡ Some s
 
 -- an event by which it does so still
-abbrev Leaves : (s : ℕ) → Event → Type 0
+abbrev pub Leaves : (s : ℕ) → Event → Type 0
 Leaves s (history.Issued slot t) = (slot == s) ≡ false
 Leaves s (history.Sent slot) = ⊥
 Leaves s (history.SentControl slot) = (slot == s) ≡ false
@@ -71,11 +71,11 @@ Leaves s history.Answered = ⊥
 Leaves s history.Emptied = ⊥
 Leaves s e = Unit {0}
 
-abbrev AllLeave : (s : ℕ) → History → Type 0
+abbrev pub AllLeave : (s : ℕ) → History → Type 0
 AllLeave s [] = Unit {0}
 AllLeave s (e ∷ past) = Leaves s e × AllLeave s past
 
-named_none : (a q b : Bool) → q ≡ false → (a && (q && b)) ≡ false
+pub named_none : (a q b : Bool) → q ≡ false → (a && (q && b)) ≡ false
 named_none a true b e = absurd (cc)
 named_none true false b e = refl
 named_none false false b e = refl
@@ -85,11 +85,11 @@ carried_none a true c d e = absurd (cc)
 carried_none true false c d e = refl
 carried_none false false c d e = refl
 
-kept_some : (o : Option Transfer) (t : Transfer) (f : Transfer → Bool) → o ≡ Some t → f t ≡ false → match_some o None (λ x. unless (f x) (Some x)) ≡ Some t
+pub kept_some : (o : Option Transfer) (t : Transfer) (f : Transfer → Bool) → o ≡ Some t → f t ≡ false → match_some o None (λ x. unless (f x) (Some x)) ≡ Some t
 kept_some o t f is none =
     ap (λ (p : Option Transfer). match_some p None (λ x. unless (f x) (Some x))) is ∙ ap (λ (b : Bool). unless b (Some t)) none
 
-if_other : (b : Bool) (o p : Option Transfer) → b ≡ false → (if b then o else p) ≡ p
+pub if_other : (b : Bool) (o p : Option Transfer) → b ≡ false → (if b then o else p) ≡ p
 if_other true o p e = absurd (cc)
 if_other false o p e = refl
 
@@ -100,7 +100,7 @@ not_at slot s apart = by (s == slot) refl
     by true e = absurd (false≢true (sym apart ∙ eq-eqb slot s (sym (eqb-true s slot e))))
     by false e = refl
 
-still_waits : (slot s : ℕ) (o : Option ℕ) → o ≡ Some s → (slot == s) ≡ false → unless (is_at slot o) o ≡ Some s
+pub still_waits : (slot s : ℕ) (o : Option ℕ) → o ≡ Some s → (slot == s) ≡ false → unless (is_at slot o) o ≡ Some s
 still_waits slot s o is apart =
     ap (λ (p : Option ℕ). unless (is_at slot p) p) is ∙ ap (λ (b : Bool). unless b (Some s)) (not_at slot s apart)
 
@@ -200,7 +200,7 @@ IsQuietTurn s n port (Orders dev slot command) = (dev == n) ≡ true → (holds 
 IsQuietTurn s n port turn = Unit {0}
 
 -- what is no write, and no answer of the device, and sends it no command
-abbrev IsQuiet : (s n : ℕ) → Port → CoreEvent → Type 0
+abbrev pub IsQuiet : (s n : ℕ) → Port → CoreEvent → Type 0
 IsQuiet s n port (core.Took frame room report) = (port_of frame == n) ≡ true → is_answering frame ≡ false
 IsQuiet s n port (core.Placed dev slots offer tables) = has_bit slots s ≡ false
 IsQuiet s n port (core.Chose turn bytes) = IsQuietTurn s n port turn
@@ -232,7 +232,7 @@ if_none : (s : ℕ) (b : Bool) → b ≡ false → AllLeave s (if b then history
 if_none s true e = absurd (cc)
 if_none s false e = tt
 
-event_leaves : (s n : ℕ) (port : Port) (e : CoreEvent) → IsQuiet s n port e → AllLeave s (happened n port e)
+pub event_leaves : (s n : ℕ) (port : Port) (e : CoreEvent) → IsQuiet s n port e → AllLeave s (happened n port e)
 event_leaves s n port (core.Took frame room report) quiet =
     if_leaves s (port_of frame == n) (match_some (event_by port room frame) [] (λ e. e ∷ [])) (λ same. some_leaves s (event_by port room frame) (fis_mild port room frame (quiet same)))
 event_leaves s n port (core.Placed dev slots offer tables) quiet =
@@ -242,7 +242,7 @@ event_leaves s n port (core.Greeted frame report) quiet = tt
 event_leaves s n port (core.Commanded value) quiet = if_none s (falls port.registers value) quiet
 event_leaves s n port other quiet = absurd quiet
 
-abbrev AllQuiet : (s n : ℕ) → (old : Port) → (events : List CoreEvent) → (new : Port) → RunsBy old events new → Type 0
+abbrev pub AllQuiet : (s n : ℕ) → (old : Port) → (events : List CoreEvent) → (new : Port) → RunsBy old events new → Type 0
 AllQuiet s n old [] new run = Unit {0}
 AllQuiet s n old (e ∷ later) new run = IsQuiet s n old e × AllQuiet s n run.0 later new run.2
 
@@ -332,17 +332,17 @@ fed_quiet : (s n : ℕ) (fed : Fed) (old : ControllerState) (dev : ℕ) (frame :
 fed_quiet s n (fed_answer.Goes message line) old dev frame new run = (feeds_quiet s n old.core dev (payload (context_of old.core.slots dev)), tt)
 fed_quiet s n other old dev frame new run = tt
 
-abbrev IsNoWrite : Call → Type 0
+abbrev pub IsNoWrite : Call → Type 0
 IsNoWrite (call.Wrote offset value written) = ⊥
 IsNoWrite (call.WroteWide offset width value written) = ⊥
 IsNoWrite e = Unit {0}
 
 -- a slot whose command was sent
-record IsSentThere (s : ℕ) (c : ControllerState) : Type 0 where
-  issue : Issue
-  is : issue_at c.core.slots s ≡ Some issue
-  sent : issue.sent ≡ true
-  low : s < 32
+pub record IsSentThere (s : ℕ) (c : ControllerState) : Type 0 where
+  pub issue : Issue
+  pub is : issue_at c.core.slots s ≡ Some issue
+  pub sent : issue.sent ≡ true
+  pub low : s < 32
 
 some_same : (o : Option Issue) (i j : Issue) → o ≡ Some i → o ≡ Some j → i ≡ j
 some_same o i j a b = by (sym a ∙ b)
@@ -374,7 +374,7 @@ none_issued s e old new k does there = by (issues_in s e) refl
         none e = cc
     by false is = refl
 
-call_quiet : (s n : ℕ) (e : Call) (old new : ControllerState) (does : Does old e new) (run : RunsBy old.core (of_event old e new does) new.core) → IsController old → IsNoWrite e
+pub call_quiet : (s n : ℕ) (e : Call) (old new : ControllerState) (does : Does old e new) (run : RunsBy old.core (of_event old e new does) new.core) → IsController old → IsNoWrite e
     → is_commanded n old e ≡ false → is_answered n e ≡ false → IsSentThere s old → AllQuiet s n old.core (of_event old e new does) new.core run
 call_quiet s n (call.Wrote offset value written) old new does run k plain none free there = absurd plain
 call_quiet s n (call.WroteWide offset width value written) old new does run k plain none free there = absurd plain
@@ -390,15 +390,15 @@ call_quiet s n (call.NotThere dev number fed) old new does run k plain none free
 
 -- ---- the slot that waits
 
-of_issue : (o : Option Transfer) (w : Work) → option_map work_of_transfer o ≡ Some w → (t : Transfer) × ((o ≡ Some t) × (t.work ≡ w))
+pub of_issue : (o : Option Transfer) (w : Work) → option_map work_of_transfer o ≡ Some w → (t : Transfer) × ((o ≡ Some t) × (t.work ≡ w))
 of_issue None w e = absurd (cc)
 of_issue (Some t) w e = (t, (refl, cc))
 
-at_some : (s : ℕ) (o : Option ℕ) → is_at s o ≡ true → o ≡ Some s
+pub at_some : (s : ℕ) (o : Option ℕ) → is_at s o ≡ true → o ≡ Some s
 at_some s None e = absurd (cc)
 at_some s (Some k) e = ap (λ (j : ℕ). Some j) (eqb-true k s e)
 
-sent_if : (a b : Bool) → (a && not b) ≡ true → a ≡ true
+pub sent_if : (a b : Bool) → (a && not b) ≡ true → a ≡ true
 sent_if true b e = refl
 sent_if false b e = absurd (cc)
 

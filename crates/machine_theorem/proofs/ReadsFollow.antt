@@ -1,42 +1,32 @@
 -- Read after write, as the guest sees it: a read that it sees completed.
-use Rattle.std.proofs.Common.{◌≡◌, ℕ, ◌+◌, ◌<◌, true, false, List, [], ◌∷◌, ◌++◌, append_assoc, sym, ap, subst, ◌∙◌, arith}
-use Rattle.std.specs.Prelude.{nat_le, nat_lt}
-use Rattle.std.proofs.lemmas.Bool.{and_parts, leb-true, ltb-true}
+use Rattle.std.proofs.Common.{◌≡◌, ℕ, ◌<◌, ◌≤◌, true, false, List, [], ◌∷◌, ◌++◌, append_assoc, sym, ap, subst, ◌∙◌, arith}
 use Rattle.fis_view.specs.Frames.{Stamped}
 use Rattle.block_command.specs.declared.command.Command.{Command}
 use Rattle.block_command.specs.Laws.{IsEarned, ReadIsEarned}
 use Rattle.block_command.specs.Moments.{is_verify}
-use Rattle.block_disk.specs.Laws.{Page}
 use Rattle.sata_disk.specs.State.{commands, is_taken, new_disk}
 use Rattle.sata_disk.specs.declared.out.Out.TheVariants as out
 use Rattle.sata_disk_laws.specs.Calls.{AreCalls, Call, Sends}
 use Rattle.sata_disk_laws.specs.Laws.{reached}
-use Rattle.sata_disk_media.specs.Cells.{covers, sector_of}
-use Rattle.sata_disk_media.specs.Laws.{GivenIsWritten, HasGiven, UndisturbedIsSpared}
+use Rattle.sata_disk_media.specs.Cells.{sector_of}
+use Rattle.sata_disk_media.specs.Laws.{GivenIsWritten, UndisturbedIsSpared}
 use Rattle.sata_disk_media.specs.Media.{IsHonest}
 use Rattle.machine_theorem.specs.Completions.{IsDone}
 use Rattle.machine_theorem.specs.FirstDeeds.{first_deeds, first_run, machine_at}
 use Rattle.machine_theorem.specs.Identity.{AllKeep, IsAtRest, calls_of, own_of}
 use Rattle.machine_theorem.specs.ReadsFollow.{CompletedReadsFollowWrites, IsFollowed, IsFollowing}
+use Rattle.machine_theorem.specs.Tags.{ended_with}
 use Rattle.machine_theorem.specs.Writes.{WritesAreSupplied}
 use Rattle.machine_theorem.proofs.AsSupplied as supplied
 use Rattle.machine_theorem.proofs.FirstDeeds.{Fell, fell}
 use Rattle.machine_theorem.proofs.HeardAfter.{Part, behind_of, fall, heard, to, with_tag}
 use Rattle.machine_theorem.proofs.HeardBehind.{taken_queued}
-use Rattle.machine_theorem.proofs.Stretch.{Fall, Stretch, calls, has_disk, was_free}
+use Rattle.machine_theorem.proofs.HeardSince.{has_given}
+use Rattle.machine_theorem.proofs.Stretch.{Fall, Stretch, calls, falls, has_disk, was_free}
 use Rattle.machine_theorem.proofs.TagCounts.{ends_it, first_calls}
 use Rattle.machine_theorem.proofs.TagPages.{page_same}
 use Rattle.machine_theorem.proofs.TheirSlots.{EndsIn, ends_in, is_done}
 use Rattle.machine_theorem.proofs.WrittenSupplied.{written_supplied}
-
--- all sectors of a read that earned its end were given
-has_given : (g : Page) (s : ℕ) → ReadIsEarned g.command g.ledger → covers g.command.lba g.command.count s ≡ true → HasGiven g s
-has_given g s earned covered =
-    let both = and_parts (nat_le g.command.lba s) (nat_lt s (g.command.lba + g.command.count)) covered in
-    let least = leb-true g.command.lba s both.0 in
-    let most = ltb-true s (g.command.lba + g.command.count) both.1 in
-    let all = earned.all in
-    record { first = least; last = omega (arith, least, most, all) }
 
 module _ (laws : supplied.Laws) (given : GivenIsWritten) (undisturbed : UndisturbedIsSpared) (writes : WritesAreSupplied)
     (s : Stretch) (r : ℕ) (low : r < 32) (rest : IsAtRest s.many s.n r s.old s.before s.at s.first) (keeps : AllKeep s.many s.n r s.at s.deeds s.now s.run)
@@ -95,18 +85,25 @@ module _ (laws : supplied.Laws) (given : GivenIsWritten) (undisturbed : Undistur
             (b.behind sector is_write covered untouched) read.books (has_given read.page sector earned has);
       }
 
-  pub followed : IsFollowed s.many s.n s.tag r s.old s.before s.at s.first (to s k).deeds (to s k).now
-      (to s k).run s.deeds s.now s.run s.p s.limit s.base end finish
+  -- No more bits of the write's slot fell until then than commands had ended before it.
+  pub record Followed : Type 0 where
+    pub all : IsFollowed s.many s.n s.tag r s.old s.before s.at s.first (to s k).deeds (to s k).now (to s k).run s.deeds s.now s.run s.p s.limit s.base end finish
+    pub fell : falls (to s k) ≤ ended_with s.tag (calls_of s.n s.at all.written.end.before all.written.end.moment all.written.end.first)
+
+  pub followed : Followed
   followed = record {
-    written = done;
-    supplied = λ new. written_supplied writes (to s k) end done (ends.keeps s.tag (to s k).keeps) new;
-    read = read;
-    follows = follows;
+    all = record {
+      written = done;
+      supplied = λ new. written_supplied writes (to s k) end done (ends.keeps s.tag (to s k).keeps) new;
+      read = read;
+      follows = follows;
+    };
+    fell = ends.fell;
   }
 
 pub reads_follow : supplied.Laws → GivenIsWritten → UndisturbedIsSpared → WritesAreSupplied → CompletedReadsFollowWrites
 reads_follow laws given undisturbed writes ports legacy old opening before at first many n w r below w_low r_low rest rest_r deeds now run linked lasts
-    keeps keeps_r p limit base are same honest k end falls took new does rules fell_r =
+    keeps keeps_r p limit base are same honest k end fall_w took new does rules fell_r =
     let s : Stretch = record {
       ports = ports;
       legacy = legacy;
@@ -134,7 +131,7 @@ reads_follow laws given undisturbed writes ports legacy old opening before at fi
       same = same;
     } in
     let u : Stretch = with_tag s r r_low rest_r keeps_r in
-    let it : Fell (own_of many n) w r end k at deeds now run = fell (own_of many n) w r end k deeds at now run falls in
+    let it : Fell (own_of many n) w r end k at deeds now run = fell (own_of many n) w r end k deeds at now run fall_w in
     let there_fall : Fall (to s k) = fall s r k end it in
     let last : Fall u = record {
       took = took;
@@ -150,4 +147,4 @@ reads_follow laws given undisturbed writes ports legacy old opening before at fi
     subst (λ (x : Stamped). IsFollowed many n w r old before at first (first_deeds k deeds) (machine_at k at deeds now run)
     (first_run k at deeds now run) deeds now run p limit base x does.does.frame) it.frame
     (followed laws given undisturbed writes s r r_low rest_r keeps_r k end it there_fall.does.does.frame (is_done laws (to s k) there_fall)
-    (ends_in laws (to s k) there_fall) honest does.does.frame (is_done laws u last) (ends_in laws u last))
+    (ends_in laws (to s k) there_fall) honest does.does.frame (is_done laws u last) (ends_in laws u last)).all

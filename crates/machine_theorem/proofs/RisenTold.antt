@@ -15,6 +15,7 @@ use Rattle.multiplier.specs.Passing.{of_conn}
 use Rattle.sata_disk_books.specs.Counted.{Counted, more_by}
 use Rattle.sata_disk_books.specs.Fises.{told_after, told_by}
 use Rattle.machine_laws.specs.Rising.{risen}
+use Rattle.machine_theorem.specs.SingleNumbers.{since_after, since_by}
 use Rattle.machine_theorem.proofs.Sent.{marked_type}
 
 set_kept : (f : List ℕ) (v i n : ℕ) → 16 ≤ i → bits (slice_set f 1 v) i n ≡ bits f i n
@@ -61,12 +62,43 @@ pub risen_told : (fan : FanOut) (n : ℕ) (f : Stamped) (u : Option Counted) →
 risen_told (Device s) n f u = told_marked f.bytes s.asked u
 risen_told (Multiplier g) n f u = told_marked f.bytes n u
 
+-- so it is of the bytes of Data since the last answer
+since_kind : (kind : Kind) (b : Bool) (f : List ℕ) (port t : ℕ)
+    → since_by (if b then Ok (view_as kind (marked f port)) else Err WrongLength) t ≡ since_by (if b then Ok (view_as kind f) else Err WrongLength) t
+since_kind kind false f port t = refl
+since_kind table.Data true f port t = ap (λ k. t + (k - 4)) (length-set f 1 (slice_index f 1 / 16 * 16 + port))
+since_kind table.Setup true f port t = refl
+since_kind table.H2d true f port t = refl
+since_kind table.D2h true f port t = refl
+since_kind table.Activate true f port t = refl
+since_kind table.Pio true f port t = refl
+since_kind table.Bits true f port t = refl
+since_kind table.Other true f port t = refl
+
+since_marked : (f : List ℕ) (port t : ℕ) → since_by (seen (marked f port)) t ≡ since_by (seen f) t
+unfolding seen
+since_marked f port t =
+    let type : slice_index (marked f port) 0 ≡ slice_index f 0 = marked_type f port in
+    let long : length (marked f port) ≡ length f = length-set f 1 (slice_index f 1 / 16 * 16 + port) in
+    ap (λ (x : ℕ). since_by (if may_have (kind_of_type x) (length (marked f port)) then Ok (view_as (kind_of_type x) (marked f port)) else Err WrongLength) t) type
+    ∙ ap (λ (k : ℕ). since_by (if may_have (kind_of f) k then Ok (view_as (kind_of f) (marked f port)) else Err WrongLength) t) long
+    ∙ since_kind (kind_of f) (may_have (kind_of f) (length f)) f port t
+
+pub risen_since : (fan : FanOut) (n : ℕ) (f : Stamped) (t : ℕ) → since_by (seen (risen fan n f).bytes) t ≡ since_by (seen f.bytes) t
+risen_since (Device s) n f t = since_marked f.bytes s.asked t
+risen_since (Multiplier g) n f t = since_marked f.bytes n t
+
 -- ---- lists
 
 pub told_both : (xs ys : List (List ℕ)) (u : Option Counted) → told_after u (xs ++ ys) ≡ told_after (told_after u xs) ys
 unfolding told_after
 told_both [] ys u = refl
 told_both (x ∷ xs) ys u = told_both xs ys (told_by (seen x) u)
+
+pub since_both : (xs ys : List (List ℕ)) (t : ℕ) → since_after t (xs ++ ys) ≡ since_after (since_after t xs) ys
+unfolding since_after
+since_both [] ys t = refl
+since_both (x ∷ xs) ys t = since_both xs ys (since_by (seen x) t)
 
 conn_case : (b : Bool) (x : Stamped) (xs ys : List Stamped) → (if b then x ∷ (xs ++ ys) else xs ++ ys) ≡ (if b then x ∷ xs else xs) ++ ys
 conn_case true x xs ys = refl

@@ -30,7 +30,8 @@ use Rattle.machine_theorem.specs.Identity.{IsThere, calls_of}
 use Rattle.machine_theorem.specs.OwnSlots.{AllKeepLine, KeepsLine}
 use Rattle.machine_theorem.proofs.EndsFew.{disk_same, sent_of, straight_port}
 use Rattle.machine_theorem.proofs.Fallen.{left_there}
-use Rattle.machine_theorem.proofs.RisenTold.{conn_both, map_both, risen_told, told_both}
+use Rattle.machine_theorem.specs.SingleNumbers.{since_after}
+use Rattle.machine_theorem.proofs.RisenTold.{conn_both, map_both, risen_since, risen_told, since_both, told_both}
 use Rattle.machine_theorem.proofs.Sent.{stamped}
 
 -- ---- FISes of a disk
@@ -43,6 +44,7 @@ pub record Made (d : DiskState) (calls : List Call) (frames : List Stamped) : Ty
   pub fises : List (List ℕ)
   pub are : AreFises d calls fises
   pub told : (u : Option Counted) → told_after u fises ≡ told_after u (map (λ (f : Stamped). f.bytes) frames)
+  pub since : (t : ℕ) → since_after t fises ≡ since_after t (map (λ (f : Stamped). f.bytes) frames)
 
 fises_both : (xs ys : List Call) (d : DiskState) (one two : List (List ℕ)) → AreFises d xs one → AreFises (after_calls d xs) ys two → AreFises d (xs ++ ys) (one ++ two)
 unfolding after_calls
@@ -66,10 +68,12 @@ made_both xs ys d one two first later = record {
   are = fises_both xs ys d first.fises later.fises first.are later.are;
   told = λ u. told_both first.fises later.fises u ∙ ap (λ k. told_after k later.fises) (first.told u) ∙ later.told (told_after u (bytes_in one))
       ∙ sym (told_both (bytes_in one) (bytes_in two) u) ∙ ap (λ l. told_after u l) (sym (map_both one two));
+  since = λ t. since_both first.fises later.fises t ∙ ap (λ k. since_after k later.fises) (first.since t) ∙ later.since (since_after t (bytes_in one))
+      ∙ sym (since_both (bytes_in one) (bytes_in two) t) ∙ ap (λ l. since_after t l) (sym (map_both one two));
 }
 
 none_made : (d : DiskState) → Made d [] []
-none_made d = record { fises = []; are = refl; told = λ u. refl }
+none_made d = record { fises = []; are = refl; told = λ u. refl; since = λ t. refl }
 
 -- calls that send nothing
 abbrev pub SendsNone : List Call → Type 0
@@ -87,7 +91,7 @@ quiet_fises (disk_call.Asks r ∷ later) d none = quiet_fises later (after_call 
 quiet_fises (disk_call.Answers number a ∷ later) d none = quiet_fises later (after_call d (disk_call.Answers number a)) none
 
 quiet_made : (calls : List Call) (d : DiskState) → SendsNone calls → Made d calls []
-quiet_made calls d none = record { fises = []; are = quiet_fises calls d none; told = λ u. refl }
+quiet_made calls d none = record { fises = []; are = quiet_fises calls d none; told = λ u. refl; since = λ t. refl }
 
 -- ---- calls of a deed that sends nothing
 
@@ -152,6 +156,10 @@ one_told : (fan : FanOut) (j : ℕ) (frame : Stamped) (u : Option Counted) → t
 unfolding told_after
 one_told fan j frame u = sym (risen_told fan j frame u)
 
+one_since : (fan : FanOut) (j : ℕ) (frame : Stamped) (t : ℕ) → since_after t (frame.bytes ∷ []) ≡ since_after t ((risen fan j frame).bytes ∷ [])
+unfolding since_after
+one_since fan j frame t = sym (risen_since fan j frame t)
+
 module _ (many : Bool) (n c dev : ℕ) where
   speaks_made : (old : MachineState) (k : ℕ) (o : Out) (new : MachineState) (does : Does old (Moved (act.Speaks k o)) new) → KeepsLine many n c dev old (Moved (act.Speaks k o)) new does
       → (d : DiskState) → (bay_at old n).unit ≡ Disk d → (b : Bool) → (k == n) ≡ b
@@ -167,6 +175,7 @@ module _ (many : Bool) (n c dev : ℕ) where
         fises = h.frame.bytes ∷ [];
         are = record { fis = h.frame.bytes; rest = []; are = refl; is = subst (λ (x : DiskState). IsFis x o h.frame.bytes) disk h.bytes; later = refl };
         told = λ u. one_told old.fan k h.frame u;
+        since = λ t. one_since old.fan k h.frame t;
       })
   speaks_made old k o new does keeps d unit false same =
       let h = does.does.does.1 in

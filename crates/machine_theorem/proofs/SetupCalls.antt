@@ -14,7 +14,7 @@ use Rattle.slots.specs.Slots.{Issue, context_of, issue_at, match_some, own_issue
 use Rattle.slots.specs.declared.work.Kind.{Kind}
 use Rattle.slots.specs.declared.work.Kind.TheVariants.{QueuedRead}
 use Rattle.slots.specs.declared.work.Work.{Work}
-use Rattle.slots.specs.Work.{is_queued, is_read}
+use Rattle.slots.specs.Work.{is_dma, is_read}
 use Rattle.ahci_registers.specs.Bits as line_bits
 use Rattle.ahci_registers.specs.Offsets.{register_at}
 use Rattle.ahci_registers.specs.declared.link.Effect.{Effect}
@@ -64,7 +64,7 @@ use Rattle.sata_disk_books.specs.Fises.{told_by}
 use Rattle.machine_theorem.specs.Following.{AllHeardWell, DataFollowSetups, HearsWell, IsHeardWell, told_call, told_calls}
 use Rattle.machine_theorem.proofs.Ordered.{fed_some, last_kept}
 use Rattle.machine_theorem.proofs.SetupHistory.{Follows, IsUp, NoneUp, carried_follows, nothing_up}
-use Rattle.machine_theorem.proofs.SetupFrames.{has_up, the_issue, told_with}
+use Rattle.machine_theorem.proofs.SetupFrames.{has_up, is_blocks, the_issue, told_with}
 use Rattle.machine_theorem.proofs.SetupCores.{AreNoFises, Beside, Carries, IsNoFis, IsWritten, fed_beside, fis_beside, fises_none, match_is, other_beside}
 
 -- ---- calls that take no FIS
@@ -140,28 +140,28 @@ module _ (k : Kind) (n : ℕ) where
   supply_none slot supply_answer.OutOfMemory new = tt
   supply_none slot supply_answer.Stale new = tt
 
-  last_plain : (p : Option Command) (dev slot : ℕ) (fis : List ℕ) → IsNoFis k n (core.Chose (match_some p Rests (Orders dev slot)) fis)
-  last_plain None dev slot fis = tt
-  last_plain (Some command) dev slot fis = tt
+  last_plain : is_dma k ≡ false → (p : Option Command) (dev slot : ℕ) (fis : List ℕ) → IsNoFis k n (core.Chose (match_some p Rests (Orders dev slot)) fis)
+  last_plain other None dev slot fis = tt
+  last_plain other (Some command) dev slot fis = other
 
-  issue_plain : (o : Option Issue) (p : Option Command) (slot : ℕ) (fis : List ℕ)
+  issue_plain : is_dma k ≡ false → (o : Option Issue) (p : Option Command) (slot : ℕ) (fis : List ℕ)
       → IsNoFis k n (core.Chose (match_some o Rests (λ issue. match_some p Rests (Orders issue.dev slot))) fis)
-  issue_plain None p slot fis = tt
-  issue_plain (Some issue) p slot fis = last_plain p issue.dev slot fis
+  issue_plain other None p slot fis = tt
+  issue_plain other (Some issue) p slot fis = last_plain other p issue.dev slot fis
 
-  next_none : (next : Next) (old : ControllerState) → AreNoFises k n (of_next next old)
-  next_none (next_step.Order dev slot fis) old = (issue_plain (issue_at old.core.slots slot) (last_command old.core.commands slot) slot fis, tt)
-  next_none other old = tt
+  next_none : is_dma k ≡ false → (next : Next) (old : ControllerState) → AreNoFises k n (of_next next old)
+  next_none other (next_step.Order dev slot fis) old = (issue_plain other (issue_at old.core.slots slot) (last_command old.core.commands slot) slot fis, tt)
+  next_none other said old = tt
 
-  turn_none : (halted started : Bool) (next : Next) (old : ControllerState) → AreNoFises k n (of_turn halted started next old)
-  turn_none true started next old = next_none next old
-  turn_none false true next old = next_none next old
-  turn_none false false next old = commanded_none _ _
+  turn_none : is_dma k ≡ false → (halted started : Bool) (next : Next) (old : ControllerState) → AreNoFises k n (of_turn halted started next old)
+  turn_none other true started next old = next_none other next old
+  turn_none other false true next old = next_none other next old
+  turn_none other false false next old = commanded_none _ _
 
-  turned_none : (o : Option Next) (next : Next) (old : ControllerState)
+  turned_none : is_dma k ≡ false → (o : Option Next) (next : Next) (old : ControllerState)
       → AreNoFises k n (match_some o (of_turn (is_halted (written old)) old.core.registers.started next old) (λ write. of_next next old))
-  turned_none None next old = turn_none (is_halted (written old)) old.core.registers.started next old
-  turned_none (Some write) next old = next_none next old
+  turned_none other None next old = turn_none other (is_halted (written old)) old.core.registers.started next old
+  turned_none other (Some write) next old = next_none other next old
 
   payload_plain : (o : Option (ℕ × ℕ × ℕ)) (dev : ℕ) (frame : List ℕ) → (is_read k ≡ false → (dev == n) ≡ false) → IsNoFis k n (core.Chose (match_some o Rests (feeds dev)) frame)
   payload_plain None dev frame apart = tt
@@ -169,6 +169,7 @@ module _ (k : Kind) (n : ℕ) where
 
   abbrev pub IsNoTake : Event → Type 0
   IsNoTake (call.Took frame took) = ⊥
+  IsNoTake (call.Turned next) = is_dma k ≡ false
   IsNoTake (call.Gathered dev number frame (fed_answer.Goes message line)) = is_read k ≡ false → (dev == n) ≡ false
   IsNoTake e = Unit {0}
 
@@ -183,7 +184,7 @@ module _ (k : Kind) (n : ℕ) where
   call_none (call.Missed slot number told) old new does is = tt
   call_none (call.Took frame took) old new does is = absurd is
   call_none (call.Left frame why) old new does is = tt
-  call_none (call.Turned next) old new does is = turned_none (next_write old) next old
+  call_none (call.Turned next) old new does is = turned_none is (next_write old) next old
   call_none (call.Said write) old new does is = tt
   call_none (call.Gathered dev number frame fed) old new does is = fed_none fed old dev number frame is
   call_none (call.NotThere dev number fed) old new does is = tt
@@ -205,7 +206,7 @@ unfolding heard_report
 greeted_none old new dev None report h = ap (λ (r : TakeReport). r.wrote) h.reports
 greeted_none old new dev (Some f) report h = ap (λ (r : TakeReport). r.wrote) h.reports
 
-module _ (k : Kind) (queued : is_queued k ≡ true) (laws : Laws) (n : ℕ) (low : n < 16) where
+module _ (k : Kind) (stream : is_blocks k ≡ false) (laws : Laws) (n : ℕ) (low : n < 16) where
   pub core_events : (old new : ControllerState) (e : Event) → IsController old → IsController new → (does : Does old e new) → AreCoreEvents old.core (of_event old e new does) new.core
   core_events old new e is l does =
       subst (λ (events : List CoreEvent). AreCoreEvents old.core events new.core) (append-nil (of_event old e new does))
@@ -215,7 +216,7 @@ module _ (k : Kind) (queued : is_queued k ≡ true) (laws : Laws) (n : ℕ) (low
       → Beside k n old.core t → Beside k n new.core t
   none_taken e old new does is l plain t was =
       let are : AreCoreEvents old.core (of_event old e new does) new.core = core_events old new e is l does in
-      fises_none k queued laws.views n low (of_event old e new does) old.core new.core are.run are.sound.cores are.sound.frames (call_none k n e old new does plain) t was
+      fises_none k stream laws.views n low (of_event old e new does) old.core new.core are.run are.sound.cores are.sound.frames (call_none k n e old new does plain) t was
 
   -- where Data of the device come, this follows
   abbrev pub CarriesAt : (data' : ℕ → Option Counted → Option Counted) → (c : ControllerState) → (t : Option Counted) → Type 0
@@ -227,16 +228,16 @@ module _ (k : Kind) (queued : is_queued k ≡ true) (laws : Laws) (n : ℕ) (low
       → (t : Option Counted) → CarriesAt data' old t → Beside k n old.core t → Beside k n new.core (if own then told_with data' (seen frame) t else t)
   taken_case data' old new frame took false true starts own are well t carries was = absurd (false≢true (sym starts ∙ (well (eqb-true (port_of frame) n own)).started))
   taken_case data' old new frame took false false starts own are well t carries was =
-      fises_none k queued laws.views n low (core.Greeted frame took.report ∷ []) old.core new.core are.run are.sound.cores are.sound.frames (tt, tt) t was
+      fises_none k stream laws.views n low (core.Greeted frame took.report ∷ []) old.core new.core are.run are.sound.cores are.sound.frames (tt, tt) t was
   taken_case data' old new frame took true true starts own are well t carries was =
       let same : port_of frame ≡ n = eqb-true (port_of frame) n own in
       let w : IsHeardWell old took = well same in
       subst (λ (p : Port). Beside k n p (told_with data' (seen frame) t)) (sym are.run.2)
-      (fis_beside k queued laws.views n low data' old.core are.run.0 frame (room_for old (port_of frame)) took.report same are.sound.cores.0 are.sound.cores.1 are.sound.frames.0 are.run.1
+      (fis_beside k stream laws.views n low data' old.core are.run.0 frame (room_for old (port_of frame)) took.report same are.sound.cores.0 are.sound.cores.1 are.sound.frames.0 are.run.1
       w.heard w.well w.runs t was (carries frame same was))
   taken_case data' old new frame took true false starts own are well t carries was =
       subst (λ (p : Port). Beside k n p t) (sym are.run.2)
-      (other_beside k queued laws.views n low old.core are.run.0 frame (room_for old (port_of frame)) took.report own are.sound.cores.0 are.sound.cores.1 are.sound.frames.0 are.run.1 t was)
+      (other_beside k stream laws.views n low old.core are.run.0 frame (room_for old (port_of frame)) took.report own are.sound.cores.0 are.sound.cores.1 are.sound.frames.0 are.run.1 t was)
 
   pub taken_beside : (data' : ℕ → Option Counted → Option Counted) (old new : ControllerState) (frame : List ℕ) (took : Took) (does : Does old (call.Took frame took) new)
       → IsController old → IsController new → HearsWell n old (call.Took frame took) → (t : Option Counted) → CarriesAt data' old t → Beside k n old.core t
@@ -252,7 +253,7 @@ module _ (k : Kind) (queued : is_queued k ≡ true) (laws : Laws) (n : ℕ) (low
       let e : Event = call.Gathered dev number frame (fed_answer.Goes message line) in
       let are : AreCoreEvents old.core (core.Chose (turn_to old dev) frame ∷ []) new.core = core_events old new e is l does in
       subst (λ (p : Port). Beside k n p (more_by (length frame - 4) t)) (sym are.run.2)
-      (fed_beside k queued laws.views n low old.core are.run.0 dev frame (payload (context_of old.core.slots dev)) same
+      (fed_beside k stream laws.views n low old.core are.run.0 dev frame (payload (context_of old.core.slots dev)) same
       (fed_some old new dev number (fed_answer.Goes message line) tt does.1) are.sound.cores.0 are.sound.cores.1 are.run.1 t was)
 
   -- ---- the beginning, and the slot
@@ -279,7 +280,7 @@ module _ (k : Kind) (queued : is_queued k ≡ true) (laws : Laws) (n : ℕ) (low
 
 -- ---- a queued read: Data come
 
-told_same : (r : Result Fis FisFault) (t : Option Counted) → told_with more_by r t ≡ told_by r t
+pub told_same : (r : Result Fis FisFault) (t : Option Counted) → told_with more_by r t ≡ told_by r t
 told_same (Ok (view.DmaSetup f)) t = refl
 told_same (Ok (view.Payload f)) t = refl
 told_same (Ok other) t = refl
@@ -302,7 +303,7 @@ module _ (laws : Laws) (n : ℕ) (low : n < 16) where
       none_taken QueuedRead refl laws n low (call.Supplied slot number bytes supply) old new does k l tt t was
   call_beside (call.Missed slot number supply) old new does k l well t was = none_taken QueuedRead refl laws n low (call.Missed slot number supply) old new does k l tt t was
   call_beside (call.Left frame why) old new does k l well t was = none_taken QueuedRead refl laws n low (call.Left frame why) old new does k l tt t was
-  call_beside (call.Turned next) old new does k l well t was = none_taken QueuedRead refl laws n low (call.Turned next) old new does k l tt t was
+  call_beside (call.Turned next) old new does k l well t was = none_taken QueuedRead refl laws n low (call.Turned next) old new does k l refl t was
   call_beside (call.Said write) old new does k l well t was = none_taken QueuedRead refl laws n low (call.Said write) old new does k l tt t was
   call_beside (call.Gathered dev number frame (fed_answer.Goes message line)) old new does k l well t was =
       none_taken QueuedRead refl laws n low (call.Gathered dev number frame (fed_answer.Goes message line)) old new does k l (λ e. absurd (true≢false e)) t was
@@ -325,7 +326,7 @@ module _ (laws : Laws) (n : ℕ) (low : n < 16) where
       let all = laws.filled at.core at.core new [] refl (record { cores = record { port = k.port; slots = k.slots }; frames = tt }) frame (room_for at (port_of frame)) report past told_own hears in
       (subst (λ (o : Option Wrote). ReportsFilled o (drop 4 frame) (event_by at.core (room_for at (port_of frame)) frame) past) is all).fills
 
-  hears_case : (at : ControllerState) (frame : List ℕ) (report : TakeReport) (new : Port) (past : History) (wrote : Wrote) (started : Bool) → IsController at → port_of frame ≡ n
+  pub hears_case : (at : ControllerState) (frame : List ℕ) (report : TakeReport) (new : Port) (past : History) (wrote : Wrote) (started : Bool) → IsController at → port_of frame ≡ n
       → CoreHearsIf started at frame report new → IsTold (view_of n at.core) past → report.wrote ≡ Some wrote → FillsFrom wrote.slot wrote.offset wrote.len past
   hears_case at frame report new past wrote true k own hears told is =
       filled_now at frame report new past wrote k own (record { ignored = hears.ignored; heard = hears.heard }) told is

@@ -7,9 +7,8 @@ use Rattle.fis_view.specs.Seen.{seen}
 use Rattle.slots.specs.Data.{payload}
 use Rattle.slots.specs.Slots.{Issue, context_of, holds, issue_at, match_some, own_issue}
 use Rattle.slots.specs.Table.{IsContext, IsContextOf, IsTable}
-use Rattle.slots.specs.Work.{is_dma, is_queued, is_read}
+use Rattle.slots.specs.Work.{is_dma, is_read}
 use Rattle.slots.specs.declared.work.Kind.{Kind}
-use Rattle.slots.specs.declared.work.Kind.TheVariants.{QueuedRead, QueuedWrite}
 use Rattle.slots.specs.declared.table.Context.{Context}
 use Rattle.slots.specs.declared.work.Work.{Work}
 use Rattle.hba_fbs.specs.Deciding.{Decides, decided}
@@ -39,7 +38,7 @@ use Rattle.hba_laws.specs.History as history
 use Rattle.hba_laws.specs.History.{Event, History, issued}
 use Rattle.sata_disk_books.specs.Counted.{Counted, more_by}
 use Rattle.machine_theorem.proofs.SetupHistory.{Follows, IsMild, IssuesNone, NoneUp, carried_follows, fed_follows, issued_follow, mild_follows, nothing_up, was_issued}
-use Rattle.machine_theorem.proofs.SetupFrames.{WayIs, frame_follows, none_way, the_issue, told_with}
+use Rattle.machine_theorem.proofs.SetupFrames.{WayIs, frame_follows, is_blocks, none_way, the_issue, told_with}
 
 -- ---- contexts
 
@@ -83,7 +82,7 @@ IsWritten on_port.Sntf = Unit {0}
 IsWritten on_port.Fbs = Unit {0}
 IsWritten other = ⊥
 
--- An event of a controller's core that is no FIS. Of a command that is no read it is no Data for the device either.
+-- An event of a controller's core that is no FIS. Of a command that is no read it is no Data for the device either; of one that is its own setup no command goes.
 abbrev pub IsNoFis : Kind → (n : ℕ) → CoreEvent → Type 0
 IsNoFis k n (core.Took frame room report) = ⊥
 IsNoFis k n (core.Wrote register value offer tables) = IsWritten register
@@ -92,6 +91,7 @@ IsNoFis k n (core.Gave bytes) = ⊥
 IsNoFis k n core.Failed = ⊥
 IsNoFis k n (core.Placed dev slots offer tables) = Unit {0}
 IsNoFis k n (core.Chose (Feeds dev slot offset len) bytes) = is_read k ≡ false → (dev == n) ≡ false
+IsNoFis k n (core.Chose (Orders dev slot command) bytes) = is_dma k ≡ false
 IsNoFis k n (core.Chose turn bytes) = Unit {0}
 IsNoFis k n (core.Greeted frame report) = Unit {0}
 IsNoFis k n (core.Commanded value) = Unit {0}
@@ -108,11 +108,6 @@ one_if : (k : Kind) (b : Bool) (h past : History) (t : Option Counted) → (b �
 one_if k true h past t now was = now refl
 one_if k false h past t now was = was
 
-queued_no_dma : (k : Kind) → is_queued k ≡ true → is_dma k ≡ false
-queued_no_dma QueuedRead e = refl
-queued_no_dma QueuedWrite e = refl
-queued_no_dma other e = absurd (cc)
-
 sent_mild : (b : Bool) (slot : ℕ) → IsMild (if b then history.SentControl slot else history.Sent slot)
 sent_mild true slot = tt
 sent_mild false slot = tt
@@ -121,12 +116,12 @@ sent_none : (b : Bool) (slot : ℕ) → IssuesNone (if b then history.SentContro
 sent_none true slot = tt
 sent_none false slot = tt
 
-module _ (k : Kind) (queued : is_queued k ≡ true) (n : ℕ) (old : Port) (past : History) (t : Option Counted) (ok : IsTable old.slots) (told : IsTold (view_of n old) past)
+module _ (k : Kind) (n : ℕ) (old : Port) (past : History) (t : Option Counted) (ok : IsTable old.slots) (told : IsTold (view_of n old) past)
     (was : Follows k past t) where
-  -- a command that is its own setup is no queued one
-  begun_none : (slot : ℕ) (i : Issue) (e : Event) → issue_at old.slots slot ≡ Some i → is_dma i.work.kind ≡ true → IssuesNone e
+  -- a command that is its own setup is not of this kind
+  begun_none : (slot : ℕ) (i : Issue) (e : Event) → is_dma k ≡ false → issue_at old.slots slot ≡ Some i → is_dma i.work.kind ≡ true → IssuesNone e
       → NoneUp k (history.SetUp slot 0 i.work.len (is_read i.work.kind) ∷ e ∷ past)
-  begun_none slot i e at dma none s up =
+  begun_none slot i e other at dma none s up =
       let same : slot ≡ s = eqb-true slot s up.up in
       let first : issued s (e ∷ past) ≡ Some up.transfer = was_issued s (history.SetUp slot 0 i.work.len (is_read i.work.kind)) (e ∷ past) up.transfer tt up.is in
       let before : issued s past ≡ Some up.transfer = was_issued s e past up.transfer none first in
@@ -134,22 +129,22 @@ module _ (k : Kind) (queued : is_queued k ≡ true) (n : ℕ) (old : Port) (past
       let there : issue_at old.slots s ≡ Some j.0 = (own_in n s old.slots j.0 j.1.0).1 in
       let one : i ≡ j.0 = ap (λ (o : Option Issue). match_some o i (λ x. x)) (sym at ∙ ap (issue_at old.slots) same ∙ there) in
       let kind = ap (λ (x : Issue). x.work.kind) one ∙ ap (λ (w : Work). w.kind) j.1.1 ∙ up.kind in
-      false≢true (sym (ap is_dma kind ∙ queued_no_dma k queued) ∙ dma)
+      false≢true (sym (ap is_dma kind ∙ other) ∙ dma)
 
-  begun_case : (slot : ℕ) (i : Issue) (e : Event) (b : Bool) → issue_at old.slots slot ≡ Some i → is_dma i.work.kind ≡ b → IsMild e → IssuesNone e
+  begun_case : (slot : ℕ) (i : Issue) (e : Event) (b : Bool) → is_dma k ≡ false → issue_at old.slots slot ≡ Some i → is_dma i.work.kind ≡ b → IsMild e → IssuesNone e
       → Follows k ((if b then history.SetUp slot 0 i.work.len (is_read i.work.kind) ∷ [] else []) ++ e ∷ past) t
-  begun_case slot i e true at dma mild none = nothing_up k _ t (begun_none slot i e at dma none)
-  begun_case slot i e false at dma mild none = mild_follows k e past t mild was
+  begun_case slot i e true other at dma mild none = nothing_up k _ t (begun_none slot i e other at dma none)
+  begun_case slot i e false other at dma mild none = mild_follows k e past t mild was
 
-  begun_follows : (slot : ℕ) (o : Option Issue) (e : Event) → issue_at old.slots slot ≡ o → IsMild e → IssuesNone e → Follows k (begun_by slot o ++ e ∷ past) t
-  begun_follows slot None e at mild none = mild_follows k e past t mild was
-  begun_follows slot (Some i) e at mild none = begun_case slot i e (is_dma i.work.kind) at refl mild none
+  begun_follows : (slot : ℕ) (o : Option Issue) (e : Event) → is_dma k ≡ false → issue_at old.slots slot ≡ o → IsMild e → IssuesNone e → Follows k (begun_by slot o ++ e ∷ past) t
+  begun_follows slot None e other at mild none = mild_follows k e past t mild was
+  begun_follows slot (Some i) e other at mild none = begun_case slot i e (is_dma i.work.kind) other at refl mild none
 
-  order_follows : (slot : ℕ) → Follows k ((begun_by slot (issue_at old.slots slot) ++ event_sent old.slots slot ∷ []) ++ past) t
-  order_follows slot =
+  order_follows : (slot : ℕ) → is_dma k ≡ false → Follows k ((begun_by slot (issue_at old.slots slot) ++ event_sent old.slots slot ∷ []) ++ past) t
+  order_follows slot other =
       let b : Bool = holds is_control_issue (issue_at old.slots slot) in
       subst (λ (h : History). Follows k h t) (sym (append_assoc (begun_by slot (issue_at old.slots slot)) (event_sent old.slots slot ∷ []) past))
-      (begun_follows slot (issue_at old.slots slot) (event_sent old.slots slot) refl (sent_mild b slot) (sent_none b slot))
+      (begun_follows slot (issue_at old.slots slot) (event_sent old.slots slot) other refl (sent_mild b slot) (sent_none b slot))
 
   fed_case : (dev slot offset len : ℕ) (bytes : List ℕ) (r : Bool) → is_read k ≡ r → (r ≡ false → (dev == n) ≡ false) → MayChoose old (Feeds dev slot offset len) → (dev == n) ≡ true
       → Follows k (history.Carried (drop 4 bytes) ∷ past) t
@@ -161,7 +156,7 @@ module _ (k : Kind) (queued : is_queued k ≡ true) (n : ℕ) (old : Port) (past
   turn_follows (Feeds dev slot offset len) bytes plain may =
       one_if k (dev == n) (history.Carried (drop 4 bytes) ∷ []) past t (fed_case dev slot offset len bytes (is_read k) refl plain may) was
   turn_follows (Orders dev slot command) bytes plain may =
-      one_if k (dev == n) (begun_by slot (issue_at old.slots slot) ++ event_sent old.slots slot ∷ []) past t (λ e. order_follows slot) was
+      one_if k (dev == n) (begun_by slot (issue_at old.slots slot) ++ event_sent old.slots slot ∷ []) past t (λ e. order_follows slot plain) was
 
   pub core_follows : (e : CoreEvent) (new : Port) → IsNoFis k n e → DoesBy old e new → Follows k (happened n old e ++ past) t
   core_follows (core.Took frame room report) new plain does = absurd plain
@@ -210,7 +205,7 @@ pub first_core : (events : List CoreEvent) (old new : Port) (run : RunsBy old ev
 first_core [] old new run are = are
 first_core (e ∷ later) old new run are = are.0
 
-module _ (k : Kind) (queued : is_queued k ≡ true) (law : CoreViewsAreTold) (n : ℕ) (low : n < 16) where
+module _ (k : Kind) (stream : is_blocks k ≡ false) (law : CoreViewsAreTold) (n : ℕ) (low : n < 16) where
   pub told_next : (e : CoreEvent) (old new : Port) (does : DoesBy old e new) → IsCore old → IsCore new → IsFramedBy e → (past : History) → IsTold (view_of n old) past
       → IsTold (view_of n new) (happened n old e ++ past)
   told_next e old new does one two framed past told = law n low old new (e ∷ []) (new, does, refl) (record { cores = (one, two); frames = (framed, tt) }) past told
@@ -223,7 +218,7 @@ module _ (k : Kind) (queued : is_queued k ≡ true) (law : CoreViewsAreTold) (n 
       fises_none later run.0 new run.2 cores.1 frames.1 none.1 t (record {
         past = happened n old e ++ was.past;
         told = told_next e old run.0 run.1 cores.0 next frames.0 was.past was.told;
-        follows = core_follows k queued n old was.past t cores.0.slots was.told was.follows e run.0 none.0 run.1;
+        follows = core_follows k n old was.past t cores.0.slots was.told was.follows e run.0 none.0 run.1;
       })
 
   -- ---- a FIS
@@ -250,7 +245,7 @@ module _ (k : Kind) (queued : is_queued k ≡ true) (law : CoreViewsAreTold) (n 
       subst (λ (o : Option Event). IsTold (view_after_hearing v h) (match_some o [] (λ e. e ∷ []) ++ past)) same
       (subst (λ (x : DeviceView). IsTold x (match_some (event_by old room frame) [] (λ e. e ∷ []) ++ past)) is.own told) in
       subst (λ (o : Option Event). Follows k (match_some o [] (λ e. e ∷ []) ++ past) (told_with data' (seen frame) t)) (sym same)
-      (frame_follows k queued data' v frame past t was before carries dev room fine told_now)
+      (frame_follows k stream data' v frame past t was before carries dev room fine told_now)
 
   if_own : (b : Bool) (h past : History) (v : DeviceView) → b ≡ true → IsTold v ((if b then h else []) ++ past) → IsTold v (h ++ past)
   if_own true h past v e told = told

@@ -1,6 +1,6 @@
 -- A FIS of a device that is heard, and with which nothing is wrong, is in the history of the device what its bytes say.
 use Rattle.std.proofs.Common.{◌≡◌, ℕ, ◌-◌, Bool, true, false, cond, List, [], ◌∷◌, ◌++◌, drop, length, refl, sym, ap, subst, ◌∙◌, Option, Some, None}
-use Rattle.std.specs.Prelude.{◌==◌, ◌%◌, IfSome, is_some, not, nat_lt, if◌then◌else◌, Result, Ok, Err}
+use Rattle.std.specs.Prelude.{◌==◌, ◌||◌, ◌%◌, IfSome, is_some, not, nat_lt, if◌then◌else◌, Result, Ok, Err}
 use Rattle.std.specs.Option.{option_map}
 use Rattle.std.proofs.lemmas.Bool.{eqb-true, false≢true}
 use Rattle.fis_view.specs.Seen.{kind_of, may_have, seen, view_as}
@@ -14,14 +14,13 @@ use Rattle.slots.specs.Commands.{answer_of, completed}
 use Rattle.slots.specs.Data.{after_arrive, may_activate}
 use Rattle.slots.specs.Setup.{came, context_or, dma_context, out_context, out_fault, out_setup, pio_fault, pio_issue, setup_fault}
 use Rattle.slots.specs.Slots.{DeviceSlots, Issue, holds, is_out_issue, is_pio, match_some, own_issue, sent_pio, waiting}
-use Rattle.slots.specs.Work.{is_out, is_queued, is_read}
+use Rattle.slots.specs.Work.{is_out, is_read}
 use Rattle.slots.specs.declared.answer.Answered as answered_type
 use Rattle.slots.specs.declared.answer.Answered.TheVariants as answer
 use Rattle.slots.specs.declared.answer.SetupError.{SetupError}
 use Rattle.slots.specs.declared.answer.SetupError.TheVariants.{NotOutstanding}
 use Rattle.slots.specs.declared.table.Context.{Context}
 use Rattle.slots.specs.declared.work.Kind.{Kind as WorkKind}
-use Rattle.slots.specs.declared.work.Kind.TheVariants.{QueuedRead, QueuedWrite}
 use Rattle.slots.specs.declared.work.Work.{Work}
 use Rattle.hba_fbs.specs.Deciding.{decided, heard_within, is_past}
 use Rattle.hba_fbs.specs.Hearing.{answered, block_of, bus_failed, faulty, heard_bytes, heard_data, heard_data_of, heard_fis, heard_out, is_admitted, named, overflowed, quietly, set_up, signing, tag_of}
@@ -95,24 +94,22 @@ some_map (Some b) e = refl
 pio_of : (o : Option Issue) (i : Issue) → o ≡ Some i → holds is_pio_issue o ≡ true → is_pio i.work.kind ≡ true
 pio_of o i e is = sym (ap (λ (p : Option Issue). holds is_pio_issue p) e) ∙ is
 
-pub queued_no_pio : (k : WorkKind) → is_queued k ≡ true → is_pio k ≡ false
-queued_no_pio QueuedRead e = refl
-queued_no_pio QueuedWrite e = refl
-queued_no_pio other e = absurd (cc)
+-- it moves its data in blocks, as a PIO command does
+abbrev pub is_blocks : WorkKind → Bool
+is_blocks k = is_pio k || is_out k
 
-queued_no_out : (k : WorkKind) → is_queued k ≡ true → is_out k ≡ false
-queued_no_out QueuedRead e = refl
-queued_no_out QueuedWrite e = refl
-queued_no_out other e = absurd (cc)
+neither : (a b : Bool) → (a || b) ≡ false → (a ≡ false) × (b ≡ false)
+neither true b e = absurd (cc)
+neither false b e = (refl, e)
 
--- nor a queued one where a block is kept
-none_block : (k : WorkKind) (v : DeviceView) (past : History) → is_queued k ≡ true → IsTold v past → is_some v.state.block ≡ true → NoneUp k past
-none_block k v past queued told block s up =
+-- nor one that moves none where a block is kept
+none_block : (k : WorkKind) (v : DeviceView) (past : History) → is_blocks k ≡ false → IsTold v past → is_some v.state.block ≡ true → NoneUp k past
+none_block k v past stream told block s up =
     let h = has_up k v past s told up in
     let agrees = told.agrees.context_agrees h.context h.set in
     let pio : is_pio h.issue.work.kind ≡ true =
     pio_of (own_issue v.slots h.context.slot) h.issue (ap (own_issue v.slots) h.slot ∙ h.is) (agrees.of_kind ∙ some_map v.state.block block) in
-    false≢true (sym (ap is_pio h.kind ∙ queued_no_pio k queued) ∙ pio)
+    false≢true (sym (ap is_pio h.kind ∙ (neither (is_pio k) (is_out k) stream).0) ∙ pio)
 
 -- ---- a FIS, by what it means
 
@@ -166,7 +163,7 @@ told_with data' (Ok (view.DmaSetup f)) was = Some (record { tag = field table.Se
 told_with data' (Ok (view.Payload f)) was = data' (length f - 4) was
 told_with data' other was = was
 
-module _ (k : WorkKind) (queued : is_queued k ≡ true) (data' : ℕ → Option Counted → Option Counted) (v : DeviceView) (frame : List ℕ) (past : History) (t : Option Counted)
+module _ (k : WorkKind) (stream : is_blocks k ≡ false) (data' : ℕ → Option Counted → Option Counted) (v : DeviceView) (frame : List ℕ) (past : History) (t : Option Counted)
     (was : Follows k past t) (before : IsTold v past)
     (carries : (c : Context) → v.slots.context ≡ Some c → c.to_host ≡ true → Follows k (history.Carried (drop 4 frame) ∷ past) (data' (length frame - 4) t)) where
   abbrev after : Heard → History
@@ -184,7 +181,7 @@ module _ (k : WorkKind) (queued : is_queued k ≡ true) (data' : ℕ → Option 
 
   pio_then : (o : Option SetupError) (state : DeviceState) (block : Block) (count : ℕ) (to_host : Bool) → Then (set_up o state (Some block) (happening.PioSetUp count to_host)) t
   pio_then None state block count to_host fine told =
-      nothing_up k _ t (none_block k (view_after_hearing v (set_up None state (Some block) (happening.PioSetUp count to_host))) _ queued told refl)
+      nothing_up k _ t (none_block k (view_after_hearing v (set_up None state (Some block) (happening.PioSetUp count to_host))) _ stream told refl)
   pio_then (Some e) state block count to_host fine told = absurd (cc)
 
   none_out : (c : Context) → holds is_out_issue (own_issue v.slots c.slot) ≡ true → NoneUp k (history.SetUp c.slot c.next c.left c.to_host ∷ past)
@@ -193,7 +190,7 @@ module _ (k : WorkKind) (queued : is_queued k ≡ true) (data' : ℕ → Option 
       let first : issued s past ≡ Some up.transfer = was_issued s (history.SetUp c.slot c.next c.left c.to_host) past up.transfer tt up.is in
       let i = the_issue (issued s past) (own_issue v.slots s) up.transfer (before.issued s) first in
       let is : is_out i.0.work.kind ≡ true = sym (ap (λ (o : Option Issue). holds is_out_issue o) (ap (own_issue v.slots) same ∙ i.1.0)) ∙ out in
-      false≢true (sym (ap is_out (ap (λ (w : Work). w.kind) i.1.1 ∙ up.kind) ∙ queued_no_out k queued) ∙ is)
+      false≢true (sym (ap is_out (ap (λ (w : Work). w.kind) i.1.1 ∙ up.kind) ∙ (neither (is_pio k) (is_out k) stream).1) ∙ is)
 
   out_then : (r : Result Context SetupError) (state : DeviceState) (block : Block) → ((c : Context) → r ≡ Ok c → holds is_out_issue (own_issue v.slots c.slot) ≡ true)
       → Then (heard_out state block r) t

@@ -413,7 +413,7 @@ module _ (law : EventsAreCoreEvents) (n : ℕ) (low : n < 16) where
   calls_asked (call.Left frame why ∷ later) old new run well t was =
       calls_asked later run.1.0 new run.1.2 well.1 t (λ d. was (none_due (call.Left frame why) old run.1.0 run.1.1 run.0 (first_kept later run.1.0 new run.1.2) tt d))
   calls_asked (call.Turned next ∷ later) old new run well t was =
-      calls_asked later run.1.0 new run.1.2 well.1 t (λ d. was (none_due (call.Turned next) old run.1.0 run.1.1 run.0 (first_kept later run.1.0 new run.1.2) tt d))
+      calls_asked later run.1.0 new run.1.2 well.1 t (λ d. was (none_due (call.Turned next) old run.1.0 run.1.1 run.0 (first_kept later run.1.0 new run.1.2) refl d))
   calls_asked (call.Said write ∷ later) old new run well t was =
       calls_asked later run.1.0 new run.1.2 well.1 t (λ d. was (none_due (call.Said write) old run.1.0 run.1.1 run.0 (first_kept later run.1.0 new run.1.2) tt d))
   calls_asked (call.NotThere dev number fed ∷ later) old new run well t was =

@@ -2,7 +2,7 @@
 use Rattle.std.proofs.Common.{◌≡◌, ◌⊎◌, ℕ, suc, ◌+◌, ◌<◌, ◌≤◌, ◌&&◌, Bool, true, false, not, List, [], ◌∷◌, ◌++◌, append_assoc, length, Option, Some, None, refl, sym, ap, subst, ◌∙◌, inl, inr, arith}
 use Rattle.std.specs.Prelude.{◌==◌, ◌||◌, if◌then◌else◌, IfSome, MatchOption}
 use Rattle.std.specs.List.{flat_map}
-use Rattle.std.proofs.lemmas.Bool.{and_parts, eqb-true, false≢true}
+use Rattle.std.proofs.lemmas.Bool.{and_parts, eq-eqb, eqb-true, false≢true}
 use Rattle.std.proofs.lemmas.Grind.{flat_map-append}
 use Rattle.std.proofs.lemmas.List.{length-append}
 use Rattle.fis_view.specs.Frames.{Stamped, marked}
@@ -21,6 +21,7 @@ use Rattle.hba_laws.proofs.Door.{own_here}
 use Rattle.ahci_controller.specs.States.{ControllerState}
 use Rattle.ahci_controller.specs.Taking.{room_for}
 use Rattle.ahci_controller.specs.declared.next.Next.TheVariants as next
+use Rattle.ahci_controller.specs.declared.taking.Took.{Took}
 use Rattle.controller_laws.specs.Events as call
 use Rattle.controller_laws.specs.Events.{Event, IsController, Runs}
 use Rattle.controller_laws.specs.Sources.{IsIssuedFrom, command_of}
@@ -38,6 +39,7 @@ use Rattle.sata_disk_laws.specs.Calls.{AreCalls, Call, Hears, Sends, after_calls
 use Rattle.sata_disk_laws.specs.Laws.{reached}
 use Rattle.sata_disk_laws.specs.Once.{AnswersAreSingle, host_of, new_host}
 use Rattle.sata_disk_laws.proofs.Door.{calls_after, calls_both}
+use Rattle.ahci_machine.specs.Gathers.{host_stamp}
 use Rattle.ahci_machine.specs.States.{IsOpeningMachine, MachineState, bay_at}
 use Rattle.ahci_machine.specs.declared.act.Act.TheVariants as act
 use Rattle.machine_laws.specs.ControllerLaws.{ControllerRuns, OpensSo, RunsRuled, calls_in}
@@ -48,11 +50,12 @@ use Rattle.machine_laws.specs.Falling.{AllLast, HasLink, heard_by}
 use Rattle.machine_laws.specs.Feeding.{IsOrderOf, IsOrdered}
 use Rattle.machine_laws.specs.Rising.{AreLinked, Frames, FramesAreTaken, FramesRise, HaveRisen, bytes_of, frames_in, frames_of, no_frames, risen, sent_by}
 use Rattle.machine_theorem.specs.Completed.{CompletionsAreOfDevices, IsCompleted, IsEndedInHistory}
+use Rattle.machine_theorem.specs.FirstDeeds.{first_deeds, first_run, machine_at}
 use Rattle.machine_theorem.specs.Given.{IsWhole}
-use Rattle.machine_theorem.specs.Identity.{calls_of, picks}
+use Rattle.machine_theorem.specs.Identity.{calls_of, is_for, picks}
 use Rattle.machine_theorem.specs.InTurn.{AreKeptOn, CommandsGoInTurn, IsIdle, IsInTurn, IsUnanswered, answered_in, heard_in, is_answer, is_answering, is_asking}
 use Rattle.machine_theorem.specs.OwnSlots.{AllKeepLine, KeepsLine, is_of}
-use Rattle.machine_theorem.specs.Singles.{AllOfDevice, BeginsIdle, IsDoneSingle, IsFromSlot, IsSlots, IsSlotsAnswer, PlainSinglesAreOfSlots, SinglesAreOfSlots}
+use Rattle.machine_theorem.specs.Singles.{AllOfDevice, BeginsIdle, IsDoneSingle, IsFromSlot, IsSlots, IsSlotsAnswer, PlainSinglesAreOfSlots, SinglesAreOfSlots, StartsWith}
 use Rattle.machine_theorem.specs.Tags.{once_if}
 use Rattle.machine_theorem.specs.Transfers.{TransfersEndSo, is_transferring}
 use Rattle.machine_theorem.specs.Waits.{AllKeepWaiting, CommandsAwaitAnswers, IsWaitingAlone, LastCommandsWait, PlainCommandsWait, commanded_in, is_command_issue, is_commanded, taken_in, waits_in}
@@ -61,7 +64,7 @@ use Rattle.machine_theorem.proofs.AnswersHeard.{IsMild, fis_mild}
 use Rattle.machine_theorem.proofs.AsSupplied.{supplied_in}
 use Rattle.machine_theorem.proofs.Asking as asking
 use Rattle.machine_theorem.proofs.Asking.{all_none as data_none}
-use Rattle.machine_theorem.proofs.Commanded.{AreNoCommands, LastAsked, all_none, asked, asked_few, heard_long, last_asked}
+use Rattle.machine_theorem.proofs.Commanded.{AreNoCommands, LastAsked, all_none, asked, asked_both, asked_few, heard_long, last_asked}
 use Rattle.machine_theorem.proofs.EndsFew.{disk_same, sent_of}
 use Rattle.machine_theorem.proofs.ErrorNone.{IsErrorFis, error_none, fails_with}
 use Rattle.machine_theorem.proofs.Fallen as fallen
@@ -69,6 +72,8 @@ use Rattle.machine_theorem.proofs.Fallen.{heard_among, line_stays}
 use Rattle.machine_theorem.proofs.Falls as falls
 use Rattle.machine_theorem.proofs.Falls.{Told, kept_of, told_after, told_now}
 use Rattle.machine_theorem.proofs.FallsFew.{came_of}
+use Rattle.machine_theorem.proofs.FirstCalls.{starts_with}
+use Rattle.machine_theorem.proofs.FirstDeeds.{calls_to, lasts_to, line_to, linked_to}
 use Rattle.machine_theorem.proofs.OneConn.{ends_same, no_length}
 use Rattle.machine_theorem.proofs.Ordered.{first_ruled}
 use Rattle.machine_theorem.proofs.Own.{last_ruled}
@@ -102,7 +107,7 @@ pub record Laws : Type 0 where
 -- ---- the slot whose bit falls waits
 
 -- a command that is not queued waits once it was sent
-sent_waits : (i : Issue) → IsIssue i → is_queued_issue i ≡ false → i.sent ≡ true → is_waiting i ≡ true
+pub sent_waits : (i : Issue) → IsIssue i → is_queued_issue i ≡ false → i.sent ≡ true → is_waiting i ≡ true
 sent_waits i is plain sent = by i.sent i.answered sent refl
   where
     by : (a b : Bool) → a ≡ true → i.answered ≡ b → (a && not b) ≡ true
@@ -119,7 +124,7 @@ goes_sent true a s n e f = absurd (cc)
 goes_sent false a true n e f = refl
 goes_sent false a false n e f = absurd (cc)
 
-same_issue : (o : Option Issue) (i j : Issue) → o ≡ Some i → o ≡ Some j → i ≡ j
+pub same_issue : (o : Option Issue) (i j : Issue) → o ≡ Some i → o ≡ Some j → i ≡ j
 same_issue o i j a b = by (sym a ∙ b)
   where
     by : Some i ≡ Some j → i ≡ j
@@ -132,14 +137,14 @@ match_in : {A : Type 0} (P : A → Type 0) (o : Option A) (x : A) → o ≡ Some
 match_in P o x is h = subst (λ (y : Option _). MatchOption y (Unit {0}) P) is h
 
 module _ (slot : ℕ) (low : slot < 32) (c : ControllerState) (k : IsController c) (i : Issue) (there : issue_at c.core.slots slot ≡ Some i) (plain : is_queued_issue i ≡ false) where
-  issue_is : IsIssue i
+  pub issue_is : IsIssue i
   issue_is = match_in IsIssue (issue_at c.core.slots slot) i there (k.slots.issues slot)
 
-  mine : own_issue (slots_of i.dev c.core.slots) slot ≡ Some i
+  pub mine : own_issue (slots_of i.dev c.core.slots) slot ≡ Some i
   mine = own_here slot c.core.slots i (let long = k.slots.slots in omega (arith, long, low)) there
 
   -- the one that is set up was sent
-  set_up_sent : (cx : Context) → context_of c.core.slots i.dev ≡ Some cx → cx.slot ≡ slot → i.sent ≡ true
+  pub set_up_sent : (cx : Context) → context_of c.core.slots i.dev ≡ Some cx → cx.slot ≡ slot → i.sent ≡ true
   set_up_sent cx is same =
       let of : IsContext i.dev c.core.slots cx = match_in (IsContext i.dev c.core.slots) (context_of c.core.slots i.dev) cx is (k.slots.contexts i.dev) in
       let at : IsContextOf i.dev cx i = match_at (IsContextOf i.dev cx) (issue_at c.core.slots cx.slot) i (ap (issue_at c.core.slots) same ∙ there) of.1 in
@@ -159,17 +164,17 @@ first_of_four : (a b c d : Bool) → (a && b && c && d) ≡ true → a ≡ true
 first_of_four true b c d e = refl
 first_of_four false b c d e = absurd (cc)
 
-second_of_four : (a b c d : Bool) → (a && b && c && d) ≡ true → b ≡ true
+pub second_of_four : (a b c d : Bool) → (a && b && c && d) ≡ true → b ≡ true
 second_of_four true true c d e = refl
 second_of_four true false c d e = absurd (cc)
 second_of_four false b c d e = absurd (cc)
 
-ended_as : (slot : ℕ) (e : HistoryEvent) (past : History) (w : Work) → (e ≡ Answered) ⊎ ((bytes : List ℕ) × (e ≡ Carried bytes)) → completes slot e past w ≡ true
+pub ended_as : (slot : ℕ) (e : HistoryEvent) (past : History) (w : Work) → (e ≡ Answered) ⊎ ((bytes : List ℕ) × (e ≡ Carried bytes)) → completes slot e past w ≡ true
     → (is_at slot (waiting_in past) ≡ true) ⊎ (is_set_up slot past ≡ true)
 ended_as slot e past w (inl answered) done = inl (first_of_three (is_at slot (waiting_in past)) _ _ (ap (λ (x : HistoryEvent). completes slot x past w) (sym answered) ∙ done))
 ended_as slot e past w (inr carried) done = inr (first_of_four (is_set_up slot past) _ _ _ (ap (λ (x : HistoryEvent). completes slot x past w) (sym carried.1) ∙ done))
 
-completed_waits : (slot : ℕ) → slot < 32 → (c : ControllerState) → IsController c → (frame : List ℕ) → IsEndedInHistory c frame slot → (i : Issue) → issue_at c.core.slots slot ≡ Some i
+pub completed_waits : (slot : ℕ) → slot < 32 → (c : ControllerState) → IsController c → (frame : List ℕ) → IsEndedInHistory c frame slot → (i : Issue) → issue_at c.core.slots slot ≡ Some i
     → is_queued_issue i ≡ false → is_waiting i ≡ true
 completed_waits slot low c k frame ended i there plain =
     let done : IsCompleted slot ended.past c frame = ended.completed in
@@ -180,7 +185,7 @@ completed_waits slot low c k frame ended i there plain =
     (ended_as slot done.event (ended.past done.issue.dev) done.issue.work (done.kind plain_done) done.completes)
 
 -- a FIS that completes a command is no error
-no_error : (slot : ℕ) (c : ControllerState) (frame : List ℕ) → IsEndedInHistory c frame slot → IsErrorFis frame → ⊥
+pub no_error : (slot : ℕ) (c : ControllerState) (frame : List ℕ) → IsEndedInHistory c frame slot → IsErrorFis frame → ⊥
 no_error slot c frame ended error =
     by (sym (error_none c.core (room_for c (port_of frame)) frame error.kind error.error) ∙ ended.completed.heard)
   where
@@ -195,7 +200,7 @@ register_ends slot e past w false mild (inl answered) done other = absurd (subst
 register_ends slot e past w false mild (inr carried) done other =
     absurd (false≢true (sym other ∙ second_of_four (is_set_up slot past) (is_pio w.kind) _ _ (ap (λ (x : HistoryEvent). completes slot x past w) (sym carried.1) ∙ done)))
 
-completed_by : (slot : ℕ) (c : ControllerState) (frame : List ℕ) → IsEndedInHistory c frame slot → (i : Issue) → issue_at c.core.slots slot ≡ Some i → is_queued_issue i ≡ false
+pub completed_by : (slot : ℕ) (c : ControllerState) (frame : List ℕ) → IsEndedInHistory c frame slot → (i : Issue) → issue_at c.core.slots slot ≡ Some i → is_queued_issue i ≡ false
     → is_pio i.work.kind ≡ false → is_answering frame ≡ true
 completed_by slot c frame ended i there plain other =
     let done : IsCompleted slot ended.past c frame = ended.completed in
@@ -206,7 +211,7 @@ completed_by slot c frame ended i there plain other =
 
 -- ---- the last command that the disk heard
 
-last_heard : (calls front later : List Call) (bytes : List ℕ) → calls ≡ front ++ Hears bytes ∷ later → is_asking bytes ≡ true → heard_in later ≡ 0
+pub last_heard : (calls front later : List Call) (bytes : List ℕ) → calls ≡ front ++ Hears bytes ∷ later → is_asking bytes ≡ true → heard_in later ≡ 0
     → picks is_asking (flat_map heard_by calls) ≡ picks is_asking (flat_map heard_by front) ++ bytes ∷ []
 last_heard calls front later bytes split asks none =
     ap (λ (l : List Call). picks is_asking (flat_map heard_by l)) split
@@ -216,20 +221,20 @@ last_heard calls front later bytes split asks none =
     (ap (λ (b : Bool). if b then bytes ∷ picks is_asking (flat_map heard_by later) else picks is_asking (flat_map heard_by later)) asks
     ∙ ap (λ (l : List (List ℕ)). bytes ∷ l) (no_length (picks is_asking (flat_map heard_by later)) (heard_long later ∙ none)))
 
-kept_behind : (xs : List Call) (y : Call) (ys : List Call) → AreKeptOn (xs ++ y ∷ ys) → AreKeptOn ys
+pub kept_behind : (xs : List Call) (y : Call) (ys : List Call) → AreKeptOn (xs ++ y ∷ ys) → AreKeptOn ys
 kept_behind [] y ys on = on.1
 kept_behind (x ∷ xs) y ys on = kept_behind xs y ys on.1
 
-kept_first : (xs ys : List Call) → AreKeptOn (xs ++ ys) → AreKeptOn xs
+pub kept_first : (xs ys : List Call) → AreKeptOn (xs ++ ys) → AreKeptOn xs
 kept_first [] ys on = tt
 kept_first (x ∷ xs) ys on = (on.0, kept_first xs ys on.1)
 
-record Earns (x : Option Page) : Type 0 where
-  page : Page
-  is : x ≡ Some page
-  earned : IsEarned page.command page.ledger page.command.write
+pub record Earns (x : Option Page) : Type 0 where
+  pub page : Page
+  pub is : x ≡ Some page
+  pub earned : IsEarned page.command page.ledger page.command.write
 
-earns : (x : Option Page) → HasEarned x → Earns x
+pub earns : (x : Option Page) → HasEarned x → Earns x
 earns None earned = absurd earned
 earns (Some page) earned = record { page = page; is = refl; earned = earned }
 
@@ -269,13 +274,13 @@ pub record Stretch : Type 0 where
   pub of : AllOfDevice many n dev at.controller (calls_in at deeds now run) now.controller runs.calls
   pub waiting : AllKeepWaiting dev at.controller (calls_in at deeds now run) now.controller runs.calls
 
-abbrev calls : Stretch → List Call
+abbrev pub calls : Stretch → List Call
 calls s = calls_of s.n s.at s.deeds s.now s.run
 
-abbrev events : Stretch → List Event
+abbrev pub events : Stretch → List Event
 events s = calls_in s.at s.deeds s.now s.run
 
-abbrev came : Stretch → List Stamped
+abbrev pub came : Stretch → List Stamped
 came s = came_of s.at s.deeds s.now s.run
 
 abbrev commanded : Stretch → ℕ
@@ -318,7 +323,7 @@ once_most false = omega arith
 
 -- ---- the last command that went
 
-owner_is : (to dev : ℕ) (o : Option Issue) → MatchOption o ⊥ (λ i. i.dev ≡ to) → holds (is_command_issue dev) o ≡ true → to ≡ dev
+pub owner_is : (to dev : ℕ) (o : Option Issue) → MatchOption o ⊥ (λ i. i.dev ≡ to) → holds (is_command_issue dev) o ≡ true → to ≡ dev
 owner_is to dev None owner is = absurd owner
 owner_is to dev (Some i) owner is = sym owner ∙ eqb-true i.dev dev (and_parts (i.dev == dev) (not (is_control i.work.kind)) is).0
 
@@ -326,12 +331,13 @@ first_kept : (events : List Event) (old now : ControllerState) → Runs old even
 first_kept [] old now run = run.0
 first_kept (e ∷ later) old now run = run.0
 
-abbrev LastOf : Stretch → Type 0
+abbrev pub LastOf : Stretch → Type 0
 LastOf s = LastAsked s.many s.n s.dev s.at.controller (events s) s.now.controller s.runs.calls
 
-record Numbers (later taken : ℕ) : Type 0 where
+record Numbers (later taken before : ℕ) : Type 0 where
   none : later ≡ 0
   untaken : taken ≡ 0
+  free : before ≡ 0
 
 -- of c commands that went and s FISes that asked, c1 and s1 before the last, c2 behind it; t, t1 and t2 that were taken; w0, wa and wm that waited at the beginning, before the last and behind it
 record Sums (s s1 c c1 c2 t t1 t2 w0 wa wm : ℕ) : Type 0 where
@@ -345,7 +351,7 @@ record Sums (s s1 c c1 c2 t t1 t2 w0 wa wm : ℕ) : Type 0 where
   one : wm ≤ 1
   due : suc t ≤ s
 
-sums : (s s1 c c1 c2 t t1 t2 w0 wa wm : ℕ) → Sums s s1 c c1 c2 t t1 t2 w0 wa wm → Numbers c2 t2
+sums : (s s1 c c1 c2 t t1 t2 w0 wa wm : ℕ) → Sums s s1 c c1 c2 t t1 t2 w0 wa wm → Numbers c2 t2 wa
 sums s s1 c c1 c2 t t1 t2 w0 wa wm q =
     let p1 = q.all in
     let p2 = q.whole in
@@ -356,10 +362,10 @@ sums s s1 c c1 c2 t t1 t2 w0 wa wm q =
     let p7 = q.step in
     let p8 = q.one in
     let p9 = q.due in
-    record { none = omega (arith, p1, p2, p4, p5); untaken = omega (arith, p1, p2, p3, p4, p5, p6, p7, p8, p9) }
+    record { none = omega (arith, p1, p2, p4, p5); untaken = omega (arith, p1, p2, p3, p4, p5, p6, p7, p8, p9); free = omega (arith, p7, p8) }
 
 module _ (laws : Laws) (s : Stretch) where
-  abbrev start : ControllerState
+  abbrev pub start : ControllerState
   start = s.at.controller
 
   abbrev end : ControllerState
@@ -377,10 +383,14 @@ module _ (laws : Laws) (s : Stretch) where
       }
 
   -- the last command of the stretch, where all but it were answered
-  record Waits (l : LastOf s) : Type 0 where
-    same : l.to ≡ s.dev
-    waits : IsWaitingAlone s.dev l.slot l.later end
-    low : l.slot < 32
+  pub record Waits (l : LastOf s) : Type 0 where
+    pub same : l.to ≡ s.dev
+    pub waits : IsWaitingAlone s.dev l.slot l.later end
+    pub low : l.slot < 32
+    -- none was sent behind it, and none taken; and none waited before
+    pub none : commanded_in s.dev l.rest.1.0 l.later end l.rest.1.2 ≡ 0
+    pub untaken : taken_in s.dev l.later ≡ 0
+    pub before : once_if (waits_in s.dev l.at) ≡ 0
 
   -- where no command went behind the last, and no Register FIS was taken, it waits
   abbrev Rest : LastOf s → ℕ → Type 0
@@ -404,7 +414,7 @@ module _ (laws : Laws) (s : Stretch) where
       let few = asked_few s.many s.n s.dev l.before start l.at l.led l.none l.of in
       let long = ap (λ (q : List (List ℕ)). length q) l.last ∙ length-append (asked s.many s.n l.before) (marked l.fis 0 ∷ []) in
       let whole = l.commanded in
-      let n : Numbers (commanded_in s.dev mid l.later end l.rest.1.2) (taken_in s.dev l.later) =
+      let n : Numbers (commanded_in s.dev mid l.later end l.rest.1.2) (taken_in s.dev l.later) (once_if (waits_in s.dev l.at)) =
       sums (length (asked s.many s.n (events s))) (length (asked s.many s.n l.before)) (commanded s) (commanded_in s.dev start l.before l.at l.led) (commanded_in s.dev mid l.later end l.rest.1.2)
       (taken_in s.dev (events s)) (taken_in s.dev l.before) (taken_in s.dev l.later) (once_if (waits_in s.dev start)) (once_if (waits_in s.dev l.at)) (once_if (waits_in s.dev mid)) (record {
         all = omega (arith, long);
@@ -422,6 +432,9 @@ module _ (laws : Laws) (s : Stretch) where
       record {
         same = owner;
         low = low;
+        none = n.none;
+        untaken = n.untaken;
+        before = n.free;
         waits = by l.to owner l.rest is l.keeps_rest n.none n.untaken there low;
       }
     where
@@ -433,8 +446,8 @@ module _ (laws : Laws) (s : Stretch) where
   -- ---- the moment at which the disk sent the FIS
 
   module _ (issue : Issue) (there : issue_at end.core.slots s.slot ≡ Some issue) (mine : issue.dev ≡ s.dev) (waits : is_waiting issue ≡ true) (f : Stamped) (own : is_of s.n s.c f ≡ true)
-      (found : Found s.many s.n s.c s.dev s.at s.deeds s.now s.run (of_conn s.n s.c (came s)) f) (well : IsErrorFis f.bytes → ⊥) where
-    abbrev then' : List Call
+      (found : Found s.many s.n s.c s.dev s.at s.deeds s.now s.run (of_conn s.n s.c (came s)) f) where
+    abbrev pub then' : List Call
     then' = calls_of s.n s.at found.cut.sooner found.cut.mid found.cut.led
 
     -- the disk of the stretch, there
@@ -451,11 +464,11 @@ module _ (laws : Laws) (s : Stretch) where
         sender_is s.many s.n found.cut.mid k h.frame found.line.end h.room (ap (λ (x : Stamped). x.stamp.port == s.n) (risen_is k o does sent) ∙ port_is s.n s.c f own)
 
     -- it sent the FIS
-    record IsSpoken (deed : Deed) : Type 0 where
-      o : Out
-      does : Does found.cut.mid (Moved (act.Speaks s.n o)) found.cut.next
-      is : deed ≡ Moved (act.Speaks s.n o)
-      sent : sent_by found.cut.mid (Moved (act.Speaks s.n o)) found.cut.next does ≡ f ∷ []
+    pub record IsSpoken (deed : Deed) : Type 0 where
+      pub o : Out
+      pub does : Does found.cut.mid (Moved (act.Speaks s.n o)) found.cut.next
+      pub is : deed ≡ Moved (act.Speaks s.n o)
+      pub sent : sent_by found.cut.mid (Moved (act.Speaks s.n o)) found.cut.next does ≡ f ∷ []
 
     abbrev IsOne : ℕ → Out → Type 0
     IsOne k o = (does : Does found.cut.mid (Moved (act.Speaks k o)) found.cut.next) → sent_by found.cut.mid (Moved (act.Speaks k o)) found.cut.next does ≡ f ∷ [] → IsSpoken (Moved (act.Speaks k o))
@@ -466,7 +479,7 @@ module _ (laws : Laws) (s : Stretch) where
         by : f ∷ [] ≡ [] → ⊥
         by e = cc
 
-    spoken : (deed : Deed) (does : Does found.cut.mid deed found.cut.next) → KeepsLine s.many s.n s.c s.dev found.cut.mid deed found.cut.next does → sent_by found.cut.mid deed found.cut.next does ≡ f ∷ [] → IsSpoken deed
+    pub spoken : (deed : Deed) (does : Does found.cut.mid deed found.cut.next) → KeepsLine s.many s.n s.c s.dev found.cut.mid deed found.cut.next does → sent_by found.cut.mid deed found.cut.next does ≡ f ∷ [] → IsSpoken deed
     spoken (Moved (act.Speaks k o)) does line sent =
         subst (λ (j : ℕ). IsOne j o) (sym (sender_here k o does sent)) (λ here same. record { o = o; does = here; is = refl; sent = same }) does sent
     spoken (Moved a) does line sent = absurd (not_none [] refl sent)
@@ -476,11 +489,11 @@ module _ (laws : Laws) (s : Stretch) where
     spoken deed does line sent = absurd (not_none [] refl sent)
 
     -- the disk there
-    record IsThen (o : Out) : Type 0 where
-      whole : AreCalls (new_disk s.p s.limit) (s.base ++ then')
-      says : IsOut (reached s.p s.limit (s.base ++ then')) (Some o)
+    pub record IsThen (o : Out) : Type 0 where
+      pub whole : AreCalls (new_disk s.p s.limit) (s.base ++ then')
+      pub says : IsOut (reached s.p s.limit (s.base ++ then')) (Some o)
 
-    is_then : (k : ℕ) (o : Out) (does : Does found.cut.mid (Moved (act.Speaks k o)) found.cut.next) → sent_by found.cut.mid (Moved (act.Speaks k o)) found.cut.next does ≡ f ∷ [] → IsThen o
+    pub is_then : (k : ℕ) (o : Out) (does : Does found.cut.mid (Moved (act.Speaks k o)) found.cut.next) → sent_by found.cut.mid (Moved (act.Speaks k o)) found.cut.next does ≡ f ∷ [] → IsThen o
     is_then k o does sent =
         let h = does.does.does.1 in
         let d : DiskState = s.begins.disk in
@@ -493,28 +506,75 @@ module _ (laws : Laws) (s : Stretch) where
         record { whole = whole; says = subst (λ (x : DiskState). IsOut x (Some o)) now_is h.next }
 
     -- its commands until then, and those behind it
-    abbrev behind : List Call
+    abbrev pub behind : List Call
     behind = calls_at found.cut.mid found.deed s.n ++ calls_of s.n found.cut.next found.cut.later s.now found.cut.rest
 
     abbrev IsFrom : List ℕ → Type 0
     IsFrom bytes = IsFromSlot s.dev s.slot s.old s.before s.at s.first s.deeds s.now s.run bytes
 
     -- A command was heard behind all that were answered.
-    record IsBehind : Type 0 where
-      front : List Call
-      bytes : List ℕ
-      later : List Call
-      split : then' ≡ front ++ Hears bytes ∷ later
-      asks : is_asking bytes ≡ true
-      answered : answered_in then' ≤ heard_in front
+    pub record IsBehind : Type 0 where
+      pub front : List Call
+      pub bytes : List ℕ
+      pub later : List Call
+      pub split : then' ≡ front ++ Hears bytes ∷ later
+      pub asks : is_asking bytes ≡ true
+      pub answered : answered_in then' ≤ heard_in front
 
-    record IsLast (it : IsBehind) : Type 0 where
-      none : heard_in it.later ≡ 0
-      few : heard_in it.front ≤ answered_in then'
-      slots : IsFrom it.bytes
+    -- The FIS went from a slot, and no other command for the disk was sent since.
+    pub record WentFrom (slot : ℕ) (bytes : List ℕ) : Type 0 where
+      pub from : IsFromSlot s.dev slot s.old s.before s.at s.first s.deeds s.now s.run bytes
+      pub is_its : is_for s.many s.n (record { bytes = from.order; stamp = host_stamp s.dev }) ≡ true
+      pub last : asked s.many s.n (events s) ≡ asked s.many s.n from.ordered.before ++ marked from.order 0 ∷ []
+
+    -- the disk heard it behind what it did until the FIS went
+    abbrev Went : (front : List Call) → (before : List Event) → Type 0
+    Went front before = (k : ℕ) (since : List Event) → before ≡ calls_in s.at (first_deeds k s.deeds) (machine_at k s.at s.deeds s.now s.run) (first_run k s.at s.deeds s.now s.run) ++ since
+        → StartsWith (calls_of s.n s.at (first_deeds k s.deeds) (machine_at k s.at s.deeds s.now s.run) (first_run k s.at s.deeds s.now s.run)) front
+
+    pub record IsLast (it : IsBehind) : Type 0 where
+      pub none : heard_in it.later ≡ 0
+      pub few : heard_in it.front ≤ answered_in then'
+      -- no slot of the device waited as the stretch began
+      pub free : once_if (waits_in s.dev start) ≡ 0
+      pub slots : IsFrom it.bytes
+      -- the disk heard all commands that were sent, and this one is the last
+      pub more : heard_in (it.later ++ behind) ≡ 0
+      pub all : picks is_asking (flat_map heard_by (calls s)) ≡ asked s.many s.n (events s)
+      pub source : WentFrom s.slot it.bytes
+      pub went : Went it.front source.from.ordered.before
+      pub last : LastOf s
+      pub wait : Waits last
+      pub here : last.slot ≡ s.slot
+
+    record FromWent (front : List Call) (bytes : List ℕ) (j : ℕ) : Type 0 where
+      source : WentFrom j bytes
+      went : Went front source.from.ordered.before
+
+    -- what the disk heard until the FIS went, went before it
+    behind_first : (front : List Call) (bytes : List ℕ) (more : List Call) → calls s ≡ front ++ Hears bytes ∷ more → is_asking bytes ≡ true → (k : ℕ) (before since : List Event)
+        → before ≡ calls_in s.at (first_deeds k s.deeds) (machine_at k s.at s.deeds s.now s.run) (first_run k s.at s.deeds s.now s.run) ++ since
+        → length (asked s.many s.n before) ≤ heard_in front
+        → StartsWith (calls_of s.n s.at (first_deeds k s.deeds) (machine_at k s.at s.deeds s.now s.run) (first_run k s.at s.deeds s.now s.run)) front
+    behind_first front bytes more split asks k before since is most =
+        let mid : MachineState = machine_at k s.at s.deeds s.now s.run in
+        let run : RunsRuled s.at (first_deeds k s.deeds) mid = first_run k s.at s.deeds s.now s.run in
+        let first : List Call = calls_of s.n s.at (first_deeds k s.deeds) mid run in
+        let led : List Event = calls_in s.at (first_deeds k s.deeds) mid run in
+        let opens : OpensSo s.old = laws.falls.opens s.ports s.legacy s.old s.opening (first_ruled s.before s.old s.at s.first) in
+        let due : GathersDue s.at = (laws.falls.runs s.old s.before s.at s.first opens.due).due in
+        let among = heard_among laws.falling s.many s.n (first_deeds k s.deeds) s.at mid run s.begins.disk s.begins.there
+        (line_stays s.many s.n s.c s.dev (first_deeds k s.deeds) s.at mid run (line_to s.many s.n s.c s.dev k s.deeds s.at s.now s.run s.keeps)) due
+        (linked_to k s.deeds s.has_link) (lasts_to s.n k s.deeds s.at s.now s.run s.lasts) s.begins.leaving s.begins.down in
+        let few = fewer (picks is_asking (flat_map heard_by first)) (asked s.many s.n led) (within_picks is_asking _ _ among) in
+        let long = heard_long first in
+        let sum = ap (λ (l : List Event). length (asked s.many s.n l)) is ∙ ap (λ (l : List (List ℕ)). length l) (asked_both s.many s.n led since)
+        ∙ length-append (asked s.many s.n led) (asked s.many s.n since) in
+        let rest = calls_to s.n k s.deeds s.at s.now s.run in
+        starts_with first front rest.0 more bytes (sym rest.1 ∙ split) asks (omega (arith, few, long, sum, most))
 
     -- it is that of the slot
-    is_last : (it : IsBehind) → IsLast it
+    pub is_last : (it : IsBehind) → IsLast it
     is_last it =
         let q : Counts s = counts laws s in
         let more : List Call = it.later ++ behind in
@@ -544,34 +604,53 @@ module _ (laws : Laws) (s : Stretch) where
         let whole : IsWhole s.old s.before s.at s.first s.deeds s.now s.run = whole_run s.before s.old s.at s.first s.deeds s.now s.run in
         let went : events s ≡ l.before ++ call.Turned (next.Order s.dev l.slot l.fis) ∷ l.later =
         l.is ∙ ap (λ (j : ℕ). l.before ++ call.Turned (next.Order j l.slot l.fis) ∷ l.later) w.same in
+        let long_last = ap (λ (q : List (List ℕ)). length q) l.last ∙ length-append (asked s.many s.n l.before) (marked l.fis 0 ∷ []) in
+        let whole_heard = ap (λ (q : List (List ℕ)). length q) same in
+        let most : length (asked s.many s.n l.before) ≤ heard_in it.front = omega (arith, long_last, whole_heard, long, sum, one, none) in
+        let got : FromWent it.front it.bytes s.slot = subst (λ (j : ℕ). FromWent it.front it.bytes j) (sym here) (record {
+          source = record {
+            from = record {
+              order = l.fis;
+              ordered = record {
+                before = l.before;
+                later = l.later;
+                is = went;
+                at = l.at;
+                first = l.led;
+                ordered = subst (λ (j : ℕ). IsOrdered l.at j l.slot l.fis) w.same (order_at l.at l.rest.1.0 l.to l.slot l.fis l.rest.0 l.rest.1.1);
+              };
+              heard = is;
+              alone = w.waits.alone;
+              whole = whole;
+              supplied = supplied_in laws.falls laws.kept s.ports s.legacy s.old s.opening s.before s.at s.first s.deeds s.now s.run l.slot w.low w.waits.issue w.waits.is whole s.dev l.fis
+                  (record { before = l.before; later = l.later; is = went; alone = w.waits.alone });
+            };
+            is_its = ap (λ (j : ℕ). is_for s.many s.n (record { bytes = l.fis; stamp = host_stamp j })) (sym w.same) ∙ l.own;
+            last = l.last;
+          };
+          went = λ k since first. behind_first it.front it.bytes more split it.asks k l.before since first most;
+        }) in
         record {
           none = omega (arith, none, both);
           few = omega (arith, sum, one, sent_few, prior, a, b, c, d, least);
-          slots = subst (λ (j : ℕ). IsFromSlot s.dev j s.old s.before s.at s.first s.deeds s.now s.run it.bytes) (sym here) (record {
-            order = l.fis;
-            ordered = record {
-              before = l.before;
-              later = l.later;
-              is = went;
-              at = l.at;
-              first = l.led;
-              ordered = subst (λ (j : ℕ). IsOrdered l.at j l.slot l.fis) w.same (order_at l.at l.rest.1.0 l.to l.slot l.fis l.rest.0 l.rest.1.1);
-            };
-            heard = is;
-            alone = w.waits.alone;
-            whole = whole;
-            supplied = supplied_in laws.falls laws.kept s.ports s.legacy s.old s.opening s.before s.at s.first s.deeds s.now s.run l.slot w.low w.waits.issue w.waits.is whole s.dev l.fis
-                (record { before = l.before; later = l.later; is = went; alone = w.waits.alone });
-          });
+          free = omega (arith, sum, one, sent_few, prior, answered, a, b, c, d, least);
+          slots = got.source.from;
+          more = none;
+          all = same;
+          source = got.source;
+          went = got.went;
+          last = l;
+          wait = w;
+          here = sym here;
         }
 
-    on_then : AreKeptOn then'
+    pub on_then : AreKeptOn then'
     on_then = kept_first then' behind (subst AreKeptOn (found.cut.own s.n) s.on)
 
     -- of a command that moves sectors it is the end
-    ends_it : (k : ℕ) (o : Out) (does : Does found.cut.mid (Moved (act.Speaks k o)) found.cut.next) → sent_by found.cut.mid (Moved (act.Speaks k o)) found.cut.next does ≡ f ∷ [] → IsThen o
+    ends_it : (k : ℕ) (o : Out) (does : Does found.cut.mid (Moved (act.Speaks k o)) found.cut.next) → sent_by found.cut.mid (Moved (act.Speaks k o)) found.cut.next does ≡ f ∷ [] → IsThen o → (IsErrorFis f.bytes → ⊥)
         → is_answer o ≡ true → (u : IsUnanswered then') → heard_in u.later ≡ 0 → heard_in u.front ≤ answered_in then' → is_transferring u.bytes ≡ true → o ≡ out.Of 32 replies.Done
-    ends_it k o does sent t answer u none few transfers =
+    ends_it k o does sent t well answer u none few transfers =
         let x : Call = Hears u.bytes in
         let split : s.base ++ then' ≡ (s.base ++ u.front) ++ x ∷ u.later = ap (λ (l : List Call). s.base ++ l) u.split ∙ sym (append_assoc s.base u.front (x ∷ u.later)) in
         let whole : AreCalls (new_disk s.p s.limit) ((s.base ++ u.front) ++ x ∷ u.later) = subst (AreCalls (new_disk s.p s.limit)) split t.whole in
@@ -587,16 +666,33 @@ module _ (laws : Laws) (s : Stretch) where
           | inr failed ↦ absurd (well (subst (λ (y : Stamped). IsErrorFis y.bytes) (risen_is k o does sent) (fails_with found.cut.mid k o found.cut.next does failed)))
         ]
 
+    pub record IsAnswers (o : Out) : Type 0 where
+      pub answers : IsSlotsAnswer s.dev s.slot s.old s.before s.at s.first s.deeds s.now s.run then' o
+      pub went : Went answers.command.front answers.slots.ordered.before
+
     -- an answer
-    is_answers : (k : ℕ) (o : Out) (does : Does found.cut.mid (Moved (act.Speaks k o)) found.cut.next) → sent_by found.cut.mid (Moved (act.Speaks k o)) found.cut.next does ≡ f ∷ [] → is_answering f.bytes ≡ true
-        → IsSlotsAnswer s.dev s.slot s.old s.before s.at s.first s.deeds s.now s.run then' o
-    is_answers k o does sent answering =
+    pub is_answers : (k : ℕ) (o : Out) (does : Does found.cut.mid (Moved (act.Speaks k o)) found.cut.next) → sent_by found.cut.mid (Moved (act.Speaks k o)) found.cut.next does ≡ f ∷ [] → (IsErrorFis f.bytes → ⊥) → is_answering f.bytes ≡ true
+        → IsAnswers o
+    is_answers k o does sent well answering =
         let t : IsThen o = is_then k o does sent in
         let answer : is_answer o ≡ true =
         says found.cut.mid k o found.cut.next does (subst (λ (y : Stamped). is_answering y.bytes ≡ true) (sym (risen_is k o does sent)) answering) in
         let u : IsUnanswered then' = (laws.turn s.p s.limit s.base then' t.whole s.idle on_then).answers o t.says answer in
         let it = is_last (record { front = u.front; bytes = u.bytes; later = u.later; split = u.split; asks = u.asks; answered = u.behind }) in
-        record { command = u; none = it.none; slots = it.slots; answer = answer; ends = ends_it k o does sent t answer u it.none it.few }
+        record {
+          answers = record { command = u; none = it.none; prior = it.few; slots = it.source.from; answer = answer; ends = ends_it k o does sent t well answer u it.none it.few };
+          went = it.went;
+        }
+
+    -- so no slot of the device waited as the stretch began
+    pub begins_free : (k : ℕ) (o : Out) (does : Does found.cut.mid (Moved (act.Speaks k o)) found.cut.next) → sent_by found.cut.mid (Moved (act.Speaks k o)) found.cut.next does ≡ f ∷ [] → is_answering f.bytes ≡ true
+        → once_if (waits_in s.dev start) ≡ 0
+    begins_free k o does sent answering =
+        let t : IsThen o = is_then k o does sent in
+        let answer : is_answer o ≡ true =
+        says found.cut.mid k o found.cut.next does (subst (λ (y : Stamped). is_answering y.bytes ≡ true) (sym (risen_is k o does sent)) answering) in
+        let u : IsUnanswered then' = (laws.turn s.p s.limit s.base then' t.whole s.idle on_then).answers o t.says answer in
+        (is_last (record { front = u.front; bytes = u.bytes; later = u.later; split = u.split; asks = u.asks; answered = u.behind })).free
 
     -- an end
     is_slots : (k place : ℕ) (does : Does found.cut.mid (Moved (act.Speaks k (out.Of place replies.Done))) found.cut.next)
@@ -613,17 +709,22 @@ module _ (laws : Laws) (s : Stretch) where
         let it = is_last (record { front = turn.front; bytes = turn.asked.bytes; later = turn.asked.later; split = turn.split; asks = turn.asks; answered = turn.behind }) in
         record { page = e.page; books = e.is; earned = e.earned; asked = turn.asked; slots = it.slots }
 
-    done_slots : (o : Out) (does : Does found.cut.mid (Moved (act.Speaks s.n o)) found.cut.next) → sent_by found.cut.mid (Moved (act.Speaks s.n o)) found.cut.next does ≡ f ∷ []
+    pub done_slots : (o : Out) (does : Does found.cut.mid (Moved (act.Speaks s.n o)) found.cut.next) → sent_by found.cut.mid (Moved (act.Speaks s.n o)) found.cut.next does ≡ f ∷ []
         → o ≡ out.Of 32 replies.Done → IsSlots s.dev s.slot s.old s.before s.at s.first s.deeds s.now s.run s.p s.limit (s.base ++ then')
     done_slots o does sent is =
         subst (λ (x : Out). (d : Does found.cut.mid (Moved (act.Speaks s.n x)) found.cut.next) → sent_by found.cut.mid (Moved (act.Speaks s.n x)) found.cut.next d ≡ f ∷ []
         → IsSlots s.dev s.slot s.old s.before s.at s.first s.deeds s.now s.run s.p s.limit (s.base ++ then'))
         (sym is) (λ d same. is_slots s.n 32 d same) does sent
 
+    -- the calls of the stretch are those until then, this one, and others
+    pub said_calls : (spoke : IsSpoken found.deed) → calls_of s.n s.at s.deeds s.now s.run ≡ then' ++ Sends spoke.o ∷ calls_of s.n found.cut.next found.cut.later s.now found.cut.rest
+    said_calls spoke = found.cut.own s.n ∙ ap (λ (l : List Call). then' ++ (l ++ calls_of s.n found.cut.next found.cut.later s.now found.cut.rest))
+        (ap (λ (d : Deed). calls_at found.cut.mid d s.n) spoke.is ∙ ap (λ (b : Bool). if b then Sends spoke.o ∷ [] else []) (eq-eqb s.n s.n refl))
+
     -- all of it
-    is_done : (spoke : IsSpoken found.deed) → (is_pio issue.work.kind ≡ false → is_answering f.bytes ≡ true)
+    is_done : (spoke : IsSpoken found.deed) → (IsErrorFis f.bytes → ⊥) → (is_pio issue.work.kind ≡ false → is_answering f.bytes ≡ true)
         → IsDoneSingle s.n s.dev s.slot s.old s.before s.at s.first s.deeds s.now s.run s.p s.limit s.base issue f
-    is_done spoke register = record {
+    is_done spoke well register = record {
       register = register;
       sooner = found.cut.sooner;
       mid = found.cut.mid;
@@ -632,11 +733,33 @@ module _ (laws : Laws) (s : Stretch) where
       after = found.cut.next;
       does = spoke.does;
       later = found.cut.later;
+      rest = found.cut.rest;
       is = found.cut.is ∙ ap (λ (d : Deed). found.cut.sooner ++ d ∷ found.cut.later) spoke.is;
+      own = said_calls spoke;
       sent = spoke.sent;
-      answers = λ answering. is_answers s.n spoke.o spoke.does spoke.sent answering;
+      more = calls_of s.n found.cut.next found.cut.later s.now found.cut.rest;
+      calls = said_calls spoke;
+      answers = λ answering. (is_answers s.n spoke.o spoke.does spoke.sent well answering).answers;
+      went = λ answering. (is_answers s.n spoke.o spoke.does spoke.sent well answering).went;
       slots = λ is. done_slots spoke.o spoke.does spoke.sent is;
     }
+
+-- ---- a FIS of the connection is taken behind the stretch
+
+pub found_of : Laws → (s : Stretch) (took : Took) (new : MachineState) (does : Does s.now (Moved (act.Takes took)) new) → is_of s.n s.c does.does.frame ≡ true
+    → Found s.many s.n s.c s.dev s.at s.deeds s.now s.run (of_conn s.n s.c (came s)) does.does.frame
+found_of laws s took new does own =
+    let h = does.does in
+    let f : Stamped = h.frame in
+    let link : AreLinked s.deeds = linked s.many s.n s.c s.dev s.deeds s.at s.now s.run s.keeps in
+    let was : Frames = frames_in no_frames s.old s.before s.at s.first in
+    let risen_at : HaveRisen s.at was = laws.falls.rising s.old s.before s.at s.first no_frames (laws.falls.opens_rising s.ports s.legacy s.old s.opening) in
+    let all : Frames = frames_in was s.at s.deeds s.now s.run in
+    let risen_now : HaveRisen s.now all = laws.falls.rising s.at s.deeds s.now s.run was risen_at in
+    let order : InOrder s.n s.c (came s) (sent_of s.at s.deeds s.now s.run) f =
+    in_order s.n s.c s.at s.now was all (came s) (sent_of s.at s.deeds s.now s.run) f (laws.order s.at was risen_at s.n s.c s.below) (laws.order s.now all risen_now s.n s.c s.below)
+    (frames_are s.deeds s.at s.now s.run was link) s.begins.up s.begins.lasts (untaken_is s.now f h.once h.on) own in
+    find s.many s.n s.c s.dev s.deeds s.at s.now s.run s.keeps (of_conn s.n s.c (came s)) order.rest f order.is
 
 -- ---- the law
 
@@ -679,20 +802,12 @@ singles_are laws ports legacy old opening before at first many n c dev slot belo
     } in
     let h = does.does in
     let f : Stamped = h.frame in
-    let link : AreLinked deeds = linked many n c dev deeds at now run keeps in
-    let was : Frames = frames_in no_frames old before at first in
-    let risen_at : HaveRisen at was = laws.falls.rising old before at first no_frames (laws.falls.opens_rising ports legacy old opening) in
-    let all : Frames = frames_in was at deeds now run in
-    let risen_now : HaveRisen now all = laws.falls.rising at deeds now run was risen_at in
-    let order : InOrder n c (came s) (sent_of at deeds now run) f =
-    in_order n c at now was all (came s) (sent_of at deeds now run) f (laws.order at was risen_at n c below) (laws.order now all risen_now n c below) (frames_are deeds at now run was link)
-    begins.up begins.lasts (untaken_is now f h.once h.on) own in
-    let found : Found many n c dev at deeds now run (of_conn n c (came s)) f = find many n c dev deeds at now run keeps (of_conn n c (came s)) order.rest f order.is in
+    let found : Found many n c dev at deeds now run (of_conn n c (came s)) f = found_of laws s took new does own in
     let whole : IsWhole old before at first deeds now run = whole_run before old at first deeds now run in
     let done = (laws.completed ports legacy old opening (before ++ deeds) now whole.all took new does rules slot low shows hides none).ended in
     let waits : is_waiting issue ≡ true = completed_waits slot low now.controller (kept_of laws.falls now (last_ruled deeds at now run)) f.bytes done issue there plain in
     let well : IsErrorFis f.bytes → ⊥ = no_error slot now.controller f.bytes done in
-    is_done laws s issue there mine waits f own found well (spoken laws s issue there mine waits f own found well found.deed found.cut.does found.line found.sent)
+    is_done laws s issue there mine waits f own found (spoken laws s issue there mine waits f own found found.deed found.cut.does found.line found.sent) well
     (completed_by slot now.controller f.bytes done issue there plain)
 
 pub plain_are : Laws → PlainCommandsWait → PlainSinglesAreOfSlots

@@ -37,7 +37,7 @@ none_first y c page h e = absurd (cc)
 none_second : (x : Option Moment) → Same x None
 none_second x c page h e = absurd (cc)
 
-here_or : {A : Type 0} (xs : List (Option A)) (place : ℕ) (x : Option A) → (get_or (set xs place x) place None ≡ x) ⊎ (get_or (set xs place x) place None ≡ None)
+pub here_or : {A : Type 0} (xs : List (Option A)) (place : ℕ) (x : Option A) → (get_or (set xs place x) place None ≡ x) ⊎ (get_or (set xs place x) place None ≡ None)
 here_or [] place x = inr refl
 here_or (y ∷ xs) zero x = inl refl
 here_or (y ∷ xs) (suc place) x = here_or xs place x

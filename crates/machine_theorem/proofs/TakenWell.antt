@@ -46,7 +46,7 @@ pub record WellRun (dev : ℕ) (at : MachineState) (deeds : List Deed) (now : Ma
   pub runs : ControllerRuns at deeds now run
   pub well : AllHeardWell dev at.controller (calls_in at deeds now run) now.controller runs.calls
 
-deed_well : (dev : ℕ) (at : MachineState) (deed : Deed) (new : MachineState) (does : Does at deed new) → TakesWell dev at deed new does
+pub deed_well : (dev : ℕ) (at : MachineState) (deed : Deed) (new : MachineState) (does : Does at deed new) → TakesWell dev at deed new does
     → (run : Runs at.controller (deed_calls at deed new does) new.controller) → AllHeardWell dev at.controller (deed_calls at deed new does) new.controller run
 deed_well dev at (Moved (act.Takes took)) new does well run = (well, tt)
 deed_well dev at deed new does well run = none_well dev (deed_calls at deed new does) at.controller new.controller run (deed_none at deed new does tt)

@@ -21,6 +21,7 @@ use Rattle.machine_theorem.specs.Tags.{ended_with, once_if}
 use Rattle.machine_theorem.proofs.AsSupplied.{Laws, supplied_at}
 use Rattle.machine_theorem.proofs.AtEnd.{AtEnd, LastEnd, at_end, last_end, speaks}
 use Rattle.machine_theorem.proofs.AtOrder.{AtOrder, LastOrder, at_order, last_order}
+use Rattle.machine_theorem.proofs.Cut.{Cut}
 use Rattle.machine_theorem.proofs.LastSaid.{all_ends, sent_both}
 use Rattle.machine_theorem.proofs.SameFis.{same_fis}
 use Rattle.machine_theorem.proofs.StillStands.{none_both}
@@ -35,6 +36,32 @@ the_end laws s fall =
     let fallen = ended.fallen in
     last_end s (omega (arith, fallen))
 
+-- ---- there
+
+-- the stretch until then
+abbrev pub ending : (laws : Laws) (s : Stretch) → Fall s → Stretch
+ending laws s fall = front s (speaks s (the_end laws s fall).tags) (the_end laws s fall).last.cut
+
+pub at_it : (laws : Laws) (s : Stretch) (fall : Fall s) → AtEnd s (the_end laws s fall)
+at_it laws s fall = at_end laws.end s fall (all_ended laws.end.slots s fall (fall_is laws.end.slots s fall)) (the_end laws s fall)
+
+pub the_order : (laws : Laws) (s : Stretch) (fall : Fall s) → LastOrder (ending laws s fall)
+the_order laws s fall = let asks = (at_it laws s fall).asks in last_order laws.end (ending laws s fall) (omega (arith, asks))
+
+pub its_order : (laws : Laws) (s : Stretch) (fall : Fall s) → AtOrder (ending laws s fall) (the_order laws s fall)
+its_order laws s fall =
+    let at : AtEnd s (the_end laws s fall) = at_it laws s fall in
+    at_order laws.end laws.orders (ending laws s fall) (the_order laws s fall) (ended_with s.tag (calls (ending laws s fall))) at.asks at.orders at.falls
+
+-- what the disk did in the stretch, cut at a FIS that says that commands ended
+pub said_own : (s : Stretch) (tags : ℕ) (c : Cut (speaks s tags) s.at s.deeds s.now s.run)
+    → calls s ≡ calls_of s.n s.at c.sooner c.mid c.led ++ Sends (out.Ends tags) ∷ calls_of s.n c.next c.later s.now c.rest
+said_own s tags c =
+    let x : Call = Sends (out.Ends tags) in
+    let rest : List Call = calls_of s.n c.next c.later s.now c.rest in
+    let here : calls_at c.mid (speaks s tags) s.n ≡ x ∷ [] = ap (λ (b : Bool). if b then x ∷ [] else []) (eq-eqb s.n s.n refl) in
+    c.own s.n ∙ ap (λ (l : List Call). calls_of s.n s.at c.sooner c.mid c.led ++ (l ++ rest)) here
+
 -- ---- all of it
 
 unfoldable pub is_done : (laws : Laws) (s : Stretch) (fall : Fall s) → IsDone s.many s.n s.tag s.old s.before s.at s.first s.deeds s.now s.run s.p s.limit s.base fall.does.does.frame
@@ -42,12 +69,11 @@ is_done laws s fall =
     let fell : Falls s fall = fall_is laws.end.slots s fall in
     let ended : AllEnded s fall = all_ended laws.end.slots s fall fell in
     let e : LastEnd s = the_end laws s fall in
-    let at : AtEnd s e = at_end laws.end s fall ended e in
+    let at : AtEnd s e = at_it laws s fall in
     let c = e.last.cut in
-    let t : Stretch = front s (speaks s e.tags) c in
-    let asks = at.asks in
-    let o : LastOrder t = last_order laws.end t (omega (arith, asks)) in
-    let of : AtOrder t o = at_order laws.end laws.orders t o (ended_with s.tag (calls t)) at.asks at.orders at.falls in
+    let t : Stretch = ending laws s fall in
+    let o : LastOrder t = the_order laws s fall in
+    let of : AtOrder t o = its_order laws s fall in
     let slots = at.page.slots in
     let x : Event = call.Turned (next.Order o.dev s.tag o.fis) in
     let rest : List Event = calls_in c.next c.later s.now c.rest in
@@ -68,6 +94,7 @@ is_done laws s fall =
         rest = c.rest;
         is = c.is;
         calls = c.events;
+        own = said_own s e.tags c;
       };
       sent = same_fis laws.end.slots s fall fell ended e;
       page = at.page.page;
@@ -107,10 +134,9 @@ ends_in laws s fall =
     let c = e.last.cut in
     let x : Call = Sends (out.Ends e.tags) in
     let rest : List Call = calls_of s.n c.next c.later s.now c.rest in
-    let here : calls_at c.mid (speaks s e.tags) s.n ≡ x ∷ [] = ap (λ (b : Bool). if b then x ∷ [] else []) (eq-eqb s.n s.n refl) in
     record {
       more = rest;
-      split = c.own s.n ∙ ap (λ (l : List Call). calls_of s.n s.at c.sooner c.mid c.led ++ (l ++ rest)) here;
+      split = said_own s e.tags c;
       few = λ own slot. let all = c.ordered own slot in omega (arith, all);
       keeps = λ tag keeps. (c.keeps s.many s.n tag keeps).0;
       lasts = (c.lasts s.n s.lasts).0;
@@ -120,7 +146,7 @@ ends_in laws s fall =
           let fallen = ended.fallen in
           let none : ended_with s.tag rest ≡ 0 = sym (all_ends s.n s.tag c.later c.next s.now c.rest) ∙ e.last.none in
           let one : once_if (has_bit e.tags s.tag) ≡ 1 = ap once_if e.named in
-          let all = ap (ended_with s.tag) (c.own s.n ∙ ap (λ (l : List Call). calls_of s.n s.at c.sooner c.mid c.led ++ (l ++ rest)) here) in
+          let all = ap (ended_with s.tag) (said_own s e.tags c) in
           let both = ended_both s.tag (calls_of s.n s.at c.sooner c.mid c.led) (x ∷ rest) in
           omega (arith, fallen, none, one, all, both);
     }

@@ -61,7 +61,7 @@ pub record Laws : Type 0 where
 -- ---- what such a command asks for
 
 -- sectors that are not of a queued command, or it is refused
-abbrev IsTransferAsked : Asked → Type 0
+abbrev pub IsTransferAsked : Asked → Type 0
 IsTransferAsked (ask.Moves m) = nat_lt m.command.place 32 ≡ false
 IsTransferAsked (ask.Refused r) = Unit {0}
 IsTransferAsked other = ⊥
@@ -101,15 +101,15 @@ asks_so d f is = asked_so (opcode_of (field H2d Command f)) f (facts_of d.profil
 
 -- ---- what the disk makes of it
 
-abbrev IsAtWork : Task → Type 0
+abbrev pub IsAtWork : Task → Type 0
 IsAtWork tasks.Idle = Unit {0}
 IsAtWork (tasks.Owes r) = fails_by r ≡ true
 IsAtWork (tasks.Moves m) = Unit {0}
 IsAtWork other = ⊥
 
-record Works (f : Front) : Type 0 where
-  clear : f.in_reset ≡ false
-  task : IsAtWork f.task
+pub record Works (f : Front) : Type 0 where
+  pub clear : f.in_reset ≡ false
+  pub task : IsAtWork f.task
 
 task_so : (m : Move) → nat_lt m.command.place 32 ≡ false → IsAtWork (moves_task m)
 task_so m e = by (nat_lt m.command.place 32) e
@@ -151,14 +151,17 @@ clear_of : (b : Bool) (s : Standing) → command_unheard (if b then stand.Reset 
 clear_of true s e = absurd (cc)
 clear_of false s e = refl
 
-hears_it : (d : DiskState) (f : List ℕ) → is_command f ≡ true → is_transfer (opcode_of (field H2d Command f)) ≡ true → register_unheard d f ≡ None → Works (register_heard d f).front
-hears_it d f c t free =
+pub hears_moves : (d : DiskState) (f : List ℕ) → is_command f ≡ true → IsTransferAsked (asked_of d f) → register_unheard d f ≡ None → Works (register_heard d f).front
+hears_moves d f c moves free =
     let s : Standing = standing d.front (tags_of (commands d)) in
     let unheard : command_unheard s ≡ None = ap (λ (b : Bool). if b then command_unheard s else None) (sym c) ∙ free in
     subst (λ (b : Bool). Works (if b then command_told d f else controlled d.front (resets f)).front) (sym c)
-    (course_so d.front (asked_of d f) (course (asked_of d f) s) (asks_so d f t) (clear_of d.front.in_reset _ unheard) (not_dropped (asked_of d f) s unheard))
+    (course_so d.front (asked_of d f) (course (asked_of d f) s) moves (clear_of d.front.in_reset _ unheard) (not_dropped (asked_of d f) s unheard))
 
-hears_transfer : (d : DiskState) (r : Result Fis FisFault) → transfers r ≡ true → ((f : List ℕ) → is_command f ≡ true → register_unheard d f ≡ None) → Works (fis_heard d r).front
+hears_it : (d : DiskState) (f : List ℕ) → is_command f ≡ true → is_transfer (opcode_of (field H2d Command f)) ≡ true → register_unheard d f ≡ None → Works (register_heard d f).front
+hears_it d f c t free = hears_moves d f c (asks_so d f t) free
+
+pub hears_transfer : (d : DiskState) (r : Result Fis FisFault) → transfers r ≡ true → ((f : List ℕ) → is_command f ≡ true → register_unheard d f ≡ None) → Works (fis_heard d r).front
 hears_transfer d (Ok (view.RegH2D f)) is free = let both = and_parts (is_command f) (is_transfer (opcode_of (field H2d Command f))) is in hears_it d f both.0 both.1 (free f both.0)
 hears_transfer d other is free = absurd (cc)
 
@@ -174,7 +177,7 @@ owes_error (tasks.Owes x) r works is = subst (λ (y : Reply). fails_by y ≡ tru
 owes_error (tasks.Moves m) r works is = absurd (cc)
 owes_error other r works is = absurd works
 
-owes_no_page : (t : Task) (p : _) → IsAtWork t → owed t ≡ Some (owe.Page p) → ⊥
+pub owes_no_page : (t : Task) (p : _) → IsAtWork t → owed t ≡ Some (owe.Page p) → ⊥
 owes_no_page tasks.Idle p works is = cc
 owes_no_page (tasks.Owes x) p works is = cc
 owes_no_page (tasks.Moves m) p works is = cc
@@ -242,7 +245,7 @@ fis_so d (Ok (view.RegH2D f)) none calm w = register_so d f none calm w
 fis_so d (Ok (view.Payload f)) none calm w = data_so d (heard_data d.front.task) _ (no_blocks d.front.task w.task) w
 fis_so d other none calm w = w
 
-call_so : (d : DiskState) (x : Call) → IsCall d x → IsKeptOn x → hears_one x ≡ 0 → answers_one x ≡ 0 → Works d.front → Works (after_call d x).front
+pub call_so : (d : DiskState) (x : Call) → IsCall d x → IsKeptOn x → hears_one x ≡ 0 → answers_one x ≡ 0 → Works d.front → Works (after_call d x).front
 call_so d Plugs is on heard said w = absurd on
 call_so d (Hears bytes) is on heard said w = fis_so d (seen bytes) (none_once (asks_one (seen bytes)) heard) on w
 call_so d (Starts x) is on heard said w = w
@@ -250,7 +253,7 @@ call_so d (Asks r) is on heard said w = w
 call_so d (Answers number a) is on heard said w = w
 call_so d (Sends o) is on heard said w = sends_so d o is (none_once (is_answer o) said) w
 
-calls_so : (later : List Call) (d : DiskState) → AreCalls d later → AreKeptOn later → heard_in later ≡ 0 → answered_in later ≡ 0 → Works d.front → Works (after_calls d later).front
+pub calls_so : (later : List Call) (d : DiskState) → AreCalls d later → AreKeptOn later → heard_in later ≡ 0 → answered_in later ≡ 0 → Works d.front → Works (after_calls d later).front
 unfolding after_calls
 calls_so [] d are on heard said w = w
 calls_so (x ∷ later) d are on heard said w =
@@ -285,12 +288,12 @@ answer_so h d other w beside due is answer = absurd (cc)
 
 -- ---- the law
 
-rest_calls : (xs ys : List Call) (d : DiskState) → AreCalls d (xs ++ ys) → AreCalls (after_calls d xs) ys
+pub rest_calls : (xs ys : List Call) (d : DiskState) → AreCalls d (xs ++ ys) → AreCalls (after_calls d xs) ys
 unfolding after_calls
 rest_calls [] ys d are = are
 rest_calls (x ∷ xs) ys d are = rest_calls xs ys (after_call d x) are.1
 
-one_then : (d : DiskState) (x : Call) (later : List Call) → after_calls d (x ∷ later) ≡ after_calls (after_call d x) later
+pub one_then : (d : DiskState) (x : Call) (later : List Call) → after_calls d (x ∷ later) ≡ after_calls (after_call d x) later
 unfolding after_calls
 one_then d x later = refl
 

@@ -44,19 +44,19 @@ pub not_true : (b : Bool) → not b ≡ true → b ≡ false
 not_true true e = absurd (cc)
 not_true false e = refl
 
-record IsSent (n slot : ℕ) (old new : ControllerState) : Type 0 where
-  issue : Issue
-  own : issue.dev ≡ n
-  is : issue_at new.core.slots slot ≡ Some issue
-  mine : own_issue (slots_of n new.core.slots) slot ≡ Some issue
-  waits : is_waiting issue ≡ true
-  before : waits_in n old ≡ false
+pub record IsSent (n slot : ℕ) (old new : ControllerState) : Type 0 where
+  pub issue : Issue
+  pub own : issue.dev ≡ n
+  pub is : issue_at new.core.slots slot ≡ Some issue
+  pub mine : own_issue (slots_of n new.core.slots) slot ≡ Some issue
+  pub waits : is_waiting issue ≡ true
+  pub before : waits_in n old ≡ false
 
 unanswered : (i : Issue) (b : Bool) → i.answered ≡ b → (i.answered ≡ true → i.sent ≡ true) → i.sent ≡ false → not i.answered ≡ true
 unanswered i true is sent unsent = absurd (false≢true (sym unsent ∙ sent is))
 unanswered i false is sent unsent = ap not is
 
-sent_now : (n dev slot : ℕ) (fis : List ℕ) (old new : ControllerState) → slot < 32 → IsController old → IsController new → Does old (call.Turned (next.Order dev slot fis)) new
+pub sent_now : (n dev slot : ℕ) (fis : List ℕ) (old new : ControllerState) → slot < 32 → IsController old → IsController new → Does old (call.Turned (next.Order dev slot fis)) new
     → is_commanded n old (call.Turned (next.Order dev slot fis)) ≡ true → IsSent n slot old new
 sent_now n dev slot fis old new low k l does commanded =
     let long = k.slots.slots in

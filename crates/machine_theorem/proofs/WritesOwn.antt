@@ -33,16 +33,16 @@ pub record Laws : Type 0 where
   pub disks : DisksGoOn
 
 -- a command that awaits Data is under way
-record Awaits (o : Option Moment) : Type 0 where
-  moment : Moment
-  is : o ≡ Some moment
-  under_way : is_under_way (Some moment) ≡ true
+pub record Awaits (o : Option Moment) : Type 0 where
+  pub moment : Moment
+  pub is : o ≡ Some moment
+  pub under_way : is_under_way (Some moment) ≡ true
 
 going : (s : Stage) → is_receiving s ≡ true → not (is_ended s) ≡ true
 going stage.Receiving e = refl
 going other e = absurd (cc)
 
-awaits : (o : Option Moment) → receives o ≡ true → Awaits o
+pub awaits : (o : Option Moment) → receives o ≡ true → Awaits o
 awaits None e = absurd (cc)
 awaits (Some m) e = record { moment = m; is = refl; under_way = going m.stage e }
 
@@ -62,8 +62,7 @@ writes_are laws ports legacy old opening before at first many n c dev tag low de
     let whole : IsWhole old before at first went.before went.mid went.first = whole_run before old at first went.before went.mid went.first in
     let fed : went.goes.issue.work.kind ≡ QueuedWrite
     → IsFedFor old (before ++ went.before) went.mid whole.all dev went.message went.line went.after went.does went.goes.slot went.goes.offset went.goes.len =
-    λ kind. laws.fed ports legacy old opening (before ++ went.before) went.mid whole.all dev went.message went.line went.after went.does went.goes.slot went.goes.offset went.goes.len went.goes.is
-    went.goes.issue went.goes.there kind in
+    λ kind. laws.fed ports legacy old opening (before ++ went.before) went.mid whole.all dev went.message went.line went.after went.does went.goes.slot went.goes.offset went.goes.len went.goes.is in
     record {
       moment = a.moment;
       is = a.is;

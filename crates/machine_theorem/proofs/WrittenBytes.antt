@@ -1,4 +1,4 @@
--- Each byte of a queued read that the guest sees completed was written before the next FIS was taken.
+-- Each byte of a read that was brought was written before the next FIS was taken.
 use Rattle.std.proofs.Common.{◌≡◌, ℕ, zero, suc, ◌+◌, ◌-◌, ◌<◌, ◌≤◌, Bool, true, false, List, [], ◌∷◌, ◌++◌, append_assoc, drop, get_or, length, refl}
 use Rattle.std.proofs.Common.{sym, ap, subst, ◌∙◌}
 use Rattle.std.proofs.Common.{arith, Option, Some, None}
@@ -10,6 +10,8 @@ use Rattle.guest_fetch.specs.Places.{Places, Single, named, place, reach_of, roo
 use Rattle.guest_fetch.specs.declared.entry.Entry.{Entry}
 use Rattle.guest_fetch.specs.declared.moves.Move.{Move}
 use Rattle.slots.specs.Slots.{Issue, issue_at, match_some}
+use Rattle.slots.specs.declared.work.Kind.{Kind}
+use Rattle.slots.specs.declared.work.Kind.TheVariants.{QueuedRead}
 use Rattle.hba_fbs.specs.declared.report.Wrote.{Wrote}
 use Rattle.ahci_controller.specs.States.{ControllerState, kept}
 use Rattle.ahci_controller.specs.Taking.{hindrance}
@@ -20,13 +22,14 @@ use Rattle.controller_laws.specs.Sources.{AreSources, IsReadFrom, Source, Source
 use Rattle.controller_laws.specs.CoreEvents.{AreCoreEvents, of_event}
 use Rattle.controller_laws.specs.Events as call
 use Rattle.controller_laws.specs.Events.{Does as Calls, Event, IsController, Runs}
-use Rattle.ahci_machine.specs.States.{IsOpeningMachine, MachineState}
+use Rattle.ahci_machine.specs.States.{HasRules, IsOpeningMachine, MachineState}
 use Rattle.ahci_machine.specs.declared.act.Act.TheVariants as act
 use Rattle.machine_laws.specs.ControllerLaws.{ControllerRuns, OpensSo, RunsRuled, calls_in}
 use Rattle.machine_laws.specs.Controllers.{deed_calls}
 use Rattle.machine_laws.specs.Deeds.{Deed, Moved}
 use Rattle.machine_theorem.specs.Commands.{AreNotIssued}
 use Rattle.machine_theorem.specs.ReadsWritten.{IsWritten, NoneTaken, ReadsAreWritten, moves_of, told_moves}
+use Rattle.machine_theorem.specs.SingleReads.{IsWrittenThen}
 use Rattle.machine_theorem.proofs.Brought.{read_from}
 use Rattle.machine_theorem.proofs.BroughtAt as moments
 use Rattle.machine_theorem.proofs.BroughtAt.{Brought, brought_ever, byte_is}
@@ -84,7 +87,7 @@ alone_first : (s : ℕ) (xs ys : List Event) → AreNotIssued s (xs ++ ys) → A
 alone_first s [] ys none = tt
 alone_first s (x ∷ xs) ys none = (none.0, alone_first s xs ys none.1)
 
-started_of : (s : ℕ) (c : ControllerState) → IsIdle s c.core → (i : Issue) → issue_at c.core.slots s ≡ Some i → c.core.registers.started ≡ true
+pub started_of : (s : ℕ) (c : ControllerState) → IsIdle s c.core → (i : Issue) → issue_at c.core.slots s ≡ Some i → c.core.registers.started ≡ true
 started_of s c idle i is = by c.core.registers.started refl
   where
     by : (b : Bool) → c.core.registers.started ≡ b → b ≡ true
@@ -108,7 +111,7 @@ module _ (laws : falls.Laws) (s : ℕ) (low : s < 32) where
       let stem = call_stems e s old mid run.1.1 low (are_core old mid e later new run.0 run.1.1 run.1.2) none.0 there.0 there.1 in
       (stem.issue, stem.was)
 
-  idle_run : (events : List Event) (old new : ControllerState) → Runs old events new → IsIdle s old.core → IsIdle s new.core
+  pub idle_run : (events : List Event) (old new : ControllerState) → Runs old events new → IsIdle s old.core → IsIdle s new.core
   idle_run [] old new run idle = subst (λ (c : ControllerState). IsIdle s c.core) (sym run.1) idle
   idle_run (e ∷ later) old new run idle =
       idle_run later run.1.0 new run.1.2 (call_idle e s old run.1.0 run.1.1 low (are_core old run.1.0 e later new run.0 run.1.1 run.1.2) idle)
@@ -134,6 +137,15 @@ module _ (laws : falls.Laws) (s : ℕ) (low : s < 32) where
         said = rest.said ∙ ap (λ l. l ++ told_moves later) one.said ∙ append_assoc d.said (moves_of e) (told_moves later);
         cut = rest.cut;
       }
+
+-- as a machine opens nothing is issued
+pub idle_opens : (laws : falls.Laws) (ports : ℕ) (legacy : Bool) (old : MachineState) → IsOpeningMachine ports legacy old → HasRules old → (s : ℕ) → s < 32
+    → IsIdle s old.controller.core
+idle_opens laws ports legacy old opening rules s low stopped = by (issue_at old.controller.core.slots s) refl
+  where
+    by : (o : Option Issue) → issue_at old.controller.core.slots s ≡ o → o ≡ None
+    by None e = refl
+    by (Some j) e = absurd (none_told old.controller s (kept_of laws old rules) low (laws.opens ports legacy old opening rules).told j e)
 
 -- ---- until the next FIS is taken
 
@@ -237,9 +249,9 @@ has_command (Some y) None x read is = absurd read
 has_command (Some y) (Some g) x read is = (g, refl)
 
 module _ (laws : Laws) (ports : ℕ) (legacy : Bool) (old : MachineState) (opening : IsOpeningMachine ports legacy old) (before : List Deed) (at : MachineState)
-    (begun : RunsRuled old before at) (deeds : List Deed) (now : MachineState) (run : RunsRuled at deeds now) (n s k : ℕ) (low : s < 32) (i : Issue)
+    (begun : RunsRuled old before at) (deeds : List Deed) (now : MachineState) (run : RunsRuled at deeds now) (r : Kind) (n s k : ℕ) (low : s < 32) (i : Issue)
     (there : issue_at now.controller.core.slots s ≡ Some i)
-    (free : hindrance now.controller ≡ None) (b : Brought n s k at deeds now run) where
+    (free : hindrance now.controller ≡ None) (b : Brought r n s k at deeds now run) where
   abbrev facts : falls.Laws
   facts = laws.moments.falls
 
@@ -292,16 +304,10 @@ module _ (laws : Laws) (ports : ℕ) (legacy : Bool) (old : MachineState) (openi
       stood_back facts s low more u.next.controller now.controller rest.calls (none_later s calls more alone) i there
 
   -- and so the port runs
-  idle_first : IsIdle s old.controller.core
-  idle_first stopped = by (issue_at old.controller.core.slots s) refl
-    where
-      by : (o : Option Issue) → issue_at old.controller.core.slots s ≡ o → o ≡ None
-      by None e = refl
-      by (Some j) e = absurd (none_told old.controller s (kept_of facts old (first_ruled before old at begun)) low opens.told j e)
-
   idle_after : IsIdle s after.core
   idle_after =
-      let idle_at : IsIdle s at.controller.core = idle_run facts s low (calls_in old before at begun) old.controller at.controller runs_at.calls idle_first in
+      let idle_at : IsIdle s at.controller.core = idle_run facts s low (calls_in old before at begun) old.controller at.controller runs_at.calls
+      (idle_opens facts ports legacy old opening (first_ruled before old at begun) s low) in
       let idle_mid : IsIdle s mid.controller.core =
       idle_run facts s low (calls_in at b.cut.sooner mid b.cut.led) at.controller mid.controller runs_mid.calls idle_at in
       call_idle (call.Took f b.took) s mid.controller after runs_over.calls.1.1 low
@@ -370,8 +376,8 @@ module _ (laws : Laws) (ports : ℕ) (legacy : Bool) (old : MachineState) (openi
       let whole = b.brings.whole in
       slice_get-get_or (drop 4 f) number 0 (omega (arith, from, to, whole))
 
-  pub is_written : IsWritten n s k at deeds now run (byte_is n s k at deeds now run b)
-  is_written = record {
+  pub written_then : IsWrittenThen s k mid f wrote b.cut.next b.cut.later
+  written_then = record {
     until = u.until;
     next = u.next;
     way = u.way;
@@ -420,8 +426,8 @@ module _ (laws : Laws) (ports : ℕ) (legacy : Bool) (old : MachineState) (openi
   -- it is so still as the bit falls
   pub table_is : (all : RunsRuled old (before ++ deeds) now) (runs : ControllerRuns old (before ++ deeds) now all) (x : Source)
       → (sources_after s no_sources old.controller (calls_in old (before ++ deeds) now all) now.controller runs.calls).issued ≡ Some x
-      → command_of x ≡ Some (unmoved is_written.command)
-  unfolding is_written
+      → command_of x ≡ Some (unmoved written_then.command)
+  unfolding written_then
   table_is all runs x is =
       let on : RunsRuled mid (deed ∷ b.cut.later) now = (last_ruled b.cut.sooner at mid b.cut.led, (b.cut.next, b.cut.does, b.cut.rest)) in
       let runs_on : ControllerRuns mid (deed ∷ b.cut.later) now on = facts.runs mid (deed ∷ b.cut.later) now on runs_mid.due in
@@ -436,15 +442,34 @@ module _ (laws : Laws) (ports : ℕ) (legacy : Bool) (old : MachineState) (openi
 
 -- ---- the law
 
+-- so it is of a queued read
+abbrev pub is_written : (n s k : ℕ) (at : MachineState) (deeds : List Deed) (now : MachineState) (run : RunsRuled at deeds now)
+    (b : Brought QueuedRead n s k at deeds now run) → IsWrittenThen s k b.cut.mid b.cut.does.does.frame.bytes b.brings.wrote b.cut.next b.cut.later
+    → IsWritten n s k at deeds now run (byte_is n s k at deeds now run b)
+is_written n s k at deeds now run b w = record {
+  until = w.until;
+  next = w.next;
+  way = w.way;
+  more = w.more;
+  is = w.is;
+  none = w.none;
+  command = w.command;
+  has = w.has;
+  written = w.written;
+  byte = w.byte;
+  byte_is = w.byte_is;
+  placed = w.placed;
+}
+
 pub reads_are_written : Laws → ReadsAreWritten
 reads_are_written laws ports legacy old opening deeds now run slot low issue done k small =
-    let b : Brought issue.dev slot k old deeds now run = brought_ever laws.moments ports legacy old opening deeds now run slot low issue done k small in
+    let b : Brought QueuedRead issue.dev slot k old deeds now run = brought_ever laws.moments ports legacy old opening deeds now run slot low issue done k small in
     record {
       brought = byte_is issue.dev slot k old deeds now run b;
-      written =
-          is_written laws ports legacy old opening [] old
-          (first_ruled deeds old now run, refl) deeds now run issue.dev slot k low issue done.is done.does.does.free b;
+      written = is_written issue.dev slot k old deeds now run b
+          (written_then laws ports legacy old opening [] old
+          (first_ruled deeds old now run, refl) deeds now run QueuedRead issue.dev slot k low issue done.is done.does.does.free b);
       supplied =
           table_is laws ports legacy old opening [] old
-          (first_ruled deeds old now run, refl) deeds now run issue.dev slot k low issue done.is done.does.does.free b run;
+          (first_ruled deeds old now run, refl) deeds now run QueuedRead issue.dev slot k low issue done.is done.does.does.free b run;
     }

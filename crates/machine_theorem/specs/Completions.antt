@@ -14,7 +14,7 @@ use Rattle.disk_pages.specs.declared.profile.Profile.{Profile}
 use Rattle.sata_disk.specs.State.{new_disk}
 use Rattle.sata_disk.specs.declared.out.Out.TheVariants as out
 use Rattle.sata_disk_books.specs.Books.{page_in}
-use Rattle.sata_disk_laws.specs.Calls.{AreCalls, Call}
+use Rattle.sata_disk_laws.specs.Calls.{AreCalls, Call, Sends}
 use Rattle.sata_disk_laws.specs.Laws.{reached}
 use Rattle.ahci_machine.specs.States.{HasRules, IsOpeningMachine, MachineState}
 use Rattle.ahci_machine.specs.declared.act.Act.TheVariants as act
@@ -42,8 +42,9 @@ pub record EndsAt (n tag : ℕ) (at : MachineState) (deeds : List Deed) (now : M
   pub later : List Deed
   pub rest : RunsRuled new later now
   pub is : deeds ≡ before ++ Moved (act.Speaks n (out.Ends tags)) ∷ later
-  -- To the controller that is no call.
+  -- To the controller that is no call. Of the disk it is one, between those until then and those since.
   pub calls : calls_in at deeds now run ≡ calls_in at before moment first ++ calls_in new later now rest
+  pub own : calls_of n at deeds now run ≡ calls_of n at before moment first ++ Sends (out.Ends tags) ∷ calls_of n new later now rest
 
 -- ---- the command whose bit falls by a FIS
 

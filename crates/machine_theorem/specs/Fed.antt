@@ -1,8 +1,6 @@
--- The bytes of a Data FIS for a queued write are read for the slot and the place of which the controller sends it (AHCI 1.3.1, 4.2.3.3, 5.3 and 9.3, what a
--- port sends; Serial ATA 3.x, 10.5, Data, and 13.6, native command queuing).
+-- The bytes of a Data FIS are read for the slot and the place of which the controller sends it (AHCI 1.3.1, 4.2.3.3, 5.3 and 9.3, what a port sends; Serial ATA
+-- 3.x, 10.5, Data).
 use Rattle.std.specs.Prelude.{ℕ, ◌≡◌, ◌⊎◌, Bool, List, [], Some}
-use Rattle.slots.specs.Slots.{Issue, issue_at}
-use Rattle.slots.specs.declared.work.Kind.TheVariants.{QueuedWrite}
 use Rattle.hba_fbs.specs.declared.turn.Turn.TheVariants.{Feeds}
 use Rattle.ahci_controller.specs.Next.{turn_to}
 use Rattle.ahci_controller.specs.declared.feeding.Fed.TheVariants.{Goes}
@@ -44,10 +42,9 @@ pub record IsFedFor (old : MachineState) (deeds : List Deed) (now : MachineState
   pub len_is : does.does.gathering.feed.len ≡ len
   pub bytes : does.does.gathering.bytes ≡ data_with dev (came_in dev [] old deeds now run)
 
--- So it is over every run from a machine that opens, where a Data FIS goes of a slot in which a queued write is issued.
+-- So it is over every run from a machine that opens, where a Data FIS goes.
 abbrev pub FedDataAreOfTheirSlots : Type 0
 FedDataAreOfTheirSlots = (ports : ℕ) (legacy : Bool) (old : MachineState) → IsOpeningMachine ports legacy old
     → (deeds : List Deed) (now : MachineState) (run : RunsRuled old deeds now) (dev : ℕ) (message : Bool) (line : Edge) (new : MachineState)
     → (does : Does now (Moved (act.Gathers dev (Goes message line))) new) → (slot offset len : ℕ) → turn_to now.controller dev ≡ Feeds dev slot offset len
-    → (issue : Issue) → issue_at now.controller.core.slots slot ≡ Some issue → issue.work.kind ≡ QueuedWrite
     → IsFedFor old deeds now run dev message line new does slot offset len

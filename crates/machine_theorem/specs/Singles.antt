@@ -2,7 +2,7 @@
 -- loaded and sent whole, a write was stored, and flushed where it is to last (AHCI 1.3.1, 3.3.14, PxCI, and 5.3.8; Serial ATA 3.x, 10.5, Register Device to
 -- Host; ACS-3, 4, DMA and PIO data-out protocols). So it is over each stretch of a run that begins while nothing is under way at the disk, and in which
 -- commands and answers go in turn.
-use Rattle.std.specs.Prelude.{ℕ, ◌≡◌, ◌<◌, Bool, true, false, List, [], ◌∷◌, ◌++◌, Some}
+use Rattle.std.specs.Prelude.{ℕ, ◌≡◌, ◌<◌, ◌≤◌, Bool, true, false, List, [], ◌∷◌, ◌++◌, Some}
 use Rattle.fis_view.specs.Frames.{Stamped, marked}
 use Rattle.slots.specs.Slots.{Issue, has_bit, is_pio, is_queued_issue, issue_at}
 use Rattle.ahci_registers.specs.declared.register.Register.TheVariants.{PxCi, PxSact}
@@ -20,7 +20,7 @@ use Rattle.sata_disk.specs.State.{DiskState, new_disk}
 use Rattle.sata_disk.specs.declared.out.Out.{Out}
 use Rattle.sata_disk.specs.declared.out.Out.TheVariants as out
 use Rattle.sata_disk_books.specs.Books.{IsAskedFor, page_in}
-use Rattle.sata_disk_laws.specs.Calls.{AreCalls, Call}
+use Rattle.sata_disk_laws.specs.Calls.{AreCalls, Call, Sends}
 use Rattle.sata_disk_laws.specs.Laws.{reached}
 use Rattle.sata_disk_laws.specs.Once.{host_of, new_host}
 use Rattle.ahci_machine.specs.Gathers.{host_stamp}
@@ -32,9 +32,10 @@ use Rattle.machine_laws.specs.Deeds.{Deed, Does, Moved}
 use Rattle.machine_laws.specs.Falling.{AllLast, HasLink, leaving, way_to}
 use Rattle.machine_laws.specs.Rising.{is_over, on_way, sent_by}
 use Rattle.machine_theorem.specs.Commands.{AreNotIssued, IsSentFrom}
+use Rattle.machine_theorem.specs.FirstDeeds.{first_deeds, first_run, machine_at}
 use Rattle.machine_theorem.specs.Given.{IsWhole}
 use Rattle.machine_theorem.specs.Identity.{calls_of, is_for}
-use Rattle.machine_theorem.specs.InTurn.{AreKeptOn, IsIdle, IsUnanswered, heard_in, is_answer, is_answering, is_asking}
+use Rattle.machine_theorem.specs.InTurn.{AreKeptOn, IsIdle, IsUnanswered, answered_in, heard_in, is_answer, is_answering, is_asking}
 use Rattle.machine_theorem.specs.OwnSlots.{AllKeepLine, is_of}
 use Rattle.machine_theorem.specs.Standing.{IsAsSupplied}
 use Rattle.machine_theorem.specs.Transfers.{is_transferring}
@@ -76,15 +77,20 @@ pub record IsFromSlot (dev slot : ℕ) (old : MachineState) (before : List Deed)
   pub whole : IsWhole old before at first deeds now run
   pub supplied : IsAsSupplied old (before ++ deeds) now whole.all slot order
 
--- The disk answers such a FIS behind these calls: it heard no command since, and answered none.
+-- The disk answers such a FIS behind these calls: it heard no command since, and answered all that it had heard before.
 pub record IsSlotsAnswer (dev slot : ℕ) (old : MachineState) (before : List Deed) (at : MachineState) (first : RunsRuled old before at) (deeds : List Deed)
     (now : MachineState) (run : RunsRuled at deeds now) (calls : List Call) (o : Out) : Type 0 where
   pub command : IsUnanswered calls
   pub none : heard_in command.later ≡ 0
+  pub prior : heard_in command.front ≤ answered_in calls
   pub slots : IsFromSlot dev slot old before at first deeds now run command.bytes
   -- It is an answer; of a command that moves sectors and is not queued it says that this ended well.
   pub answer : is_answer o ≡ true
   pub ends : is_transferring command.bytes ≡ true → o ≡ out.Of 32 replies.Done
+
+pub record StartsWith (first calls : List Call) : Type 0 where
+  pub more : List Call
+  pub is : calls ≡ first ++ more
 
 -- The books of the disk had this command, as it said that it ended well, and it had earned that: of a read the caller gave all bytes of its sectors, and all
 -- were sent; of a write it stored all that came, and flushed where they are to last. It is what such a FIS asked for.
@@ -108,10 +114,21 @@ pub record IsDoneSingle (n dev slot : ℕ) (old : MachineState) (before : List D
   pub after : MachineState
   pub does : Does mid (Moved (act.Speaks n said)) after
   pub later : List Deed
+  pub rest : RunsRuled after later now
   pub is : deeds ≡ sooner ++ Moved (act.Speaks n said) ∷ later
+  -- Of the disk's calls in the stretch it is this one.
+  pub own : calls_of n at deeds now run ≡ calls_of n at sooner mid led ++ Sends said ∷ calls_of n after later now rest
   pub sent : sent_by mid (Moved (act.Speaks n said)) after does ≡ f ∷ []
+  -- Its calls of the stretch are those until then, this one, and others.
+  pub more : List Call
+  pub calls : calls_of n at deeds now run ≡ calls_of n at sooner mid led ++ Sends said ∷ more
   -- It answers the command that the guest had supplied for the slot.
   pub answers : is_answering f.bytes ≡ true → IsSlotsAnswer dev slot old before at first deeds now run (calls_of n at sooner mid led) said
+  -- It heard the FIS of this command behind what it did until this went from the slot.
+  pub went : (answering : is_answering f.bytes ≡ true) (k : ℕ) (since : List Event)
+      → (answers answering).slots.ordered.before
+      ≡ calls_in at (first_deeds k deeds) (machine_at k at deeds now run) (first_run k at deeds now run) ++ since
+      → StartsWith (calls_of n at (first_deeds k deeds) (machine_at k at deeds now run) (first_run k at deeds now run)) (answers answering).command.front
   -- If it says that a command which is not queued ended well, the disk did all of it.
   pub slots : said ≡ out.Of 32 replies.Done → IsSlots dev slot old before at first deeds now run p limit (base ++ calls_of n at sooner mid led)
 

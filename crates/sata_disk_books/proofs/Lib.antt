@@ -4,14 +4,17 @@ mod Asked
 mod Ended
 mod Places
 mod NoEnds
-pub mod Door
 mod Holds
 mod Sound
 mod Does
 mod Lone
 mod Counted
+pub mod Door
 mod NoSetUps
 mod Told
 mod Coming
 mod Taken
 mod Turning
+mod Alone
+mod LastBlocks
+mod LastData

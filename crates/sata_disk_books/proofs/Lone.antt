@@ -109,7 +109,7 @@ answer_free : (q : Queue) (p : ℕ) (i : Input) (out : List ℕ) (b : Bool) → 
 answer_free q p i out true free = input_free q.table p i free
 answer_free q p i out false free = free
 
-abbrev none : Command → Type 0
+abbrev pub none : Command → Type 0
 none c = ⊥
 
 pub reset_free : (l : Line) → NoTags (line_reset l)
@@ -130,7 +130,7 @@ deeds_free [] l never free = free
 deeds_free (d ∷ ds) l never free = deeds_free ds (after_deed l d) never.1 (deed_free l d never.0 free)
 
 -- a call that takes none
-call_free : (d : DiskState) (c : Call) → Each (OfStep none) (steps_of d c) → NoTags (commands d) → NoTags (commands (after_call d c))
+pub call_free : (d : DiskState) (c : Call) → Each (OfStep none) (steps_of d c) → NoTags (commands d) → NoTags (commands (after_call d c))
 call_free d c never free =
     subst NoTags (sym (line_by d c)) (deeds_free (deeds_by d c) (commands d) (moves_deeds none _ _ (steps_moves none (steps_of d c) d.engine never)) free)
 
@@ -152,7 +152,7 @@ none_below l (suc n) e t low = elim (cases_eq t n) [
   | inr apart ↦ none_below l n (bit_case (tags_below l n) n (is_taken l n) e).0 t (omega (arith, low, apart))
 ]
 
-no_tags : (l : Line) → tags_of l ≡ 0 → NoTags l
+pub no_tags : (l : Line) → tags_of l ≡ 0 → NoTags l
 unfolding tags_of
 no_tags l e = none_below l 32 e
 
@@ -247,13 +247,13 @@ queued_lone : (d : DiskState) (a : Asked) (tags : ℕ) (b : Bool) → (tags == 0
 queued_lone d a tags true e same clear was = taken_lone d a (λ m. clear) (λ r. no_tags (commands d) (same ∙ eqb-true tags 0 e)) was
 queued_lone d a tags false e same clear was = beside_lone d a tags (stands_beside a tags) refl clear was
 
-error_fault : (r : Bool) (t : Task) (x : Option Fault) (tags : ℕ) → (if r then stand.Reset else standing_by t x tags) ≡ stand.Error → is_some x ≡ true
+pub error_fault : (r : Bool) (t : Task) (x : Option Fault) (tags : ℕ) → (if r then stand.Reset else standing_by t x tags) ≡ stand.Error → is_some x ≡ true
 error_fault true t x tags e = absurd (cc)
 error_fault false tasks.Idle None tags e = absurd (cc)
 error_fault false tasks.Idle (Some g) tags e = refl
 error_fault false t x tags e = absurd (cc)
 
-queued_fault : (r : Bool) (t : Task) (x : Option Fault) (tags k : ℕ) → (if r then stand.Reset else standing_by t x tags) ≡ stand.Queued k → (x ≡ None) × (tags ≡ k)
+pub queued_fault : (r : Bool) (t : Task) (x : Option Fault) (tags k : ℕ) → (if r then stand.Reset else standing_by t x tags) ≡ stand.Queued k → (x ≡ None) × (tags ≡ k)
 queued_fault true t x tags k e = absurd (cc)
 queued_fault false tasks.Idle None tags k e = (refl, cc)
 queued_fault false tasks.Idle (Some g) tags k e = absurd (cc)
@@ -296,7 +296,7 @@ data_lone : (d : DiskState) (x : Option ℕ) (bytes : List ℕ) → (NoTags (com
 data_lone d None bytes free was = kept d.front (commands d) (commands (data_by d None bytes)) free was
 data_lone d (Some blocks) bytes free was = range_lone d (ranges_of blocks (facts_of d.profile).sectors bytes) was
 
-fis_free : (d : DiskState) (f : List ℕ) (r : Result Fis FisFault) → view_seen f ≡ r → Each (OfStep none) (fis_steps d r) → NoTags (commands d) → NoTags (commands (fis_heard d r))
+pub fis_free : (d : DiskState) (f : List ℕ) (r : Result Fis FisFault) → view_seen f ≡ r → Each (OfStep none) (fis_steps d r) → NoTags (commands d) → NoTags (commands (fis_heard d r))
 fis_free d f r e never free =
     subst (λ (x : Result Fis FisFault). NoTags (commands (fis_heard d x))) e
     (call_free d (call.Hears f) (subst (λ (x : Result Fis FisFault). Each (OfStep none) (fis_steps d x)) (sym e) never) free)
@@ -337,10 +337,10 @@ place_case : (f one two : Front) (l : Line) (b : Bool) → IsLone one l → IsLo
 place_case f one two l true first second = first
 place_case f one two l false first second = second
 
-gone_free : (l : Line) (p : ℕ) → NoTags l → NoTags (line_gone l p)
+pub gone_free : (l : Line) (p : ℕ) → NoTags l → NoTags (line_gone l p)
 gone_free l p free = input_free l.queue.table p Goes free
 
-sent_free : (s : Schedule) (p : ℕ) (b : Bool) → NoTags s.line
+pub sent_free : (s : Schedule) (p : ℕ) (b : Bool) → NoTags s.line
     → NoTags (if b then record s { line = line_reset (line_gone s.line p); fault = Some p } else with_line s (line_gone s.line p)).line
 sent_free s p true free = reset_free (line_gone s.line p)
 sent_free s p false free = gone_free s.line p free

@@ -5,3 +5,4 @@ pub mod Fises
 pub mod Taken
 pub mod Talks
 pub mod InTurn
+pub mod LastData

@@ -157,7 +157,7 @@ calm_move (move.Asks place) = false
 calm_move (move.Answers place number i) = false
 calm_move m = true
 
-abbrev calm_step : Step → Bool
+abbrev pub calm_step : Step → Bool
 calm_step (engine.Asks place) = false
 calm_step engine.AsksAside = false
 calm_step (engine.Answers number a) = false
@@ -237,7 +237,7 @@ out_calm (out.Of p r) = (refl, (refl, tt))
 out_calm (out.Data p n) = (refl, (refl, tt))
 out_calm other = tt
 
-call_calm : (d : DiskState) (c : Call) → calm_call c ≡ true → AllOf calm_step (steps_of d c)
+pub call_calm : (d : DiskState) (c : Call) → calm_call c ≡ true → AllOf calm_step (steps_of d c)
 call_calm d call.Plugs e = (refl, tt)
 call_calm d (call.Hears f) e = fis_calm d (view_seen f)
 call_calm d (call.Starts x) e = start_calm x

@@ -109,7 +109,7 @@ ending l tags None h = record { are = h.0 }
 ending l tags (Some holder) h = absurd h
 
 -- the end of the command of a place is next
-record IsAtEnd (x : Option Moment) : Type 0 where
+pub record IsAtEnd (x : Option Moment) : Type 0 where
   pub moment : Moment
   pub is : x ≡ Some moment
   pub end : is_end (turn_of moment.stage) ≡ true
@@ -137,11 +137,11 @@ done_end : (d : DiskState) (q : ℕ) (x : Option Moment) → Some (out.Of q repl
 done_end d q None e = absurd (cc)
 done_end d q (Some m) e = record { moment = m; is = refl; end = done_stage d q m.command m.done m.bytes m.sent m.stage e }
 
-record Ended (d : DiskState) (place : ℕ) : Type 0 where
+pub record Ended (d : DiskState) (place : ℕ) : Type 0 where
   pub low : place < 33
   pub at' : IsAtEnd (command_at (commands d) place)
 
-ended : (d : DiskState) (o : Out) (place : ℕ) → IsOut d (Some o) → EndsWell o place → Ended d place
+pub ended : (d : DiskState) (o : Out) (place : ℕ) → IsOut d (Some o) → EndsWell o place → Ended d place
 ended d (out.Ends tags) place is well = let low = well.0 in record {
   low = omega (arith, low);
   at' = at_end (command_at (commands d) place) (sym ((ending (commands d) tags (commands d).queue.table.wire is.1.1).are place well.0) ∙ well.1);
@@ -207,7 +207,7 @@ spared_first : (xs ys : List Call) (d : DiskState) (s : ℕ) → AreSparing d s 
 spared_first [] ys d s are = tt
 spared_first (c ∷ xs) ys d s are = (are.0, spared_first xs ys (after_call d c) s are.1)
 
-cell_both : (xs ys : List Call) (d : DiskState) (s : ℕ) (cell : Cell) → cell_of d s cell (xs ++ ys) ≡ cell_of (after_calls d xs) s (cell_of d s cell xs) ys
+pub cell_both : (xs ys : List Call) (d : DiskState) (s : ℕ) (cell : Cell) → cell_of d s cell (xs ++ ys) ≡ cell_of (after_calls d xs) s (cell_of d s cell xs) ys
 unfolding cell_of after_calls
 cell_both [] ys d s cell = refl
 cell_both (c ∷ xs) ys d s cell = cell_both xs ys (after_call d c) s (cell_after d s cell c)

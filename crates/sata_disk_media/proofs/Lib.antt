@@ -11,3 +11,5 @@ mod Kept
 mod Rows
 mod Writes
 mod Sparing
+mod Discarded
+mod Settled

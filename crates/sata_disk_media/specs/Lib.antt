@@ -1,3 +1,4 @@
 pub mod Cells
 pub mod Media
 pub mod Laws
+pub mod Settled

@@ -2,6 +2,7 @@
 
 ghost use Rattle.sata_disk_media.specs.Laws.{GivenIsWritten, LoadsBringWhatIsKept, ReadsBringWrites, StoresAreOfWrites};
 ghost use Rattle.sata_disk_media.specs.Laws.{UndisturbedIsSpared, WritesAreKept};
+ghost use Rattle.sata_disk_media.specs.Settled.{WritesAreSettled};
 
 /// A law. In every run with an honest medium each whole sector of the Data FIS of a read that goes next has the bytes that the medium was
 /// known to keep as the load that brought it was answered.
@@ -16,6 +17,16 @@ pub fn loads_bring_what_is_kept()
 pub fn writes_are_kept()
     ensures { WritesAreKept }
 {}
+
+/// A law. In every run, as the FIS goes that says that a write ended well, each store and each discard of a sector of it that was asked for was answered,
+/// also one that a plug, a reset or an error dropped while it was out. So nothing that was asked for before can still change what the write stored.
+pub fn writes_are_settled()
+    ensures { WritesAreSettled }
+{
+    sata_disk_laws::requests_are_apart();
+    sata_disk_laws::discards_are_alone();
+    writes_are_kept();
+}
 
 /// A law. In every run a store of a sector is asked for only for a write in the books that has it and is under way.
 pub fn stores_are_of_writes()

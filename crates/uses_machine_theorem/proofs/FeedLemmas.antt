@@ -1,4 +1,4 @@
--- What the laws say of the Data of queued writes in the runs that led here.
+-- What the laws say of the Data of writes in the runs that led here.
 use Rattle.ahci_machine.specs.States.{MachineState}
 use Rattle.machine_theorem.specs.Crossing.{OrderedLinksKeepPlaces}
 use Rattle.machine_theorem.specs.Fed.{FedDataAreOfTheirSlots}
@@ -6,8 +6,8 @@ use Rattle.machine_theorem.specs.TakenWrites.{WritesAreAsSupplied}
 use Rattle.uses_machine_theorem.specs.Feeding.{KnowsFed, KnowsPlaces, KnowsWrites}
 
 pub fed : FedDataAreOfTheirSlots → (now : MachineState) → KnowsFed now
-fed law now led dev message line new does slot offset len is issue there kind =
-    law led.ports led.legacy led.first led.opens led.deeds now led.run dev message line new does slot offset len is issue there kind
+fed law now led dev message line new does slot offset len is =
+    law led.ports led.legacy led.first led.opens led.deeds now led.run dev message line new does slot offset len is
 
 pub places : OrderedLinksKeepPlaces → (now : MachineState) → KnowsPlaces now
 places law now at deeds run runs dev low past told none well message line new last next p limit base calls are awaits queue place inside receives extra up within =

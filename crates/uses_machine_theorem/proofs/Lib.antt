@@ -1,4 +1,10 @@
 mod LedLemmas
 mod StandLemmas
 mod SlotLemmas
+mod SingleFeedLemmas
 mod FeedLemmas
+mod PioLemmas
+mod FlushLemmas
+mod StoredLemmas
+mod OverLemmas
+mod SingleReadLemmas

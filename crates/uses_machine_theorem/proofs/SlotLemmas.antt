@@ -93,7 +93,7 @@ following law now at led many n w r below w_low r_low rest rest_r deeds run link
     base are same honest k end falls took new does rules fell
 
 -- what some calls of a new disk led to
-new_one : (p : Profile) (limit : ℕ) (life : Life) (d : DiskState) (lived : HasLived life d) (calls : List Call) → lived.disk ≡ new_disk p limit → life.calls ≡ calls
+pub new_one : (p : Profile) (limit : ℕ) (life : Life) (d : DiskState) (lived : HasLived life d) (calls : List Call) → lived.disk ≡ new_disk p limit → life.calls ≡ calls
     → AreCalls (new_disk p limit) calls × (d ≡ reached p limit calls)
 new_one p limit life d lived calls new is = (
   subst (λ (l : List Call). AreCalls (new_disk p limit) l) is (subst (λ (x : DiskState). AreCalls x life.calls) new lived.are),

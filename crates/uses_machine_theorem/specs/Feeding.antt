@@ -1,10 +1,9 @@
--- What a caller of a machine knows of the Data of its guest's queued writes.
+-- What a caller of a machine knows of the Data of its guest's writes.
 use Rattle.std.specs.Prelude.{◌≡◌, ◌<◌, ℕ, Bool, true, List, [], ◌∷◌, ◌++◌, Some, None, Ok}
 use Rattle.fis_view.specs.Frames.{Stamped}
 use Rattle.fis_view.specs.Seen.{seen}
 use Rattle.fis_view.specs.declared.view.Fis.TheVariants as view
-use Rattle.slots.specs.Slots.{Issue, context_of, issue_at}
-use Rattle.slots.specs.declared.work.Kind.TheVariants.{QueuedWrite}
+use Rattle.slots.specs.Slots.{context_of}
 use Rattle.hba_fbs.specs.Views.{view_of}
 use Rattle.hba_fbs.specs.declared.turn.Turn.TheVariants.{Feeds}
 use Rattle.hba_laws.specs.Agreement.{IsTold}
@@ -36,11 +35,10 @@ use Rattle.machine_theorem.specs.OwnWrites.{AreOwnData}
 use Rattle.machine_theorem.specs.TakenWrites.{IsSuppliedWrite}
 use Rattle.uses_machine_theorem.specs.Led.{IsLed}
 
--- Data that go of a slot in which a queued write is issued were read for this slot, from the byte that goes next, whatever run led here.
+-- Data that go of a slot were read for this slot, from the byte that goes next, whatever run led here.
 abbrev pub KnowsFed : MachineState → Type 0
 KnowsFed now = (led : IsLed now) (dev : ℕ) (message : Bool) (line : Edge) (new : MachineState)
     → (does : Does now (Moved (act.Gathers dev (Goes message line))) new) → (slot offset len : ℕ) → turn_to now.controller dev ≡ Feeds dev slot offset len
-    → (issue : Issue) → issue_at now.controller.core.slots slot ≡ Some issue → issue.work.kind ≡ QueuedWrite
     → IsFedFor led.first led.deeds now led.run dev message line new does slot offset len
 
 -- Over a stretch that led here from a moment while nothing is set up for a device, and in which its FISes are heard and nothing is wrong with them: the slot

@@ -1,4 +1,10 @@
 pub mod Led
+pub mod SingleFeeding
 pub mod Standing
 pub mod Slots
 pub mod Feeding
+pub mod PioIn
+pub mod Flushes
+pub mod StoredWrites
+pub mod OverAll
+pub mod SingleReads

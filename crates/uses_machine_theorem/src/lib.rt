@@ -10,18 +10,29 @@ ghost use Rattle.uses_machine_theorem.specs.Led.{AsksSupplied, EndsCompleted, En
 ghost use Rattle.uses_machine_theorem.specs.Led.{IsLed, KnowsDisks, LendsBrought, LendsOfSlots, PutsNew, SpeaksDone, SpeaksOfSlots};
 ghost use Rattle.uses_machine_theorem.specs.Led.{SpeaksSupplied};
 ghost use Rattle.uses_machine_theorem.specs.Slots.{KnowsBrought, KnowsBroughtSince, KnowsBytes, KnowsData, KnowsEnds, KnowsFilled};
-ghost use Rattle.uses_machine_theorem.specs.Slots.{KnowsGiven, KnowsOrders, KnowsQueued, KnowsReads, KnowsSlots, KnowsTags};
-ghost use Rattle.uses_machine_theorem.specs.Slots.{KnowsData, KnowsEnds, KnowsFollowing, KnowsGiven, KnowsOrders, KnowsReadBack, KnowsReads};
-ghost use Rattle.uses_machine_theorem.specs.Slots.{KnowsSlots, KnowsTags};
+ghost use Rattle.uses_machine_theorem.specs.Slots.{KnowsFollowing, KnowsGiven, KnowsOrders, KnowsPlainSingles, KnowsQueued, KnowsReadBack};
+ghost use Rattle.uses_machine_theorem.specs.Slots.{KnowsReads, KnowsSingles, KnowsSlots, KnowsTags, KnowsTransfers, KnowsTurns, KnowsWaits};
 ghost use Rattle.uses_machine_theorem.specs.Slots.{KnowsWritten};
-ghost use Rattle.uses_machine_theorem.specs.Slots.{KnowsData, KnowsEnds, KnowsGiven, KnowsOrders, KnowsPlainSingles, KnowsReads, KnowsSingles, KnowsSlots, KnowsTags, KnowsTransfers, KnowsTurns, KnowsWaits};
 ghost use Rattle.uses_machine_theorem.specs.Standing.{BeginsToStand, GoesOnStanding};
+
+mod flushes;
+mod over_all;
+mod pio;
+mod single_reads;
+mod single_writes;
+mod stored_writes;
 
 use ahci_controller::Width;
 use ahci_machine::{Act, Machine, MediumId, PortFault, Told, Unit, Wanted};
 use disk_pages::Profile;
+pub use flushes::{knows_flushed_writes, knows_flushes};
+pub use over_all::{knows_reads_over_all, knows_what_is_spared};
+pub use pio::knows_unqueued;
 use sata_disk::SataDisk;
+pub use single_reads::knows_single_reads;
+pub use single_writes::knows_single_writes;
 use std::alloc::{AllocError, Global};
+pub use stored_writes::knows_stored_writes;
 
 /// A machine with nothing at its ports.
 pub fn opens(alloc: Global, ports: u8, legacy: bool) -> Result<Machine, AllocError>
@@ -144,14 +155,12 @@ pub fn plugs(machine: &mut Machine, port: u8) -> Result<(), PortFault>
 /// What the caller knows of the queued commands of its guest, whatever run led to its machine; it runs no code. Behind a moment at rest, while the
 /// guest keeps to the standard, a command that is under way at a disk is the one that the guest had supplied for the slot of its tag; Data of the
 /// tag are the bytes of its sectors, and where the guest sees it completed, the disk had done all of it. What a FIS brings for the slot of a
-/// queued read are those bytes, each at its number, while no FIS of the disk is lost or at fault. And where the guest sees a queued read completed,
-/// each byte of it was brought by such a FIS, and nothing was issued in the slot since then.
-/// queued read are those bytes, each at its number, while no FIS of the disk is lost or at fault. And if the medium gives what it was last told to keep, they
-/// are what the guest wrote there, by a write that it saw completed before; and so are all that the disk sent for a read that the guest sees completed.
-/// each byte of it was brought by such a FIS and written at its place, and nothing was issued in the slot since then.
-/// queued read are those bytes, each at its number, while no FIS of the disk is lost or at fault. So it is of a command that is not queued, and that
-/// the guest sees completed, where commands and answers went in turn: at a disk that was new as it was put at its port they do while it is not reset, at
-/// the controller while a command that waits leaves its slot only by its answer.
+/// queued read are those bytes, each at its number, while no FIS of the disk is lost or at fault. Where the guest sees a queued read completed, each
+/// byte of it was brought by such a FIS and written at its place, and nothing was issued in the slot since then. If the medium gives what it was last
+/// told to keep, they are what the guest wrote there, by a write that it saw completed before; and so are all that the disk sent for a read that the
+/// guest sees completed. So it is of a command that is not queued, and that the guest sees completed, where commands and answers went in turn: at a
+/// disk that was new as it was put at its port they do while it is not reset, at the controller while a command that waits leaves its slot only by its
+/// answer.
 pub fn knows_commands(machine: &Machine)
     ensures given { KnowsGiven machine.now }
     ensures sent { KnowsData machine.now }

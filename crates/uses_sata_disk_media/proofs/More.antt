@@ -7,7 +7,8 @@ use Rattle.sata_disk.specs.State.{DiskState, commands}
 use Rattle.sata_disk.specs.declared.out.Out.{Out}
 use Rattle.sata_disk.specs.declared.out.Out.TheVariants as out
 use Rattle.sata_disk_media.specs.Laws.{GivenIsWritten, ReadsBringWrites, WritesAreKept, sector_in}
-use Rattle.uses_sata_disk_media.specs.Kept.{BringsWhatIsWritten, IsGivenWhatIsWritten, KeepsWhatIsWritten}
+use Rattle.sata_disk_media.specs.Settled.{WritesAreSettled}
+use Rattle.uses_sata_disk_media.specs.Kept.{BringsWhatIsWritten, IsGivenWhatIsWritten, KeepsWhatIsWritten, SettlesWhatIsWritten}
 
 pub brings : (d : DiskState) (x : Option Out) → ReadsBringWrites → BringsWhatIsWritten d x
 brings d None law = tt
@@ -18,6 +19,11 @@ brings d (Some other) law = tt
 pub keeps : (d : DiskState) (x : Option Out) → IsOut d x → WritesAreKept → KeepsWhatIsWritten d x
 keeps d None is law = tt
 keeps d (Some o) is law = λ p limit calls place s written r well page write cov.
+    law p limit calls o place s written r.0 (subst (λ e. IsOut e (Some o)) r.1 is) well page write cov
+
+pub settles : (d : DiskState) (x : Option Out) → IsOut d x → WritesAreSettled → SettlesWhatIsWritten d x
+settles d None is law = tt
+settles d (Some o) is law = λ p limit calls place s written r well page write cov.
     law p limit calls o place s written r.0 (subst (λ e. IsOut e (Some o)) r.1 is) well page write cov
 
 pub given : (d : DiskState) → GivenIsWritten → IsGivenWhatIsWritten d

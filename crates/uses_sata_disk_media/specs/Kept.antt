@@ -12,6 +12,7 @@ use Rattle.sata_disk_books.specs.Books.{page_in}
 use Rattle.sata_disk_media.specs.Cells.{covers, sector_of}
 use Rattle.sata_disk_media.specs.Laws.{EndsWell, HasGiven, IsBehindWrite, IsReadBack, sector_in}
 use Rattle.sata_disk_media.specs.Media.{IsHonest, kept}
+use Rattle.sata_disk_media.specs.Settled.{IsSettled}
 use Rattle.uses_sata_disk.specs.Reached.{IsReached}
 
 -- where it is Data: at each sector of a write that ended before their command was heard they have its bytes
@@ -33,3 +34,10 @@ abbrev pub IsGivenWhatIsWritten : DiskState → Type 0
 IsGivenWhatIsWritten d = (p : Profile) (limit : ℕ) (calls : List Call) (place s : ℕ) (written read : Page) → place < 33
     → IsReached p limit calls d → IsHonest p limit calls → IsBehindWrite p limit calls place s written → page_in p limit calls place ≡ Some read
     → HasGiven read s → sector_of read.command.lba s read.ledger.given ≡ sector_of written.command.lba s written.ledger.came
+
+-- where it says that a write ended well: nothing is out that has a sector of it
+abbrev pub SettlesWhatIsWritten : DiskState → Option Out → Type 0
+SettlesWhatIsWritten d None = Unit {0}
+SettlesWhatIsWritten d (Some o) = (p : Profile) (limit : ℕ) (calls : List Call) (place s : ℕ) (written : Page)
+    → IsReached p limit calls d → EndsWell o place → page_in p limit calls place ≡ Some written → written.command.write ≡ true
+    → covers written.command.lba written.command.count s ≡ true → IsSettled p limit calls s

@@ -1,0 +1,433 @@
+-- What a disk takes for a write that is not queued is what the caller had supplied for the command of its own slot, from its first byte on, in order.
+use Rattle.std.proofs.Common.{◌≡◌, ℕ, ◌+◌, ◌≤◌, Bool, true, false, List, [], ◌∷◌, ◌++◌, append_assoc, length, map, Some, refl, sym, ap, subst, ◌∙◌, arith}
+use Rattle.std.specs.Prelude.{◌==◌, if◌then◌else◌, is_some}
+use Rattle.std.specs.List.{flat_map}
+use Rattle.std.proofs.lemmas.Bool.{false≢true}
+use Rattle.std.proofs.lemmas.Grind.{flat_map-append}
+use Rattle.std.proofs.lemmas.List.{length-append}
+use Rattle.fis_view.specs.Frames.{Stamped, marked}
+use Rattle.multiplier.specs.Passing.{of_conn}
+use Rattle.slots.specs.Slots.{Issue, is_pio, is_queued_issue, is_waiting, issue_at}
+use Rattle.slots.specs.Work.{is_read}
+use Rattle.ahci_controller.specs.declared.feeding.Fed.TheVariants as fed_answer
+use Rattle.ahci_controller.specs.declared.next.Next.TheVariants as next
+use Rattle.controller_laws.specs.Events as call
+use Rattle.controller_laws.specs.Events.{Event, IsController, Runs}
+use Rattle.block_disk.specs.Laws.{Page}
+use Rattle.ata_reply.specs.declared.reply.Reply.TheVariants as replies
+use Rattle.disk_pages.specs.declared.profile.Profile.{Profile}
+use Rattle.sata_disk.specs.Sending.{IsOut}
+use Rattle.sata_disk.specs.State.{new_disk}
+use Rattle.sata_disk.specs.declared.out.Out.{Out}
+use Rattle.sata_disk.specs.declared.out.Out.TheVariants as out
+use Rattle.sata_disk_books.specs.Books.{IsAskedFor, page_in}
+use Rattle.sata_disk_laws.specs.Calls.{AreCalls, Call, Hears}
+use Rattle.sata_disk_laws.specs.Laws.{reached}
+use Rattle.sata_disk_laws.specs.Once.{host_of, new_host}
+use Rattle.ahci_machine.specs.Gathers.{host_stamp}
+use Rattle.ahci_machine.specs.States.{HasRules, MachineState}
+use Rattle.ahci_machine.specs.declared.act.Act.TheVariants as act
+use Rattle.machine_laws.specs.ControllerLaws.{OpensSo, RunsRuled, calls_in}
+use Rattle.machine_laws.specs.Controllers.{GathersDue}
+use Rattle.machine_laws.specs.Deeds.{Deed, Does, Moved}
+use Rattle.machine_laws.specs.Falling.{heard_by, sent_by as goes_by, sent_in}
+use Rattle.machine_laws.specs.Feeding.{IsReading, OrdersAreIssued, came_in}
+use Rattle.machine_laws.specs.Rising.{AreLinked, Frames, HaveRisen, frames_in, no_frames, sent_by}
+use Rattle.machine_theorem.specs.Commands.{AreNotIssued}
+use Rattle.machine_theorem.specs.Completed.{IsEndedInHistory}
+use Rattle.machine_theorem.specs.Crossing.{Within}
+use Rattle.machine_theorem.specs.DataCame.{AreOfHeard, DataComeBehind, IsWrittenBehind}
+use Rattle.machine_theorem.specs.Given.{IsWhole}
+use Rattle.machine_theorem.specs.Identity.{calls_of, heard_as, is_for, picks}
+use Rattle.machine_theorem.specs.InTurn.{AreKeptOn, IsIdle, IsUnanswered, answered_in, is_answering, is_asking}
+use Rattle.machine_theorem.specs.OwnSlots.{is_of}
+use Rattle.machine_theorem.specs.OwnWrites.{AreOwnData}
+use Rattle.machine_theorem.specs.SingleData.{HasNoQueued, went_in}
+use Rattle.machine_theorem.specs.SingleWrites.{AllKeepPlain, IsFedSince, IsFedWhole, IsSuppliedSingle, SingleWritesAreAsSupplied, went_to}
+use Rattle.machine_theorem.specs.Singles.{IsFromSlot}
+use Rattle.machine_theorem.specs.Waits.{HasPlain, PlainCommandsWait, is_commanded}
+use Rattle.machine_theorem.specs.Writes.{payloads}
+use Rattle.machine_theorem.proofs.AllWent.{all_went}
+use Rattle.machine_theorem.proofs.Answered.{answered_both}
+use Rattle.machine_theorem.proofs.AtMoments.{more}
+use Rattle.machine_theorem.proofs.Commanded.{asked}
+use Rattle.machine_theorem.proofs.DataDeeds.{all_plain}
+use Rattle.machine_theorem.proofs.DataDown.{ArePlain, as_heard, data_sent, data_within, is_data}
+use Rattle.machine_theorem.proofs.DataTail.{all_bytes, behind_within, data_heard, marked_payloads, tail_within}
+use Rattle.machine_theorem.proofs.EndsFew.{sent_of}
+use Rattle.machine_theorem.proofs.ErrorNone.{IsErrorFis}
+use Rattle.machine_theorem.proofs.Fallen.{heard_among, line_stays, map_both}
+use Rattle.machine_theorem.proofs.Falls.{Told, controller_runs, kept_of, told_now}
+use Rattle.machine_theorem.proofs.FedFor.{Good, opens_good, run_good}
+use Rattle.machine_theorem.proofs.FedSingles as fed_singles
+use Rattle.machine_theorem.proofs.FedSingles.{Along, fed_along, went_long}
+use Rattle.machine_theorem.proofs.Ordered.{first_ruled}
+use Rattle.machine_theorem.proofs.Own.{last_ruled}
+use Rattle.machine_theorem.proofs.OwnPlace.{Found, InOrder, find, frames_are, in_order, linked, untaken_is}
+use Rattle.machine_theorem.proofs.PlainDeeds.{OrderCut, PlainRun, find_order, none_queued, plain_first, plain_run}
+use Rattle.machine_theorem.proofs.SingleCalls.{Going, begins}
+use Rattle.machine_theorem.proofs.SinglesOwn as singles
+use Rattle.machine_theorem.proofs.SinglesOwn.{IsSpoken, IsThen, Stretch, WentFrom, behind, came, completed_by, completed_waits, done_slots, earns, events, is_answers, is_last, is_then, kept_first, last_heard, no_error}
+use Rattle.machine_theorem.proofs.SinglesOwn.{on_then, said_calls, same_issue, spoken, then'}
+use Rattle.machine_theorem.proofs.Stretch.{whole_run}
+use Rattle.machine_theorem.proofs.TagCounts.{first_calls}
+use Rattle.machine_theorem.proofs.Within.{first_within, picks_both, within_picks, within_then}
+
+pub record Laws : Type 0 where
+  pub singles : singles.Laws
+  pub wait : PlainCommandsWait
+  pub fed : fed_singles.Laws
+  pub came : DataComeBehind
+  pub orders : OrdersAreIssued
+
+-- ---- what goes
+
+went_is : (dev : ℕ) (evs : List Event) → went_to dev evs ≡ data_sent dev evs
+went_is dev [] = refl
+went_is dev (call.Gathered d number frame (fed_answer.Goes message line) ∷ later) = ap (λ (l : List (List ℕ)). if d == dev then frame ∷ l else l) (went_is dev later)
+went_is dev (call.Gathered d number frame other ∷ later) = went_is dev later
+went_is dev (call.Took frame took ∷ later) = went_is dev later
+went_is dev (call.Left frame why ∷ later) = went_is dev later
+went_is dev (call.Wrote offset value written ∷ later) = went_is dev later
+went_is dev (call.WroteWide offset width value written ∷ later) = went_is dev later
+went_is dev (call.Supplied slot number bytes supply ∷ later) = went_is dev later
+went_is dev (call.Missed slot number supply ∷ later) = went_is dev later
+went_is dev (call.Turned said ∷ later) = went_is dev later
+went_is dev (call.Said write ∷ later) = went_is dev later
+went_is dev (call.NotThere d number fed ∷ later) = went_is dev later
+
+own_behind : (many : Bool) (n dev : ℕ) (xs : List Event) (y : Event) (ys : List Event) → AreOwnData many n dev (xs ++ y ∷ ys) → AreOwnData many n dev ys
+own_behind many n dev [] y ys own = own.1
+own_behind many n dev (x ∷ xs) y ys own = own_behind many n dev xs y ys own.1
+
+plain_behind : (xs : List Event) (y : Event) (ys : List Event) → ArePlain (xs ++ y ∷ ys) → ArePlain ys
+plain_behind [] y ys plain = plain.1
+plain_behind (x ∷ xs) y ys plain = plain_behind xs y ys plain.1
+
+plain_last : (many : Bool) (n dev : ℕ) (deeds : List Deed) (old now : MachineState) (run : RunsRuled old deeds now) → AllKeepPlain many n dev old deeds now run → HasPlain dev now.controller
+plain_last many n dev [] old now run keeps = subst (λ (m : MachineState). HasPlain dev m.controller) (sym run.1) keeps
+plain_last many n dev (deed ∷ later) old now run keeps = plain_last many n dev later run.1.0 now run.1.2 keeps.1
+
+-- what the commands of a stretch of calls were, as they are heard
+abbrev frames_for : (many : Bool) → (n : ℕ) → List Event → List (List ℕ)
+frames_for many n evs = map heard_as (picks (is_for many n) (sent_in evs))
+
+for_both : (many : Bool) (n : ℕ) (xs ys : List Event) → frames_for many n (xs ++ ys) ≡ frames_for many n xs ++ frames_for many n ys
+for_both many n xs ys =
+    ap (λ (l : List Stamped). map heard_as (picks (is_for many n) l)) (flat_map-append goes_by xs ys) ∙ ap (map heard_as) (picks_both (is_for many n) (sent_in xs) (sent_in ys))
+    ∙ map_both heard_as (picks (is_for many n) (sent_in xs)) (picks (is_for many n) (sent_in ys))
+
+for_one : (b : Bool) (f : Stamped) (rest : List Stamped) → b ≡ true → map heard_as (if b then f ∷ rest else rest) ≡ heard_as f ∷ map heard_as rest
+for_one true f rest e = refl
+for_one false f rest e = absurd (false≢true e)
+
+-- ---- the command whose bit falls
+
+-- what came for it, of the calls that led to its end
+record Came (p : Profile) (limit : ℕ) (all : List Call) (bytes : List ℕ) (later : List Call) (page : Page) : Type 0 where
+  asked : IsAskedFor p limit all page.command
+  is : asked.bytes ≡ bytes
+  came : AreOfHeard later page.ledger.came
+
+module _ (laws : Laws) (s : Stretch) (plain : AllKeepPlain s.many s.n s.dev s.at s.deeds s.now s.run) (own_data : AreOwnData s.many s.n s.dev (events s)) (issue : Issue)
+    (there : issue_at s.now.controller.core.slots s.slot ≡ Some issue) (mine : issue.dev ≡ s.dev) (waits : is_waiting issue ≡ true) (f : Stamped) (own : is_of s.n s.c f ≡ true)
+    (found : Found s.many s.n s.c s.dev s.at s.deeds s.now s.run (of_conn s.n s.c (came s)) f) (well : IsErrorFis f.bytes → ⊥) (ended : IsEndedInHistory s.now.controller f.bytes s.slot)
+    (plain_now : HasPlain s.dev s.now.controller) where
+  abbrev until_then : List Call
+  until_then = then' laws.singles s issue there mine waits f own found
+
+  abbrev since_then : List Call
+  since_then = behind laws.singles s issue there mine waits f own found
+
+  abbrev Whole : Type 0
+  Whole = IsFedWhole s.n s.dev s.slot s.old s.before s.at s.first s.deeds s.now s.run s.p s.limit (s.base ++ until_then) issue
+
+  -- ---- the Data of its slot
+
+  record Fed (from : List ℕ) (back : List Event) : Type 0 where
+    since : IsFedSince s.dev s.slot from s.old s.before s.at s.first s.deeds s.now s.run
+    is : calls_in since.sent since.later s.now since.rest ≡ back
+    few : length (payloads (went_to s.dev (calls_in since.sent since.later s.now since.rest))) ≤ issue.work.len
+    whole : is_read issue.work.kind ≡ false → length (payloads (went_to s.dev (calls_in since.sent since.later s.now since.rest))) ≡ issue.work.len
+
+  opened : OpensSo s.old
+  opened = laws.fed.fed.opens s.ports s.legacy s.old s.opening (first_ruled s.before s.old s.at s.first)
+
+  module _ (order : List ℕ) (back : List Event) (c : OrderCut s.many s.n s.dev s.dev s.slot order s.at s.deeds s.now s.run back) (clear : AreNotIssued s.slot back)
+      (to : is_for s.many s.n (record { bytes = order; stamp = host_stamp s.dev }) ≡ true) (asks : is_asking (marked order 0) ≡ true) where
+    abbrev deed : Deed
+    deed = Moved (act.Turns (next.Order s.dev s.slot order))
+
+    abbrev mid : MachineState
+    mid = c.cut.mid
+
+    abbrev sent : MachineState
+    sent = c.cut.next
+
+    rules_mid : HasRules mid
+    rules_mid = last_ruled c.cut.sooner s.at mid c.cut.led
+
+    rules_sent : HasRules sent
+    rules_sent = first_ruled c.cut.later sent s.now c.cut.rest
+
+    until : RunsRuled s.old (s.before ++ (c.cut.sooner ++ deed ∷ [])) sent
+    until = (whole_run s.before s.old s.at s.first (c.cut.sooner ++ deed ∷ []) sent (more c.cut.sooner s.at mid sent deed c.cut.led c.cut.does rules_sent)).all
+
+    led : RunsRuled s.old (s.before ++ c.cut.sooner) mid
+    led = (whole_run s.before s.old s.at s.first c.cut.sooner mid c.cut.led).all
+
+    reading : IsReading sent s.dev (came_in s.dev [] s.old (s.before ++ (c.cut.sooner ++ deed ∷ [])) sent until)
+    reading = laws.fed.fed.read s.dev s.dev_low s.old (s.before ++ (c.cut.sooner ++ deed ∷ [])) sent until opened.due [] (laws.fed.fed.unread s.ports s.legacy s.old s.opening s.dev)
+
+    good_at : (deeds : List Deed) (now : MachineState) → RunsRuled s.old deeds now → Good laws.fed.fed now
+    good_at deeds now run = run_good laws.fed.fed deeds s.old now run (opens_good laws.fed.fed s.ports s.legacy s.old s.opening opened)
+
+    -- it goes
+    going : Going s.dev s.slot 0 sent.controller
+    going =
+        let run : Runs mid.controller (call.Turned (next.Order s.dev s.slot order) ∷ []) sent.controller =
+        laws.fed.fed.goes mid deed sent c.cut.does rules_mid rules_sent (good_at (s.before ++ c.cut.sooner) mid led).due in
+        let t : Told mid.controller = told_now laws.singles.falls s.ports s.legacy s.old s.opening (s.before ++ c.cut.sooner) mid led in
+        let commanded : is_commanded s.dev mid.controller (call.Turned (next.Order s.dev s.slot order)) ≡ true = c.keeps.of to asks in
+        let none : HasNoQueued s.dev mid.controller = none_queued s.dev mid.controller c.keeps.plain in
+        let none_sent : HasNoQueued s.dev run.1.0 =
+        none_queued s.dev run.1.0 (subst (HasPlain s.dev) run.1.2.1 (plain_first s.many s.n s.dev c.cut.later sent s.now c.cut.rest c.after)) in
+        subst (Going s.dev s.slot 0) (sym run.1.2.1)
+        (begins laws.fed.singles s.dev s.dev_low s.slot s.low order mid.controller run.1.0 run.0 run.1.2.0 run.1.1 commanded none none_sent (t.past s.dev) (t.told s.dev s.dev_low))
+
+    along : Along laws.fed s.many s.n s.dev s.dev_low s.slot s.low 0 (came_in s.dev [] s.old (s.before ++ (c.cut.sooner ++ deed ∷ [])) sent until) sent c.cut.later s.now c.cut.rest
+    along =
+        fed_along laws.fed s.many s.n s.dev s.dev_low s.slot s.low c.cut.later sent s.now c.cut.rest (good_at (s.before ++ (c.cut.sooner ++ deed ∷ [])) sent until)
+        (came_in s.dev [] s.old (s.before ++ (c.cut.sooner ++ deed ∷ [])) sent until) reading (subst (AreNotIssued s.slot) (sym c.is) clear) c.after (ap is_some there) 0 going
+
+    fed : Fed order back
+    fed =
+        let a = along in
+        let inside = a.last.inside in
+        let same = ap (λ (i : Issue). i.work.len) (same_issue (issue_at s.now.controller.core.slots s.slot) a.last.issue issue a.last.is there) in
+        let long = went_long s.dev (calls_in sent c.cut.later s.now c.cut.rest) in
+        record {
+          since = record {
+            sooner = c.cut.sooner;
+            mid = mid;
+            led = c.cut.led;
+            sent = sent;
+            does = c.cut.does;
+            later = c.cut.later;
+            rest = c.cut.rest;
+            is = c.cut.is;
+            alone = subst (AreNotIssued s.slot) (sym c.is) clear;
+            done = s.before ++ (c.cut.sooner ++ deed ∷ []);
+            until = until;
+            done_is = refl;
+            fed = a.fed;
+          };
+          is = c.is;
+          few = omega (arith, inside, same, long);
+          whole = λ way.
+              (let q = plain_now s.slot issue there mine in
+              let k : IsController s.now.controller = kept_of laws.singles.falls s.now (last_ruled s.deeds s.at s.now s.run) in
+              let all = all_went s.dev s.slot s.low s.now.controller k issue there mine (0 + went_in s.dev (calls_in sent c.cut.later s.now c.cut.rest)) a.last f.bytes ended q.0 q.1 way in
+              omega (arith, all, long));
+        }
+
+  -- ---- what the disk heard
+
+  -- behind the last command, some of the Data that went since
+  heard_since : (front later : List Call) (bytes order : List ℕ) (before_it back : List Event) → is_asking bytes ≡ true
+      → (all : picks is_asking (flat_map heard_by (singles.calls s)) ≡ asked s.many s.n (events s)) → singles.calls s ≡ front ++ Hears bytes ∷ (later ++ since_then)
+      → picks is_asking (flat_map heard_by (singles.calls s)) ≡ picks is_asking (flat_map heard_by front) ++ bytes ∷ []
+      → events s ≡ before_it ++ call.Turned (next.Order s.dev s.slot order) ∷ back → is_for s.many s.n (record { bytes = order; stamp = host_stamp s.dev }) ≡ true
+      → asked s.many s.n (events s) ≡ asked s.many s.n before_it ++ marked order 0 ∷ []
+      → Within (picks is_data (flat_map heard_by later)) (map as_heard (data_sent s.dev back))
+  heard_since front later bytes order before_it back asks all calls_are last is to sent_last =
+      let x : Event = call.Turned (next.Order s.dev s.slot order) in
+      let o : Stamped = record { bytes = order; stamp = host_stamp s.dev } in
+      let hs : List (List ℕ) = flat_map heard_by front in
+      let ls : List (List ℕ) = flat_map heard_by (later ++ since_then) in
+      let ss : List (List ℕ) = frames_for s.many s.n before_it in
+      let ts : List (List ℕ) = frames_for s.many s.n back in
+      let due : GathersDue s.at = (laws.singles.falls.runs s.old s.before s.at s.first opened.due).due in
+      let among : Within (flat_map heard_by (singles.calls s)) (frames_for s.many s.n (events s)) =
+      heard_among laws.singles.falling s.many s.n s.deeds s.at s.now s.run s.begins.disk s.begins.there (line_stays s.many s.n s.c s.dev s.deeds s.at s.now s.run s.keeps) due s.has_link s.lasts
+      s.begins.leaving s.begins.down in
+      let heard_is : flat_map heard_by (singles.calls s) ≡ hs ++ bytes ∷ ls = ap (flat_map heard_by) calls_are ∙ flat_map-append heard_by front (Hears bytes ∷ (later ++ since_then)) in
+      let sent_is : frames_for s.many s.n (events s) ≡ ss ++ marked order 0 ∷ ts =
+      ap (λ (l : List Event). frames_for s.many s.n l) is ∙ for_both s.many s.n before_it (x ∷ back)
+      ∙ ap (λ (l : List (List ℕ)). ss ++ l) (for_one (is_for s.many s.n o) o (picks (is_for s.many s.n) (sent_in back)) to) in
+      let one : length (picks is_asking hs ++ bytes ∷ []) ≡ length (picks is_asking ss ++ marked order 0 ∷ []) = ap (λ (l : List (List ℕ)). length l) (sym last ∙ all ∙ sent_last) in
+      let long = length-append (picks is_asking hs) (bytes ∷ []) in
+      let sent_long = length-append (picks is_asking ss) (marked order 0 ∷ []) in
+      let few : length (picks is_asking ss) ≤ length (picks is_asking hs) = omega (arith, one, long, sent_long) in
+      let both : Within (hs ++ bytes ∷ ls) (ss ++ marked order 0 ∷ ts) =
+      subst (λ (l : List (List ℕ)). Within l (ss ++ marked order 0 ∷ ts)) heard_is (subst (λ (l : List (List ℕ)). Within (flat_map heard_by (singles.calls s)) l) sent_is among) in
+      let tail : Within ls ts = behind_within bytes ls (marked order 0) ts (tail_within is_asking hs bytes ls ss (marked order 0 ∷ ts) asks few both) in
+      let first : flat_map heard_by (later ++ since_then) ≡ flat_map heard_by later ++ flat_map heard_by since_then = flat_map-append heard_by later since_then in
+      let begin : Within (picks is_data (flat_map heard_by later)) (picks is_data ls) =
+      within_picks is_data (flat_map heard_by later) ls (subst (λ (l : List (List ℕ)). Within (flat_map heard_by later) l) (sym first) (first_within (flat_map heard_by later) (flat_map heard_by since_then))) in
+      let sent_data : Within (picks is_data ts) (map as_heard (data_sent s.dev back)) =
+      data_within s.many s.n s.dev back (own_behind s.many s.n s.dev before_it x back (subst (AreOwnData s.many s.n s.dev) is own_data))
+      (plain_behind before_it x back (subst ArePlain is plain_all)) in
+      within_then (picks is_data (flat_map heard_by later)) (picks is_data ls) (map as_heard (data_sent s.dev back)) begin
+      (within_then (picks is_data ls) (picks is_data ts) (map as_heard (data_sent s.dev back)) (within_picks is_data ls ts tail) sent_data)
+    where
+      plain_all : ArePlain (events s)
+      plain_all =
+          let led = controller_runs laws.singles.falls s.ports s.legacy s.old s.opening s.before s.at s.first in
+          all_plain laws.orders laws.fed.fed.goes laws.fed.fed.stays s.old.controller s.opening.controller s.deeds s.at s.now s.run led.due (calls_in s.old s.before s.at s.first) led.calls
+
+  -- ---- the moment at which the disk said so
+
+  whole_at : (k : ℕ) (does : Does found.cut.mid (Moved (act.Speaks k (out.Of 32 replies.Done))) found.cut.next)
+      → sent_by found.cut.mid (Moved (act.Speaks k (out.Of 32 replies.Done))) found.cut.next does ≡ f ∷ [] → Whole
+  whole_at k does sent =
+      let all : List Call = s.base ++ until_then in
+      let t : IsThen laws.singles s issue there mine waits f own found (out.Of 32 replies.Done) = is_then laws.singles s issue there mine waits f own found k (out.Of 32 replies.Done) does sent in
+      let on : AreKeptOn until_then = on_then laws.singles s issue there mine waits f own found in
+      let u : IsUnanswered until_then = (laws.singles.turn s.p s.limit s.base until_then t.whole s.idle on).answers (out.Of 32 replies.Done) t.says refl in
+      let l = is_last laws.singles s issue there mine waits f own found (record { front = u.front; bytes = u.bytes; later = u.later; split = u.split; asks = u.asks; answered = u.behind }) in
+      let e = earns (page_in s.p s.limit all 32) (laws.singles.pages s.p s.limit all 32 does.does.does.1.frame.bytes t.whole t.says does.does.does.1.bytes) in
+      let x : Call = Hears u.bytes in
+      let split : all ≡ (s.base ++ u.front) ++ x ∷ u.later = ap (λ (q : List Call). s.base ++ q) u.split ∙ sym (append_assoc s.base u.front (x ∷ u.later)) in
+      let whole : AreCalls (new_disk s.p s.limit) ((s.base ++ u.front) ++ x ∷ u.later) = subst (AreCalls (new_disk s.p s.limit)) split t.whole in
+      let front : AreCalls (new_disk s.p s.limit) (s.base ++ u.front) = first_calls (s.base ++ u.front) (x ∷ u.later) (new_disk s.p s.limit) whole in
+      let on_split : AreKeptOn (u.front ++ x ∷ u.later) = subst AreKeptOn u.split on in
+      let sum : answered_in until_then ≡ answered_in u.front + (0 + answered_in u.later) = ap answered_in u.split ∙ answered_both u.front (x ∷ u.later) in
+      let quiet = u.quiet in
+      let few = l.few in
+      let idle : IsIdle (host_of new_host (s.base ++ u.front)) =
+      (laws.singles.turn s.p s.limit s.base u.front front s.idle (kept_first u.front (x ∷ u.later) on_split)).idle (omega (arith, few, sum, quiet)) in
+      let w : IsWrittenBehind s.p s.limit (s.base ++ u.front) u.bytes u.later e.page =
+      laws.came s.p s.limit (s.base ++ u.front) u.bytes u.later whole idle l.none (subst (λ (q : List Call). IsOut (reached s.p s.limit q) (Some (out.Of 32 replies.Done))) split t.says) e.page
+      (subst (λ (q : List Call). page_in s.p s.limit q 32 ≡ Some e.page) split e.is) in
+      let c : Came s.p s.limit all u.bytes u.later e.page =
+      subst (λ (q : List Call). Came s.p s.limit q u.bytes u.later e.page) (sym split) (record { asked = w.asked; is = w.is; came = w.came }) in
+      let q : WentFrom laws.singles s issue there mine waits f own found s.slot u.bytes = l.source in
+      let from : IsFromSlot s.dev s.slot s.old s.before s.at s.first s.deeds s.now s.run u.bytes = q.from in
+      let calls_are : singles.calls s ≡ u.front ++ x ∷ (u.later ++ since_then) =
+      found.cut.own s.n ∙ ap (λ (y : List Call). y ++ since_then) u.split ∙ append_assoc u.front (x ∷ u.later) since_then in
+      let last = last_heard (singles.calls s) u.front (u.later ++ since_then) u.bytes calls_are u.asks l.more in
+      let asks : is_asking (marked from.order 0) ≡ true = ap is_asking (sym from.heard) ∙ u.asks in
+      let cut : OrderCut s.many s.n s.dev s.dev s.slot from.order s.at s.deeds s.now s.run from.ordered.later =
+      find_order s.many s.n s.dev s.dev s.slot from.order s.deeds s.at s.now s.run plain from.ordered.before from.ordered.later from.ordered.is in
+      let g : Fed from.order from.ordered.later = fed from.order from.ordered.later cut from.alone q.is_its asks in
+      let went : List (List ℕ) = went_to s.dev (calls_in g.since.sent g.since.later s.now g.since.rest) in
+      let went_is_sent : data_sent s.dev from.ordered.later ≡ went = ap (data_sent s.dev) (sym g.is) ∙ sym (went_is s.dev (calls_in g.since.sent g.since.later s.now g.since.rest)) in
+      let all_data : Within (picks is_data (flat_map heard_by u.later)) (map as_heard (data_sent s.dev from.ordered.later)) =
+      heard_since u.front u.later u.bytes from.order from.ordered.before from.ordered.later u.asks l.all calls_are last from.ordered.is q.is_its q.last in
+      let within : Within c.came.fises (map as_heard went) =
+      within_then c.came.fises (picks is_data (flat_map heard_by u.later)) (map as_heard went) (data_heard c.came.fises u.later c.came.heard c.came.each)
+      (subst (λ (y : List (List ℕ)). Within (picks is_data (flat_map heard_by u.later)) (map as_heard y)) went_is_sent all_data) in
+      let inside = g.few in
+      let marked_long = ap (λ (y : List ℕ). length y) (marked_payloads went) in
+      let came_long = ap (λ (y : List ℕ). length y) c.came.is in
+      record {
+        page = e.page;
+        books = e.is;
+        earned = e.earned;
+        asked = c.asked;
+        bytes = u.bytes;
+        heard = c.is;
+        from = from;
+        since = g.since;
+        fises = c.came.fises;
+        came = c.came.is;
+        some = within;
+        few = g.few;
+        whole = g.whole;
+        all = λ enough. c.came.is ∙ all_bytes c.came.fises (map as_heard went) within (omega (arith, enough, inside, marked_long, came_long)) ∙ marked_payloads went;
+      }
+
+  whole_if : (o : Out) (does : Does found.cut.mid (Moved (act.Speaks s.n o)) found.cut.next) → sent_by found.cut.mid (Moved (act.Speaks s.n o)) found.cut.next does ≡ f ∷ []
+      → o ≡ out.Of 32 replies.Done → Whole
+  whole_if o does sent is =
+      subst (λ (x : Out). (d : Does found.cut.mid (Moved (act.Speaks s.n x)) found.cut.next) → sent_by found.cut.mid (Moved (act.Speaks s.n x)) found.cut.next d ≡ f ∷ [] → Whole)
+      (sym is) (λ d same. whole_at s.n d same) does sent
+
+  pub is_supplied : IsSpoken laws.singles s issue there mine waits f own found found.deed → (is_pio issue.work.kind ≡ false → is_answering f.bytes ≡ true)
+      → IsSuppliedSingle s.n s.dev s.slot s.old s.before s.at s.first s.deeds s.now s.run s.p s.limit s.base issue f
+  is_supplied spoke register = record {
+    done = record {
+      register = register;
+      sooner = found.cut.sooner;
+      mid = found.cut.mid;
+      led = found.cut.led;
+      said = spoke.o;
+      after = found.cut.next;
+      does = spoke.does;
+      later = found.cut.later;
+      is = found.cut.is ∙ ap (λ (d : Deed). found.cut.sooner ++ d ∷ found.cut.later) spoke.is;
+      sent = spoke.sent;
+      rest = found.cut.rest;
+      own = said_calls laws.singles s issue there mine waits f own found spoke;
+      more = calls_of s.n found.cut.next found.cut.later s.now found.cut.rest;
+      calls = said_calls laws.singles s issue there mine waits f own found spoke;
+      answers = λ answering. (is_answers laws.singles s issue there mine waits f own found s.n spoke.o spoke.does spoke.sent well answering).answers;
+      went = λ answering. (is_answers laws.singles s issue there mine waits f own found s.n spoke.o spoke.does spoke.sent well answering).went;
+      slots = λ is. done_slots laws.singles s issue there mine waits f own found spoke.o spoke.does spoke.sent is;
+    };
+    whole = λ is. whole_if spoke.o spoke.does spoke.sent is;
+  }
+
+-- ---- the law
+
+pub supplied_are : Laws → SingleWritesAreAsSupplied
+supplied_are laws ports legacy old opening before at first many n c dev slot below dev_low low begins_at p limit base are same idle deeds now run has_link lasts keeps on plain own_data took new does rules own
+    shows hides none issue there mine =
+    let opened : OpensSo old = laws.singles.falls.opens ports legacy old opening (first_ruled before old at first) in
+    let due : GathersDue at = (laws.singles.falls.runs old before at first opened.due).due in
+    let q : PlainRun many n dev at deeds now run = plain_run laws.fed.fed.goes laws.fed.fed.stays many n dev deeds at now run due plain in
+    let t : Told at.controller = told_now laws.singles.falls ports legacy old opening before at first in
+    let s : Stretch = record {
+      ports = ports;
+      legacy = legacy;
+      old = old;
+      opening = opening;
+      before = before;
+      at = at;
+      first = first;
+      many = many;
+      n = n;
+      c = c;
+      dev = dev;
+      slot = slot;
+      below = below;
+      dev_low = dev_low;
+      low = low;
+      begins = begins_at;
+      p = p;
+      limit = limit;
+      base = base;
+      are = are;
+      same = same;
+      idle = idle;
+      deeds = deeds;
+      now = now;
+      run = run;
+      has_link = has_link;
+      lasts = lasts;
+      keeps = keeps;
+      on = on;
+      runs = q.runs;
+      of = q.of;
+      waiting = laws.wait dev dev_low at.controller now.controller (calls_in at deeds now run) q.runs.calls (t.past dev) (t.told dev dev_low) q.plain;
+    } in
+    let h = does.does in
+    let f : Stamped = h.frame in
+    let link : AreLinked deeds = linked many n c dev deeds at now run keeps in
+    let was : Frames = frames_in no_frames old before at first in
+    let risen_at : HaveRisen at was = laws.singles.falls.rising old before at first no_frames (laws.singles.falls.opens_rising ports legacy old opening) in
+    let all : Frames = frames_in was at deeds now run in
+    let risen_now : HaveRisen now all = laws.singles.falls.rising at deeds now run was risen_at in
+    let order : InOrder n c (came s) (sent_of at deeds now run) f =
+    in_order n c at now was all (came s) (sent_of at deeds now run) f (laws.singles.order at was risen_at n c below) (laws.singles.order now all risen_now n c below)
+    (frames_are deeds at now run was link) begins_at.up begins_at.lasts (untaken_is now f h.once h.on) own in
+    let found : Found many n c dev at deeds now run (of_conn n c (came s)) f = find many n c dev deeds at now run keeps (of_conn n c (came s)) order.rest f order.is in
+    let whole : IsWhole old before at first deeds now run = whole_run before old at first deeds now run in
+    let done = (laws.singles.completed ports legacy old opening (before ++ deeds) now whole.all took new does rules slot low shows hides none).ended in
+    let not_queued : is_queued_issue issue ≡ false = (plain_last many n dev deeds at now run plain slot issue there mine).0 in
+    let waits : is_waiting issue ≡ true = completed_waits slot low now.controller (kept_of laws.singles.falls now (last_ruled deeds at now run)) f.bytes done issue there not_queued in
+    let well : IsErrorFis f.bytes → ⊥ = no_error slot now.controller f.bytes done in
+    is_supplied laws s plain own_data issue there mine waits f own found well done (plain_last many n dev deeds at now run plain)
+    (spoken laws.singles s issue there mine waits f own found found.deed found.cut.does found.line found.sent)
+    (completed_by slot now.controller f.bytes done issue there not_queued)

@@ -1,0 +1,41 @@
+use Rattle.machine_theorem.proofs.Falls as falls
+use Rattle.machine_theorem.proofs.QueuedFed.{is_served}
+use Rattle.machine_theorem.proofs.TheSlots as slots
+use Rattle.machine_theorem.proofs.stored_writes.queued_commands_alone_are_served.Goals as goal
+
+pub returns : goal.returns
+returns c =
+    let ends : falls.Laws = record {
+      ends = record { ends = c.ends_are_of_pages.ensures.ends; only = c.ends_are_of_pages.ensures.only };
+      opens_rising = c.frames_rise_in_order.ensures.opens;
+      rising = c.frames_rise_in_order.ensures.goes;
+      naming = c.data_rise_unchanged.ensures.naming;
+      opens = c.controller_has_its_laws.ensures.opens;
+      runs = c.controller_has_its_laws.ensures.runs;
+      have = c.controller_has_its_laws.ensures.laws;
+      events = c.events_are_core_events.ensures;
+      histories = c.issues_fall.ensures.told;
+      active = c.active_falls.ensures;
+    } in
+    let of_slots : slots.Laws = record {
+      tags = record { single = c.answers_are_single.ensures; under_way = c.open_is_under_way.ensures };
+      only = c.ends_are_of_pages.ensures.only;
+      falling = record {
+        links = c.frames_fall_in_order.ensures.links;
+        passes = c.frames_fall_in_order.ensures.passes;
+        ports = c.frames_fall_in_order.ensures.ports;
+        hear = c.frames_fall_in_order.ensures.heard;
+        disks = c.disks_go_on.ensures;
+      };
+      data_of = record {
+        read = c.sent_frames_are_supplied.ensures.read;
+        whole = c.sent_frames_are_supplied.ensures.whole;
+        unread = c.sent_frames_are_supplied.ensures.opens;
+        due = c.controller_goes_on.ensures.due;
+      };
+      facts = record { falls = ends; others = c.ends_come_from_devices.ensures.others };
+      order = c.frames_rise_in_order.ensures.order;
+      over = c.frames_rise_in_order.ensures.over;
+      once = c.commands_are_sent_once.ensures;
+    } in
+    is_served (record { slots = of_slots; serves = record { single = c.answers_are_single.ensures; asides = c.singles_are_awaited.ensures.asides } })

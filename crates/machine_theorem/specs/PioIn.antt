@@ -1,0 +1,113 @@
+-- A command that is not queued, and that the guest sees completed, is the one that it had supplied for its slot, and its disk did all of it, be it by DMA or
+-- by PIO. A PIO data-in has no Register FIS at its end: its bit of PxCI falls as its last Data FIS is taken, and the disk sent this as the last Data of the
+-- command (AHCI 1.3.1, 3.3.14, PxCI, and 5.3.8 and 5.3.13; Serial ATA 3.x, 10.5, Register Device to Host, PIO Setup and Data; ACS-3, 4, PIO data-in
+-- protocol). So it is over each stretch of a run that begins while nothing is under way at the disk and nothing is set up for it, and in which commands and
+-- ends go in turn.
+use Rattle.std.specs.Prelude.{ℕ, ◌≡◌, ◌<◌, Bool, true, false, List, [], ◌∷◌, ◌++◌, Some, None}
+use Rattle.fis_view.specs.Frames.{Stamped}
+use Rattle.slots.specs.Slots.{Issue, context_of, has_bit, is_pio, is_queued_issue, issue_at}
+use Rattle.ahci_registers.specs.declared.register.Register.TheVariants.{PxCi, PxSact}
+use Rattle.ahci_controller.specs.Reading.{shown}
+use Rattle.ahci_controller.specs.States.{ControllerState}
+use Rattle.ahci_controller.specs.declared.taking.Took.{Took}
+use Rattle.controller_laws.specs.Events.{Event, Runs}
+use Rattle.ata_reply.specs.declared.reply.Reply.TheVariants as replies
+use Rattle.disk_pages.specs.declared.profile.Profile.{Profile}
+use Rattle.sata_disk.specs.State.{new_disk}
+use Rattle.sata_disk.specs.declared.out.Out.{Out}
+use Rattle.sata_disk.specs.declared.out.Out.TheVariants as out
+use Rattle.sata_disk_laws.specs.Calls.{AreCalls, Call}
+use Rattle.sata_disk_laws.specs.Laws.{reached}
+use Rattle.sata_disk_laws.specs.Once.{ForLast, host_of, new_host}
+use Rattle.ahci_machine.specs.States.{HasRules, IsOpeningMachine, MachineState}
+use Rattle.ahci_machine.specs.declared.act.Act.TheVariants as act
+use Rattle.machine_laws.specs.ControllerLaws.{ControllerRuns, RunsRuled, calls_in}
+use Rattle.machine_laws.specs.Deeds.{Deed, Does, Moved}
+use Rattle.machine_laws.specs.Falling.{AllLast, HasLink}
+use Rattle.machine_laws.specs.Rising.{sent_by}
+use Rattle.machine_theorem.specs.Ending.{AllKeepEnding, AllUnqueued}
+use Rattle.machine_theorem.specs.Identity.{calls_of}
+use Rattle.machine_theorem.specs.InTurn.{AreKeptOn, IsIdle, heard_in, is_answer, is_answering}
+use Rattle.machine_theorem.specs.OwnSlots.{AllKeepLine, is_of}
+use Rattle.machine_theorem.specs.Settled.{IsSettledLast, IsUnsettled, IsWholeInTurn, is_data}
+use Rattle.machine_theorem.specs.Singles.{AllOfDevice, BeginsIdle, IsFromSlot, IsSlots}
+use Rattle.machine_theorem.specs.Transfers.{is_transferring}
+
+-- ---- the command whose bit falls
+
+-- By a Register FIS the disk answers the command behind these calls: it heard no command since, and settled none.
+pub record IsAnsweredThere (dev slot : ℕ) (old : MachineState) (before : List Deed) (at : MachineState) (first : RunsRuled old before at) (deeds : List Deed)
+    (now : MachineState) (run : RunsRuled at deeds now) (base calls : List Call) (o : Out) : Type 0 where
+  pub command : IsUnsettled base calls
+  pub none : heard_in command.later ≡ 0
+  pub slots : IsFromSlot dev slot old before at first deeds now run command.bytes
+  pub answer : is_answer o ≡ true
+  -- Of a command that moves sectors and is not queued it says that this ended well.
+  pub ends : is_transferring command.bytes ≡ true → o ≡ out.Of 32 replies.Done
+
+-- All of a read by PIO was done: the caller gave all bytes of its sectors, and behind these Data all were sent. A FIS from the slot asked for it.
+pub record IsWholeThere (dev slot : ℕ) (old : MachineState) (before : List Deed) (at : MachineState) (first : RunsRuled old before at) (deeds : List Deed)
+    (now : MachineState) (run : RunsRuled at deeds now) (p : Profile) (limit : ℕ) (base calls : List Call) (n : ℕ) : Type 0 where
+  pub read : IsWholeInTurn p limit base calls n
+  pub slots : IsFromSlot dev slot old before at first deeds now run read.turn.asked.bytes
+
+-- By Data the disk ends the command behind these calls: its host waits for them as the last ones of the command that was settled last, and no command was
+-- heard since.
+pub record IsEndedThere (dev slot : ℕ) (old : MachineState) (before : List Deed) (at : MachineState) (first : RunsRuled old before at) (deeds : List Deed)
+    (now : MachineState) (run : RunsRuled at deeds now) (p : Profile) (limit : ℕ) (base calls : List Call) (o : Out) : Type 0 where
+  pub payload : is_data o ≡ true
+  pub waits : (host_of new_host (base ++ calls)).waits ≡ ForLast
+  pub command : IsSettledLast calls
+  pub none : heard_in command.later ≡ 0
+  pub slots : IsFromSlot dev slot old before at first deeds now run command.bytes
+  -- If the command moves sectors, they are of these, and then it is a read, and all of it was done. Else they are a page that the disk has of itself.
+  pub sectors : is_transferring command.bytes ≡ true → (n : ℕ) × (o ≡ out.Data 32 n)
+  pub place : (place n : ℕ) → o ≡ out.Data place n → place ≡ 32
+  pub read : (n : ℕ) → o ≡ out.Data 32 n → IsWholeThere dev slot old before at first deeds now run p limit base calls n
+
+-- The disk at the port sent the FIS at a moment of the stretch. Some calls of a new one led to it, and then those of the stretch until then.
+pub record IsDoneThere (n dev slot : ℕ) (old : MachineState) (before : List Deed) (at : MachineState) (first : RunsRuled old before at) (deeds : List Deed)
+    (now : MachineState) (run : RunsRuled at deeds now) (p : Profile) (limit : ℕ) (base : List Call) (issue : Issue) (f : Stamped) : Type 0 where
+  -- It is a Register FIS, unless the command is a PIO data-in.
+  pub register : is_pio issue.work.kind ≡ false → is_answering f.bytes ≡ true
+  pub sooner : List Deed
+  pub mid : MachineState
+  pub led : RunsRuled at sooner mid
+  pub said : Out
+  pub after : MachineState
+  pub does : Does mid (Moved (act.Speaks n said)) after
+  pub later : List Deed
+  pub is : deeds ≡ sooner ++ Moved (act.Speaks n said) ∷ later
+  pub sent : sent_by mid (Moved (act.Speaks n said)) after does ≡ f ∷ []
+  -- A Register FIS answers the command that the guest had supplied for the slot, any other FIS is its last Data.
+  pub answers : is_answering f.bytes ≡ true → IsAnsweredThere dev slot old before at first deeds now run base (calls_of n at sooner mid led) said
+  pub ends : is_answering f.bytes ≡ false → IsEndedThere dev slot old before at first deeds now run p limit base (calls_of n at sooner mid led) said
+  -- If it says that a command ended well, the disk did all of it.
+  pub slots : said ≡ out.Of 32 replies.Done → IsSlots dev slot old before at first deeds now run p limit (base ++ calls_of n at sooner mid led)
+
+-- ---- the laws
+
+-- So it is of each command for the device that is not queued, and whose bit of PxCI falls behind such a stretch as a FIS of the connection is taken, if
+-- what the guest keeps to has its commands wait in their slots.
+abbrev pub UnqueuedAreOfSlotsIf :
+    (Waits : (dev : ℕ) → (old : ControllerState) → (events : List Event) → (now : ControllerState) → Runs old events now → Type 0) → Type 0
+UnqueuedAreOfSlotsIf Waits = (ports : ℕ) (legacy : Bool) (old : MachineState) → IsOpeningMachine ports legacy old
+    → (before : List Deed) (at : MachineState) (first : RunsRuled old before at) (many : Bool) (n c dev slot : ℕ) → n < 15 → dev < 16 → slot < 32
+    → (begins : BeginsIdle n c at) → context_of at.controller.core.slots dev ≡ None
+    → (p : Profile) (limit : ℕ) (base : List Call) → AreCalls (new_disk p limit) base → begins.disk ≡ reached p limit base
+    → IsIdle (host_of new_host base) → (deeds : List Deed) (now : MachineState) (run : RunsRuled at deeds now)
+    → HasLink deeds → AllLast n at deeds now run → AllKeepLine many n c dev at deeds now run → AreKeptOn (calls_of n at deeds now run)
+    → (runs : ControllerRuns at deeds now run) → AllOfDevice many n dev at.controller (calls_in at deeds now run) now.controller runs.calls
+    → Waits dev at.controller (calls_in at deeds now run) now.controller runs.calls
+    → (took : Took) (new : MachineState) → (does : Does now (Moved (act.Takes took)) new) → HasRules new → is_of n c does.does.frame ≡ true
+    → has_bit (shown PxCi now.controller) slot ≡ true → has_bit (shown PxCi new.controller) slot ≡ false → has_bit (shown PxSact new.controller) slot ≡ false
+    → (issue : Issue) → issue_at now.controller.core.slots slot ≡ Some issue → issue.dev ≡ dev → is_queued_issue issue ≡ false
+    → IsDoneThere n dev slot old before at first deeds now run p limit base issue does.does.frame
+
+-- where a command that waits leaves its slot only as a Register FIS or a Data FIS of its device is taken
+abbrev pub UnqueuedAreOfSlots : Type 0
+UnqueuedAreOfSlots = UnqueuedAreOfSlotsIf AllKeepEnding
+
+-- and so where the guest has no queued command in the slots for the device, and no write takes one that waits
+abbrev pub PlainUnqueuedAreOfSlots : Type 0
+PlainUnqueuedAreOfSlots = UnqueuedAreOfSlotsIf AllUnqueued
