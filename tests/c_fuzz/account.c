@@ -5,7 +5,8 @@
  *     account lies            tells the interpreter of each kind of lie once; each must be noticed
  *
  * Lists of acts on a machine of one disk, or of four ports behind a multiplier: two disks that are used as a driver does, by queued,
- * DMA and PIO commands, with the write cache on and off; at a third port any commands; at the fourth a device that lies. Media keep what
+ * DMA and PIO commands, with the write cache on and off; at a third port any commands; at the fourth a device that lies. Another processor
+ * writes over what commands have in memory while the machine reads it. Media keep what
  * they were last told to, answer late, in any order, or by an error. Disks are pulled and plugged in, ports and the link are reset,
  * errors are recovered from, and the machine is saved and restored, now and again to an earlier moment. Build it with the
  * sanitizers. Status 1 where a sentence does not hold.
@@ -44,7 +45,7 @@ static struct {
 } guest;
 
 static uint32_t has_disk; /* bit n: a disk is at port n */
-static unsigned long errors_seen, logs_seen, restores_seen, goings_back, lists_seen;
+static unsigned long errors_seen, logs_seen, restores_seen, goings_back, lists_seen, races_seen;
 
 /* What a machine or a medium might do wrong. Where one is set, it happens now and then. */
 enum lie {
@@ -316,6 +317,22 @@ static void begin_wild(unsigned slot, unsigned port) {
     issue(slot, port, (fis[2] & 0xFE) == 0x60);
 }
 
+/*
+ * Another processor writes over what a command has in memory, while the machine may be reading it: of a command of a wild port flags and
+ * length of its header, its FIS, an entry of its table, or bytes; of a write at another port its bytes.
+ */
+static void race(unsigned slot) {
+    const command *it = &account.commands[slot];
+    uint8_t *header = memory + LIST + 32 * slot, *fis = memory + TABLES + TABLE * slot;
+    unsigned what = is_wild(it) ? pick(4) : 3;
+    if (!it->is_open || (!is_wild(it) && !it->is_write)) return;
+    if (what == 0) header[0] = (uint8_t)pick(256), header[2] = (uint8_t)pick(ENTRIES + 1);
+    if (what == 1) fis[2 + pick(18)] = (uint8_t)pick(256);
+    if (what == 2) put_entry(slot, pick(3), data_of(slot) + 2 * pick(SLOT_BYTES / 4), 2 + 2 * pick(SLOT_BYTES / 4));
+    if (what == 3) memory[data_of(slot) + pick(SLOT_BYTES)] ^= (uint8_t)(1 + pick(255));
+    races_seen++;
+}
+
 /* ---- recovery ------------------------------------------------------------------------------------------------------- */
 
 /* An order or a page in slot 0, with nothing beside it. Whether it ends: what a wild port does may stop the controller. */
@@ -512,6 +529,7 @@ static void act(void) {
     case 5:
         if (guest.ports && !pick(4)) begin_wild(slot, pick(2) ? WILD_DISK : LIAR);
         if (guest.ports && !pick(4)) offer(LIAR, fis, any_fis(fis));
+        if (!pick(4)) race(slot);
         break;
     case 9:
         if (guest.ports || guest.is_in) pull_or_plug(port);
@@ -569,7 +587,8 @@ int main(int count, char **words) {
     } while (clock() < until);
     printf("%lu lists, %lu calls of a machine; %lu reads, %lu writes and %lu flushes were seen to end, %lu bytes were brought\n", lists_seen,
            calls_seen, ended_reads, ended_writes, ended_flushes, bytes_brought);
-    printf("%lu bytes were fetched again; %lu errors, %lu logs; restored %lu times, %lu times to an earlier moment\n", fetched_again, errors_seen, logs_seen, restores_seen, goings_back);
+    printf("%lu bytes were fetched again; another processor wrote %lu times; %lu errors, %lu logs; restored %lu times, %lu times to an earlier moment\n",
+           fetched_again, races_seen, errors_seen, logs_seen, restores_seen, goings_back);
     if (!ended_reads || !ended_writes || !ended_flushes || !logs_seen || !goings_back) fail("nothing ended", lists_seen);
     return 0;
 }

@@ -269,7 +269,7 @@ static void account_lent(uint64_t at, const uint8_t *bytes, size_t len) {
         for (slot = 0; slot < SLOTS && !has_place; slot++) {
             command *it = &account.commands[slot];
             long byte = it->is_open && !it->is_write ? byte_at(it, at + number) : -1;
-            if (byte < 0 || byte >= MOST_BYTES) continue;
+            if (byte < 0 || (byte >= MOST_BYTES && !is_wild(it))) continue;
             bring(it, slot, byte, bytes[number]);
             has_place = 1;
         }

@@ -1,19 +1,22 @@
 /*
  * How long a slot waits, where a guest keeps all slots of a machine with fifteen disks busy.
  *
- *     load small    reads and writes of 1 to 4 sectors; what a read brings is compared
- *     load large    writes of 128 KiB
+ *     load small [COMMANDS]   reads and writes of 1 to 4 sectors; what a read brings is compared
+ *     load large [COMMANDS]   writes of 128 KiB
  *
  * The guest acts after each event, or after each 64th: it issues a command in each slot whose last one ended. The media answer at
  * once. The controller sends the commands of its slots in a circle, so one that may go waits for at most 31 others. It may not go while
  * its disk has not answered another command: let that cost it one round of the circle. And answers of up to 15 other ports come up before
  * its own. So no slot may see more than LATER others accepted, and MOST others ended, from its issue to its own. Status 1
- * where one does, or where a read brings other bytes.
+ * where one does, or where a read brings other bytes. It also says how many events a command took at the 99.9th percentile; and it ends
+ * with status 1 if the memory in use, or the processor time of a tenth of the commands, grows between the second tenth and the last.
  */
+#include <malloc.h>
+#include <time.h>
 #define SLOT_BYTES 0x20000
 #include "driver.h"
 
-enum { PORTS = 15, SECTORS = 4096 };
+enum { PORTS = 15, SECTORS = 4096, LONGEST = 4095 };
 
 /* The sectors of a command at least and at most, those of a disk, and how many commands. */
 typedef struct {
@@ -27,12 +30,14 @@ typedef struct {
     int is_busy, is_write, is_accepted;
     uint32_t port, lba, count;
     unsigned long accepted, ended; /* how many others were accepted, and ended, since it was issued */
+    unsigned long issued;          /* how many events there were before it */
 } slot;
 
 static slot slots[SLOTS];
 static uint8_t media[PORTS][512 * SECTORS];
 static uint32_t versions[PORTS][SECTORS]; /* what was written to each sector last, 0: nothing */
 static unsigned long events, most_accepted, most_ended;
+static unsigned long took[LONGEST + 1]; /* how many commands took so many events, or more than the last */
 
 /* ---- the machine's loop ------------------------------------------------------------------------------------------- */
 
@@ -91,13 +96,14 @@ static int is_taken(const slot *wanted) {
 /* A command in a free slot, unless another one is under way at a sector of it. */
 static void refill(const load *of, uint32_t number) {
     uint8_t fis[20], *bytes = memory + data_of(number);
-    slot wanted = {1, 1, 0, 0, 0, 0, 0, 0};
+    slot wanted = {1, 1, 0, 0, 0, 0, 0, 0, 0};
     uint32_t at;
     wanted.is_write = of == &large || pick(2);
     wanted.port = pick(PORTS);
     wanted.count = of->least + pick(of->most - of->least + 1);
     wanted.lba = pick(of->sectors - wanted.count + 1);
     if (is_taken(&wanted)) return;
+    wanted.issued = events;
     slots[number] = wanted;
     for (at = 0; at < wanted.count && wanted.is_write; at++)
         fill_sector(bytes + 512 * at, wanted.port, wanted.lba + at, ++versions[wanted.port][wanted.lba + at]);
@@ -143,20 +149,51 @@ static uint32_t settle_slots(void) {
         if (left >> number & 1) continue;
         look(number);
         slots[number].is_busy = 0;
+        took[events - slots[number].issued < LONGEST ? events - slots[number].issued : LONGEST]++;
         count(number, 1);
         done++;
     }
     return done;
 }
 
-enum { LATER = 2 * 31 + 15, MOST = 400 };
+enum { LATER = 2 * 31 + 15, MOST = 400, TENTHS = 10 };
 
-static void play(const load *of, unsigned long between) {
-    uint32_t done = 0, number;
+/* The number of events within which all but one of a thousand commands ended. */
+static unsigned long latest(uint32_t commands) {
+    unsigned long left = commands / 1000, at = LONGEST;
+    while (at && left >= took[at]) left -= took[at--];
+    return at;
+}
+
+/* What a tenth of the commands left in use, and what it cost. */
+typedef struct {
+    size_t memory;
+    double seconds;
+} tenth;
+
+static tenth now(void) {
+    tenth it = {mallinfo2().uordblks, (double)clock() / CLOCKS_PER_SEC};
+    return it;
+}
+
+/* The last tenth uses no more memory than the second, and no more than twice its time. */
+static void compare(const tenth *at) {
+    double second = at[2].seconds - at[1].seconds, last = at[TENTHS].seconds - at[TENTHS - 1].seconds;
+    printf("a tenth took %.3f s and left %lu bytes in use, the last one %.3f s and %lu\n", second, (unsigned long)at[2].memory, last,
+           (unsigned long)at[TENTHS].memory);
+    if (at[TENTHS].memory > at[2].memory + at[2].memory / 8) fail("memory grows", (unsigned long)at[TENTHS].memory);
+    if (second > 1 && last > 2 * second) fail("commands take longer", (unsigned long)last);
+}
+
+static void play(const load *of, unsigned long between, uint32_t commands) {
+    uint32_t done = 0, number, tenths = 0;
     unsigned long acts = 0;
+    tenth at[TENTHS + 1];
     begin(of);
     events = most_accepted = most_ended = 0;
-    while (done < of->commands) {
+    memset(took, 0, sizeof took);
+    while (done < commands) {
+        while (tenths < TENTHS && done >= (uint64_t)commands * tenths / TENTHS) at[tenths++] = now();
         for (number = 0; number < SLOTS && acts % between == 0; number++)
             if (!slots[number].is_busy) refill(of, number);
         acts = step() ? acts + 1 : 0; /* where nothing is left to do the guest acts */
@@ -164,15 +201,19 @@ static void play(const load *of, unsigned long between) {
         if (most_accepted > LATER) fail("a command waits for too many others to be accepted", most_accepted);
         if (most_ended > MOST) fail("a slot waits for too many others to end", most_ended);
     }
-    printf("%lu events between acts: %lu commands in %lu events; ", between, (unsigned long)done, events);
+    at[TENTHS] = now();
+    printf("%lu events between acts: %lu commands in %lu events, of 1,000 all but one within %lu; ", between, (unsigned long)done, events,
+           latest(commands));
     printf("none waited for more than %lu others to be accepted, and %lu to end\n", most_accepted, most_ended);
+    compare(at);
     must("free", gef_machine_free(&machine));
 }
 
 int main(int count, char **words) {
-    const load *of = count == 2 && !strcmp(words[1], "large") ? &large : &small;
-    if (count != 2 || (of == &small && strcmp(words[1], "small"))) return 2;
-    play(of, 1);
-    play(of, 64);
+    const load *of = count > 1 && !strcmp(words[1], "large") ? &large : &small;
+    uint32_t commands = count > 2 ? (uint32_t)strtoul(words[2], 0, 10) : of->commands;
+    if (count < 2 || count > 3 || !commands || (of == &small && strcmp(words[1], "small"))) return 2;
+    play(of, 1, commands);
+    play(of, 64, commands);
     return 0;
 }
