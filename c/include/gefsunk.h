@@ -233,7 +233,7 @@ typedef struct gef_disk_profile {
 #define GEF_EVENT_MESSAGE 9u     /* a message is due, where messages (MSI) stand for the line */
 #define GEF_EVENT_TO_DEVICE 10u  /* a FIS for your device at `port`: gef_machine_take_frame gives it */
 #define GEF_EVENT_BEGINS 11u     /* what is at `port` begins anew: a device of yours forgets what it had to do, and sends its */
-                                 /* signature; a disk does so by itself */
+                                 /* signature. It comes for disks, too, which do so by themselves: ignore it there */
 
 /* What bytes of the guest are wanted for. Its fields belong to the library. */
 typedef struct gef_wanted {
@@ -310,7 +310,7 @@ gef_status gef_disk_free(gef_disk *disk);
 
 /*
  * The disk is plugged in, as power comes: what was under way is dropped, and it sends its signature next. A new disk sends nothing
- * by itself before this call. A store that it asked for may still be done; its answer is refused. Can return GEF_CLOSED.
+ * by itself before this call. A store or a discard that it asked for is still to be answered. Can return GEF_CLOSED.
  */
 gef_status gef_disk_plug(gef_disk *disk);
 
@@ -461,8 +461,8 @@ gef_status gef_machine_plug(gef_machine *machine, uint8_t port);
 gef_status gef_machine_power_on(gef_machine *machine);
 
 /*
- * What is at a port is pulled, and stays at hand: all that it had to do is gone, and the guest hears nothing more of it. A store
- * that a disk asked for may still be done; its answer is refused, or dropped.
+ * What is at a port is pulled, and stays at hand: all that it had to do is gone, and the guest hears nothing more of it. A store or a
+ * discard that a disk asked for is still to be answered.
  * Can return GEF_CLOSED, GEF_NO_PORT, GEF_NOT_THERE.
  */
 gef_status gef_machine_pull(gef_machine *machine, uint8_t port);
@@ -498,8 +498,10 @@ gef_status gef_machine_no_memory(gef_machine *machine, const gef_wanted *wanted)
 /*
  * The sectors of a load. Each request is answered once, when you can, in any order. After a reset, or where the disk was pulled,
  * an answer is refused (GEF_NOT_OUT, GEF_OTHER_DISK): drop it. So it is once the guest hears of an error of the disk, which ends all
- * of its queued commands. But a store and a discard are out until they are answered, as long as their disk is at the port, since
- * you may still do them. A load that is refused by GEF_OTHER_LENGTH is still out.
+ * of its queued commands. A load that is refused by GEF_OTHER_LENGTH is still out.
+ *
+ * Answer every store and every discard once, also behind a reset, a pull or an error, even if you did not do it (gef_machine_answer_failed):
+ * you may still do it, so until then its sectors, and with a discard the whole disk, take no command, as long as the disk is at the port.
  * Can return GEF_CLOSED, GEF_OTHER_DISK, GEF_NOT_OUT, GEF_OTHER_KIND, GEF_OTHER_LENGTH, GEF_NO_MEMORY.
  */
 gef_status gef_machine_answer_loaded(gef_machine *machine, const gef_request *request, const uint8_t *bytes, size_t len);
@@ -520,14 +522,14 @@ gef_status gef_machine_answer_failed(gef_machine *machine, const gef_request *re
 /*
  * Copies bytes of a store into the room, from an offset on, as many as there are and fit, and their number into *len. They are
  * there until the store is answered, or its disk is reset or pulled, or an error ends its command: copy them before you ask for
- * the next event.
+ * the next event. GEF_NOT_OUT: they are gone, and the store is still to be answered if it was not. A load has none.
  * Can return GEF_CLOSED, GEF_OTHER_DISK, GEF_NOT_OUT, GEF_OTHER_KIND.
  */
 gef_status gef_machine_stored(gef_machine *machine, const gef_request *request, size_t from, uint8_t *bytes, size_t room,
                               size_t *len);
 
 /*
- * Gives the range of a discard that has this number, counted from 0.
+ * Gives the range of the disk's discard that has this number, counted from 0. Copy them before you ask for the next event.
  * Can return GEF_CLOSED, GEF_OTHER_DISK, GEF_NOTHING (it has no more).
  */
 gef_status gef_machine_discarded(gef_machine *machine, const gef_request *request, size_t number, gef_range *range);
@@ -547,7 +549,7 @@ gef_status gef_machine_offer(gef_machine *machine, uint8_t port, const uint8_t *
 /* ---- a machine: saved and restored */
 
 /*
- * Says how many bytes the state of the machine has now: below 64 KiB for fifteen disks that are at rest.
+ * Says how many bytes the state of the machine has now: below 64 KiB for fifteen disks that are at rest, and the bytes under way beside.
  * Can return GEF_CLOSED, GEF_NO_MEMORY.
  */
 gef_status gef_machine_state_size(gef_machine *machine, size_t *len);
@@ -558,7 +560,8 @@ gef_status gef_machine_state_size(gef_machine *machine, size_t *len);
  *
  * Requests that are out stay out in the state, under their numbers. So save beside it each event that you have not answered yet
  * (GEF_EVENT_READ_GUEST, GEF_EVENT_LOAD, GEF_EVENT_STORE, GEF_EVENT_FLUSH, GEF_EVENT_DISCARD), and do and answer it after
- * gef_machine_restore; or answer all of them before. gef_machine_stored gives the bytes of a store again, as long as it is out.
+ * gef_machine_restore; or answer all of them before. gef_machine_stored gives the bytes of a store again, unless a reset dropped them. Write
+ * those of a GEF_EVENT_WRITE_GUEST before you save. Save what the last GEF_EVENT_LINE said, too: it is not told again.
  * Can return GEF_CLOSED, GEF_TOO_SHORT, GEF_NO_MEMORY.
  */
 gef_status gef_machine_save(gef_machine *machine, uint8_t *bytes, size_t room, size_t *len);

@@ -61,12 +61,13 @@ static inline gef_status gef_files_load(gef_machine *machine, int file, uint8_t 
     return gef_machine_answer_loaded(machine, request, room, len);
 }
 
-/* The bytes of a store. */
+/* The bytes of a store. Where a reset, a pull or an error dropped them it fails, which nobody hears: then its sectors are free again. */
 static inline gef_status gef_files_store(gef_machine *machine, int file, uint8_t *room, const gef_event *event) {
     const gef_request *request = &event->u.medium.request;
     uint64_t lba = event->u.medium.lba;
     size_t len = 0, done = 0;
     gef_status status = gef_machine_stored(machine, request, 0, room, GEF_FILES_ROOM, &len);
+    if (status == GEF_NOT_OUT) return gef_machine_answer_failed(machine, request, GEF_ABRT, lba);
     if (status != GEF_OK) return status;
     while (done < len) {
         ssize_t put = pwrite(file, room + done, len - done, (off_t)(lba * 512 + done));
@@ -100,8 +101,9 @@ static inline gef_status gef_files_discard(gef_machine *machine, int file, const
 }
 
 /*
- * Does what an event asks of a medium that is this file, and answers. The room has GEF_FILES_ROOM bytes. It returns what the machine
- * says: GEF_OK; GEF_OTHER_DISK or GEF_NOT_OUT where nobody waits any more; GEF_NO_MEMORY: then call it again with the event.
+ * Does what an event asks of a medium that is this file, and answers. The room has GEF_FILES_ROOM bytes. Pass it each event, also behind a
+ * reset or a pull: a store or a discard keeps its sectors until it is answered. It returns what the machine says: GEF_OK; GEF_OTHER_DISK or
+ * GEF_NOT_OUT where nobody waits any more; GEF_NO_MEMORY: then call it again with the event.
  */
 static inline gef_status gef_files_serve(gef_machine *machine, int file, uint8_t *room, const gef_event *event) {
     switch (event->kind) {

@@ -309,7 +309,14 @@ pub trait Asks: sealed::Sealed {
             }
             Work::Store { lba, count } => {
                 let bytes = zeroes(room, count as usize * SECTOR)?;
-                self.stored(request, 0, bytes)?;
+                match self.stored(request, 0, bytes) {
+                    // A reset, a pull or an error dropped them. Its sectors are free again once it is answered.
+                    Err(Error::NotOut) => {
+                        let fault = Fault::Aborted;
+                        return self.failed(request, Failure { fault, lba });
+                    }
+                    stored => stored?,
+                };
                 medium.store(*request, lba, bytes)
             }
             Work::Flush => without_sector(medium.flush(*request)),

@@ -12,7 +12,8 @@
 enum { SECTORS = 64, READ = 0x25, WRITE = 0x35, FLUSH = 0xEA, TRIM = 0x06 };
 
 static uint8_t room[GEF_FILES_ROOM];
-static int file;
+static int file, is_late; /* the file is late: its next event is kept */
+static gef_event kept;
 
 /* ---- calls on the file -------------------------------------------------------------------------------------------- */
 
@@ -52,7 +53,8 @@ static int step(void) {
     must("next", gef_machine_next(&machine, &event));
     if (event.kind == GEF_EVENT_READ_GUEST) read_guest(&event);
     if (event.kind == GEF_EVENT_WRITE_GUEST) write_guest(&event);
-    if (gef_files_is_for(&event)) must("file", gef_files_serve(&machine, file, room, &event));
+    if (gef_files_is_for(&event) && is_late) kept = event;
+    else if (gef_files_is_for(&event)) must("file", gef_files_serve(&machine, file, room, &event));
     return event.kind != GEF_EVENT_NOTHING;
 }
 
@@ -93,6 +95,21 @@ static void has(const char *what, uint8_t byte, unsigned count) {
     }
 }
 
+/* The link is reset before the file comes to a store, or a discard. It is answered then, so that other commands get its sectors. */
+static void is_late_for(const char *what, uint8_t code, uint8_t byte) {
+    is_late = 1;
+    kept.kind = GEF_EVENT_NOTHING;
+    plain(0, code, code == TRIM, code == TRIM ? 0 : 8, code == TRIM ? 1 : 8, code == TRIM ? 512 : 4096, 1);
+    if (kept.kind == GEF_EVENT_NOTHING) fail(what, code);
+    reset_link();
+    bring_up(0);
+    is_late = 0;
+    must(what, gef_files_serve(&machine, file, room, &kept));
+    memset(memory + data_of(0), byte, 4096);
+    hears(what, WRITE, 0, 0, 0, 0);
+    has(what, byte, 8);
+}
+
 static void make(void) {
     gef_disk_profile profile = {"FILES", "1", "1", 0, 0, 512, 1, 32, 1, GEF_LEAST_LIMIT};
     char name[] = "/tmp/gefsunk-files-XXXXXX";
@@ -125,6 +142,9 @@ int main(void) {
     memset(memory + data_of(0), 0, 512);
     memcpy(memory + data_of(0), range, sizeof range);
     hears("a discard", TRIM, 0, 0, 0, 0);
+    is_late_for("a late discard", TRIM, 0x51);
+    memset(memory + data_of(0), 0x52, 4096);
+    is_late_for("a late store", WRITE, 0x53);
     for (at = 9; at < 16; at++) {
         if (ftruncate(file, 512 * (off_t)at)) fail("no file", at);
         hears("a read behind the end", READ, 0, 0, GEF_IDNF, (uint8_t)at);
