@@ -6,16 +6,10 @@
 -- complete a queued command (`disk_simulation`, specs/Aside.antt), and a driver that serves a disk from where both
 -- began anew (specs/Together.antt).
 use Rattle.std.specs.Prelude.{ℕ, ◌≡◌, ◌<◌, List, [], ◌∷◌, length}
-use Rattle.disk_model.specs.Anew.{OwesOnly}
-use Rattle.disk_model.specs.Histories.{Happening}
-use Rattle.disk_model.specs.Ledger.{ShowsPage, Signs, Wanted, ledger}
+use Rattle.disk_model.specs.{Anew.OwesOnly, Histories.Happening, Ledger.{ShowsPage, Signs, Wanted, ledger}}
 use Rattle.hba_laws.specs.Client.{Touches, own}
-use Rattle.disk_simulation.specs.Aside.{IsAside}
-use Rattle.disk_simulation.specs.Same.{SlotCommand}
-use Rattle.hba_driver.specs.Events.{IsSoundHost, shared_by}
-use Rattle.hba_driver.specs.HostTurns.{Host}
-use Rattle.hba_driver.specs.Served.{IsServed}
-use Rattle.hba_driver.specs.Slot30.{IsAt30, IsUnsought, LogSent, Off, Stage30}
+use Rattle.disk_simulation.specs.{Aside.IsAside, Same.SlotCommand}
+use Rattle.hba_driver.specs.{Events.{IsSoundHost, shared_by}, HostTurns.Host, Served.IsServed, Slot30.{IsAt30, IsUnsought, LogSent, Off, Stage30}}
 use Rattle.disk_recovery.specs.Together.{IsServedOn}
 
 -- At no stage can a queued command of the device be done.

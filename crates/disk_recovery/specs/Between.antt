@@ -1,17 +1,10 @@
 -- The words in which lemmas are stated that proofs of other crates use (`proofs/Door.antt`), and the words that these need.
 -- No clause says them.
 use Rattle.std.specs.Prelude.{List, None, Some, ℕ, ◌∷◌, ◌≡◌, ◌⊎◌, []}
-use Rattle.hba_fbs.specs.declared.report.TakeReport.{TakeReport}
-use Rattle.hba_fbs.specs.Taking.{port_of}
-use Rattle.hba_fbs.specs.Views.{Port, view_of}
-use Rattle.hba_laws.specs.Client.{Touches, own}
-use Rattle.hba_laws.specs.Delivering.{touches_after}
-use Rattle.hba_laws.specs.History.{History, Transfer, issued}
-use Rattle.hba_laws.specs.Hosts.{Host, HostEvent, Runs}
+use Rattle.hba_fbs.specs.{declared.report.TakeReport.TakeReport, Taking.port_of, Views.{Port, view_of}}
+use Rattle.hba_laws.specs.{Client.{Touches, own}, Delivering.touches_after, History.{History, Transfer, issued}, Hosts.{Host, HostEvent, Runs}}
 use Rattle.disk_model.specs.Ledger.{Ledger}
-use Rattle.disk_simulation.specs.Calm.{AreCalm}
-use Rattle.disk_simulation.specs.Elsewhere.{IsElsewhere}
-use Rattle.disk_simulation.specs.Same.{SlotCommand}
+use Rattle.disk_simulation.specs.{Calm.AreCalm, Elsewhere.IsElsewhere, Same.SlotCommand}
 use Rattle.hba_driver.specs.Steady.{Issues}
 
 -- ---- honest

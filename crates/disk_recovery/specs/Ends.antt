@@ -8,45 +8,21 @@
 -- (specs/Line.antt there) and the task file (specs/Files.antt, Outcomes.antt there); a driver that serves a
 -- disk (`disk_recovery`, specs/Together.antt, Unasked.antt); where a host is with a device that recovers
 -- (`hba_driver`, specs/Slot30.antt); how that and the line fit each other (specs/Stages.antt).
-use Rattle.std.specs.Prelude.{ℕ, ◌≡◌, ◌≢◌, ◌<◌, ◌≤◌, ◌⊎◌, ◌++◌, ◌==◌, if◌then◌else◌, true}
-use Rattle.std.specs.Prelude.{List, [], ◌∷◌, length, None, Some}
+use Rattle.std.specs.Prelude.{ℕ, ◌≡◌, ◌≢◌, ◌<◌, ◌≤◌, ◌⊎◌, ◌++◌, ◌==◌, if◌then◌else◌, true, List, [], ◌∷◌, length, None, Some}
 use Rattle.fis_view.specs.Frames.{IsFrame, Stamped, marked}
 use Rattle.slots.specs.Slots.{has_bit}
 use Rattle.slots.specs.Work as moved
-use Rattle.hba_fbs.specs.declared.report.TakeReport.{TakeReport}
-use Rattle.hba_fbs.specs.Taking.{port_of}
-use Rattle.hba_fbs.specs.Views.{view_of}
-use Rattle.disk_model.specs.declared.plan.DiskPlan.{DiskPlan}
-use Rattle.disk_model.specs.declared.request.Command.{Command}
-use Rattle.disk_model.specs.Anew.{OwesOnly}
-use Rattle.disk_model.specs.Histories.{Happening, Plugged, Received, Sent}
-use Rattle.disk_model.specs.Ledger.{IsSize, ShowsPage, Signs, Wanted, ledger}
-use Rattle.disk_model.specs.Runs.{IsDiskRun}
-use Rattle.hba_laws.specs.Client.{Touches, own}
-use Rattle.hba_laws.specs.Delivering.{touches_after}
-use Rattle.hba_laws.specs.History.{History, Transfer, filled, issued}
-use Rattle.disk_simulation.specs.Files.{IsBegun}
-use Rattle.disk_simulation.specs.Honest.{IsDoneHonestly}
-use Rattle.disk_simulation.specs.Line.{Line, NoneSigns, OnLine}
-use Rattle.disk_simulation.specs.Outcomes.{HasFineFile}
-use Rattle.disk_simulation.specs.Same.{SlotCommand}
+use Rattle.hba_fbs.specs.{declared.report.TakeReport.TakeReport, Taking.port_of, Views.view_of}
+use Rattle.disk_model.specs.{declared.{plan.DiskPlan.DiskPlan, request.Command.Command}, Anew.OwesOnly}
+use Rattle.disk_model.specs.{Histories.{Happening, Plugged, Received, Sent}, Ledger.{IsSize, ShowsPage, Signs, Wanted, ledger}, Runs.IsDiskRun}
+use Rattle.hba_laws.specs.{Client.{Touches, own}, Delivering.touches_after, History.{History, Transfer, filled, issued}}
+use Rattle.disk_simulation.specs.{Files.IsBegun, Honest.IsDoneHonestly, Line.{Line, NoneSigns, OnLine}, Outcomes.HasFineFile, Same.SlotCommand}
 use Rattle.disk_simulation.specs.Watched.{IsWatched}
-use Rattle.hba_driver.specs.declared.path.Recovery.{Recovery}
-use Rattle.hba_driver.specs.declared.plan.Device.TheVariants.{Ready, Recovering}
-use Rattle.hba_driver.specs.Drivers.{Entry, device_at, entry_at}
-use Rattle.hba_driver.specs.Events.{events_over, shared_by}
-use Rattle.hba_driver.specs.HostTurns.{Does, DoesAll, Host, HostTurn, Polled, Pushed, Put, Submitted}
-use Rattle.hba_driver.specs.HostTurns.{Ticked, Took}
-use Rattle.hba_driver.specs.Orders.{is_queued}
-use Rattle.hba_driver.specs.Served.{RunServes}
-use Rattle.hba_driver.specs.Slot30.{IsAt30, IsOn30, IsUnsought, Stage30}
-use Rattle.hba_driver.specs.Steady.{IsFlushTick}
+use Rattle.hba_driver.specs.{declared.{path.Recovery.Recovery, plan.Device.TheVariants.{Ready, Recovering}}, Drivers.{Entry, device_at, entry_at}}
+use Rattle.hba_driver.specs.{Events.{events_over, shared_by}, HostTurns.{Does, DoesAll, Host, HostTurn, Polled, Pushed, Put, Submitted, Ticked, Took}}
+use Rattle.hba_driver.specs.{Orders.is_queued, Served.RunServes, Slot30.{IsAt30, IsOn30, IsUnsought, Stage30}, Steady.IsFlushTick}
 use Rattle.hba_driver.specs.Tended.{IsAtStage, IsReleasing, IsUnreset, IsUnworked}
-use Rattle.disk_recovery.specs.Kept.{IsServedHonestly}
-use Rattle.disk_recovery.specs.Steady.{command_of}
-use Rattle.disk_recovery.specs.Together.{IsServedOn}
-use Rattle.disk_recovery.specs.Unasked.{IsUnasked}
-use Rattle.disk_recovery.specs.Stages.{Fits, Leans}
+use Rattle.disk_recovery.specs.{Kept.IsServedHonestly, Steady.command_of, Together.IsServedOn, Unasked.IsUnasked, Stages.{Fits, Leans}}
 
 -- ---- what had ended when a request was submitted
 

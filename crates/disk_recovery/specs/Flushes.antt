@@ -4,30 +4,17 @@
 -- request was submitted, and how many it took since or are on their way.
 --
 -- Cited: a disk and the host that serves it, over each step of either (specs/Ends.antt).
-use Rattle.std.specs.Prelude.{ℕ, ◌≡◌, ◌+◌, ◌<◌, ◌≤◌, ◌⊎◌, ◌++◌, ◌==◌, if◌then◌else◌, Bool, true, false}
-use Rattle.std.specs.Prelude.{List, [], ◌∷◌, length, Some, Ok, Result}
-use Rattle.fis_view.specs.Frames.{IsFrame, Stamped, marked}
-use Rattle.fis_view.specs.Seen.{seen}
-use Rattle.fis_view.specs.declared.view.Fis.{Fis}
+use Rattle.std.specs.Prelude.{ℕ, ◌≡◌, ◌+◌, ◌<◌, ◌≤◌, ◌⊎◌, ◌++◌, ◌==◌, if◌then◌else◌, Bool, true, false, List, [], ◌∷◌, length, Some, Ok, Result}
+use Rattle.fis_view.specs.{Frames.{IsFrame, Stamped, marked}, Seen.seen, declared.{view.Fis.Fis, view.FisFault.FisFault}}
 use Rattle.fis_view.specs.declared.view.Fis.TheVariants as view
-use Rattle.fis_view.specs.declared.view.FisFault.{FisFault}
 use Rattle.slots.specs.Slots.{has_bit, is_pio}
 use Rattle.slots.specs.Work as moved
-use Rattle.hba_fbs.specs.declared.report.TakeReport.{TakeReport}
-use Rattle.hba_fbs.specs.Taking.{port_of}
-use Rattle.disk_model.specs.declared.plan.DiskPlan.{DiskPlan}
-use Rattle.disk_model.specs.declared.request.Request.{Request}
-use Rattle.disk_model.specs.declared.request.Request.TheVariants.{Flush}
-use Rattle.disk_model.specs.Histories.{Happening, Plugged, Loaded, Received, Sent}
-use Rattle.disk_model.specs.Ledger.{ledger}
-use Rattle.disk_model.specs.Requests.{request_of}
-use Rattle.hba_laws.specs.Client.{Touches, own}
-use Rattle.hba_laws.specs.Delivering.{touches_after}
-use Rattle.hba_laws.specs.History.{Transfer, issued}
+use Rattle.hba_fbs.specs.{declared.report.TakeReport.TakeReport, Taking.port_of}
+use Rattle.disk_model.specs.declared.{plan.DiskPlan.DiskPlan, request.Request.{Request, TheVariants.Flush}}
+use Rattle.disk_model.specs.{Histories.{Happening, Plugged, Loaded, Received, Sent}, Ledger.ledger, Requests.request_of}
+use Rattle.hba_laws.specs.{Client.{Touches, own}, Delivering.touches_after, History.{Transfer, issued}}
 use Rattle.disk_simulation.specs.Together.{is_sent}
-use Rattle.hba_driver.specs.Events.{events_over, shared_by}
-use Rattle.hba_driver.specs.HostTurns.{Does, DoesAll, Host, HostTurn, Pushed, Took}
-use Rattle.hba_driver.specs.Served.{RunServes}
+use Rattle.hba_driver.specs.{Events.{events_over, shared_by}, HostTurns.{Does, DoesAll, Host, HostTurn, Pushed, Took}, Served.RunServes}
 use Rattle.disk_recovery.specs.Ends.{AreEnds, IsBesideTurn, IsRunning}
 
 -- ---- the FLUSHes of a history

@@ -5,27 +5,15 @@
 --
 -- Cited: what a host with a driver is and does (`hba_driver`, specs/HostTurns.antt, Events.antt,
 -- Served.antt), and what a host has of a disk (`disk_simulation`, specs/Hosted.antt).
-use Rattle.std.specs.Prelude.{ℕ, ◌≡◌, ◌≢◌, ◌<◌, ◌%◌, ◌==◌, ◌++◌, if◌then◌else◌, true, List, []}
-use Rattle.std.specs.Prelude.{◌∷◌, slice_index, Bool, Option, Some, None}
-use Rattle.fis_view.specs.Frames.{IsFrame, Stamped, marked}
-use Rattle.fis_view.specs.Seen.{seen}
+use Rattle.std.specs.Prelude.{ℕ, ◌≡◌, ◌≢◌, ◌<◌, ◌%◌, ◌==◌, ◌++◌, if◌then◌else◌, true, List, [], ◌∷◌, slice_index, Bool, Option, Some, None}
+use Rattle.fis_view.specs.{Frames.{IsFrame, Stamped, marked}, Seen.seen}
 use Rattle.host_memory.specs.Memory.{is_memory_size, zeroed}
-use Rattle.hba_fbs.specs.declared.report.TakeReport.{TakeReport}
-use Rattle.hba_fbs.specs.Taking.{port_of}
-use Rattle.disk_model.specs.Ends.{IsRight}
-use Rattle.disk_model.specs.Histories.{Happening, Plugged, Received, Sent}
-use Rattle.disk_model.specs.Ledger.{ledger}
-use Rattle.hba_laws.specs.Client.{Touches, own}
-use Rattle.hba_laws.specs.Delivering.{touches_after}
-use Rattle.disk_simulation.specs.Heard.{IsTakenWell}
-use Rattle.disk_simulation.specs.Hosted.{IsHosted}
-use Rattle.disk_simulation.specs.Joined.{IsShort}
-use Rattle.disk_simulation.specs.Same.{SlotCommand}
-use Rattle.hba_driver.specs.Events.{IsSoundHost, events_over, opening_host, shared_by}
-use Rattle.hba_driver.specs.HostTurns.{DoesAll, Host, HostTurn, Pushed}
-use Rattle.hba_driver.specs.HostTurns.{Ticked, Took}
-use Rattle.hba_driver.specs.Served.{IsServed, RunServes}
-use Rattle.hba_driver.specs.Steady.{IsCalmTick, IsFlushTick, IsSteady}
+use Rattle.hba_fbs.specs.{declared.report.TakeReport.TakeReport, Taking.port_of}
+use Rattle.disk_model.specs.{Ends.IsRight, Histories.{Happening, Plugged, Received, Sent}, Ledger.ledger}
+use Rattle.hba_laws.specs.{Client.{Touches, own}, Delivering.touches_after}
+use Rattle.disk_simulation.specs.{Heard.IsTakenWell, Hosted.IsHosted, Joined.IsShort, Same.SlotCommand}
+use Rattle.hba_driver.specs.{Events.{IsSoundHost, events_over, opening_host, shared_by}, HostTurns.{DoesAll, Host, HostTurn, Pushed, Ticked, Took}}
+use Rattle.hba_driver.specs.{Served.{IsServed, RunServes}, Steady.{IsCalmTick, IsFlushTick, IsSteady}}
 use Rattle.disk_recovery.specs.Steady.{AreNamed, IsAskedSigned, IsRowSigned}
 
 -- ---- what is kept

@@ -9,9 +9,7 @@ use Rattle.hba_fbs.specs.Views.{view_of}
 use Rattle.disk_model.specs.Histories.{Happening}
 use Rattle.hba_laws.specs.Client.{Touches}
 use Rattle.disk_simulation.specs.Same.{SlotCommand}
-use Rattle.hba_driver.specs.HostTurns.{Does, Host, Ticked}
-use Rattle.hba_driver.specs.Slot30.{IsAt30, IsOn30, IsUnsought, Sets}
-use Rattle.hba_driver.specs.Tended.{IsResetTurn}
+use Rattle.hba_driver.specs.{HostTurns.{Does, Host, Ticked}, Slot30.{IsAt30, IsOn30, IsUnsought, Sets}, Tended.IsResetTurn}
 use Rattle.disk_recovery.specs.Together.{IsServedOn}
 
 abbrev pub ResetSetsAside : Type 0

@@ -5,14 +5,10 @@
 -- Cited: the stages (`hba_driver`, specs/Slot30.antt) and the line (`disk_simulation`, specs/Line.antt).
 use Rattle.std.specs.Prelude.{ℕ, ◌≡◌, false}
 use Rattle.slots.specs.Slots.{has_bit}
-use Rattle.hba_fbs.specs.Status.{is_busy, wants_data}
-use Rattle.hba_fbs.specs.Views.{view_of}
+use Rattle.hba_fbs.specs.{Status.{is_busy, wants_data}, Views.view_of}
 use Rattle.disk_simulation.specs.Line.{Asked, Both, Failed, Held, Line, Loose, Releasing, Resting}
-use Rattle.hba_driver.specs.declared.path.Recovery.TheVariants.{Reset}
-use Rattle.hba_driver.specs.declared.plan.Device.TheVariants.{Ready, Recovering}
-use Rattle.hba_driver.specs.Drivers.{device_at}
-use Rattle.hba_driver.specs.HostTurns.{Host}
-use Rattle.hba_driver.specs.Slot30.{Asks, Cleared, Clears, Faulty, LogSent, Off, On, Sets, Stage30}
+use Rattle.hba_driver.specs.{declared.{path.Recovery.TheVariants.Reset, plan.Device.TheVariants.{Ready, Recovering}}, Drivers.device_at}
+use Rattle.hba_driver.specs.{HostTurns.Host, Slot30.{Asks, Cleared, Clears, Faulty, LogSent, Off, On, Sets, Stage30}}
 
 -- the disk failed, and its log can still be asked for
 abbrev pub FitsFailed : Stage30 → Type 0

@@ -1,18 +1,12 @@
 -- The command of each queued request of a disk, and when the driver asks the disk for anything (ACS-3, READ
 -- and WRITE FPDMA QUEUED; Serial ATA 3.x, 10.5.6, signatures, and 13.6, native command queuing).
 use Rattle.std.specs.Prelude.{ℕ, ◌≡◌, ◌≢◌, Bool, true, false, List, [], ◌∷◌, Some}
-use Rattle.disk_model.specs.declared.request.Command.{Command}
-use Rattle.disk_model.specs.Histories.{Happening}
-use Rattle.disk_model.specs.Ledger.{Signs, ledger}
-use Rattle.hba_laws.specs.Client.{Touches, own}
-use Rattle.hba_laws.specs.History.{Transfer, issued}
+use Rattle.disk_model.specs.{declared.request.Command.Command, Histories.Happening, Ledger.{Signs, ledger}}
+use Rattle.hba_laws.specs.{Client.{Touches, own}, History.{Transfer, issued}}
 use Rattle.disk_simulation.specs.Same.{SlotCommand}
-use Rattle.hba_driver.specs.declared.request.Work.{Work}
-use Rattle.hba_driver.specs.declared.request.Work.TheVariants as work
-use Rattle.hba_driver.specs.Drivers.{Driver, Entry, entry_at}
-use Rattle.hba_driver.specs.HostTurns.{Host}
-use Rattle.hba_driver.specs.Orders.{is_queued}
+use Rattle.hba_driver.specs.{declared.request.Work.Work, Drivers.{Driver, Entry, entry_at}, HostTurns.Host, Orders.is_queued}
 use Rattle.hba_driver.specs.Steady.{HasSignature, IsAskedOf}
+use Rattle.hba_driver.specs.declared.request.Work.TheVariants as work
 
 -- ---- requests
 

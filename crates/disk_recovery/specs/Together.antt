@@ -5,41 +5,20 @@
 -- Cited: a driver that serves a disk since its flush (specs/Kept.antt), what the driver keeps of a
 -- device (`hba_driver`, specs/Tended.antt), and what a host has of a disk from where both began
 -- anew (`disk_simulation`, specs/Anew.antt).
-use Rattle.std.specs.Prelude.{ℕ, ◌≡◌, ◌<◌, ◌⊎◌, ◌++◌, Bool, false, true, List, [], ◌∷◌, Option}
-use Rattle.std.specs.Prelude.{length, None, Some}
-use Rattle.fis_view.specs.Frames.{IsFrame, Stamped, marked}
-use Rattle.fis_view.specs.Seen.{seen}
+use Rattle.std.specs.Prelude.{ℕ, ◌≡◌, ◌<◌, ◌⊎◌, ◌++◌, Bool, false, true, List, [], ◌∷◌, Option, length, None, Some}
+use Rattle.fis_view.specs.{Frames.{IsFrame, Stamped, marked}, Seen.seen}
 use Rattle.slots.specs.Slots.{Issue, own_issue}
-use Rattle.hba_fbs.specs.declared.report.TakeReport.{TakeReport}
-use Rattle.hba_fbs.specs.Taking.{ignores, port_of}
-use Rattle.hba_fbs.specs.Views.{view_of}
-use Rattle.disk_model.specs.Anew.{OwesOnly}
-use Rattle.disk_model.specs.Ends.{IsRight}
-use Rattle.disk_model.specs.Histories.{Happening, Plugged, Sent}
-use Rattle.disk_model.specs.Ledger.{ShowsPage, Signs, Wanted, ledger}
-use Rattle.hba_laws.specs.Client.{Touches, own}
-use Rattle.hba_laws.specs.Delivering.{touches_after}
-use Rattle.hba_laws.specs.History.{History, Transfer, issued}
-use Rattle.disk_simulation.specs.Watched.{GavePlain}
-use Rattle.disk_simulation.specs.Anew.{IsAwaited, IsHostedOn, IsSignedWell}
-use Rattle.disk_simulation.specs.Heard.{IsTakenWell}
-use Rattle.disk_simulation.specs.Joined.{IsShort, SentAgrees}
-use Rattle.disk_simulation.specs.Together.{IsWaitedUnset, is_sent}
-use Rattle.disk_simulation.specs.Same.{SlotCommand}
-use Rattle.hba_driver.specs.declared.path.Recovery.TheVariants.{Reset}
-use Rattle.hba_driver.specs.declared.path.Stage.TheVariants.{ReadLog}
-use Rattle.hba_driver.specs.declared.path.TaskFile.{TaskFile}
-use Rattle.hba_driver.specs.declared.plan.Device.TheVariants.{Recovering}
-use Rattle.hba_driver.specs.Drivers.{device_at}
-use Rattle.hba_driver.specs.Events.{IsSoundHost, events_over, shared_by}
-use Rattle.hba_driver.specs.HostTurns.{DoesAll, Host, HostTurn, Pushed, Ticked, Took}
-use Rattle.hba_driver.specs.Served.{IsServed, RunServes}
+use Rattle.hba_fbs.specs.{declared.report.TakeReport.TakeReport, Taking.{ignores, port_of}, Views.view_of}
+use Rattle.disk_model.specs.{Anew.OwesOnly, Ends.IsRight, Histories.{Happening, Plugged, Sent}, Ledger.{ShowsPage, Signs, Wanted, ledger}}
+use Rattle.hba_laws.specs.{Client.{Touches, own}, Delivering.touches_after, History.{History, Transfer, issued}}
+use Rattle.disk_simulation.specs.{Watched.GavePlain, Anew.{IsAwaited, IsHostedOn, IsSignedWell}, Heard.IsTakenWell, Joined.{IsShort, SentAgrees}}
+use Rattle.disk_simulation.specs.{Together.{IsWaitedUnset, is_sent}, Same.SlotCommand}
+use Rattle.hba_driver.specs.declared.{path.Recovery.TheVariants.Reset, path.Stage.TheVariants.ReadLog, path.TaskFile.TaskFile}
+use Rattle.hba_driver.specs.{declared.plan.Device.TheVariants.Recovering, Drivers.device_at, Events.{IsSoundHost, events_over, shared_by}}
+use Rattle.hba_driver.specs.{HostTurns.{DoesAll, Host, HostTurn, Pushed, Ticked, Took}, Served.{IsServed, RunServes}}
 use Rattle.hba_driver.specs.Steady.{HasSignature, IsFine, IsFlushTick}
-use Rattle.hba_driver.specs.Tended.{IsAskedOn, IsAtStage, IsBegun, IsBeingReset}
-use Rattle.hba_driver.specs.Tended.{IsReleasing, IsResetTurn}
-use Rattle.hba_driver.specs.Tended.{IsTended, IsUnreset, IsUnworked, WorksOn}
-use Rattle.disk_recovery.specs.Kept.{IsCalmTurn, IsServedHonestly, given_to}
-use Rattle.disk_recovery.specs.Steady.{AreNamed, HasSigned}
+use Rattle.hba_driver.specs.Tended.{IsAskedOn, IsAtStage, IsBegun, IsBeingReset, IsReleasing, IsResetTurn, IsTended, IsUnreset, IsUnworked, WorksOn}
+use Rattle.disk_recovery.specs.{Kept.{IsCalmTurn, IsServedHonestly, given_to}, Steady.{AreNamed, HasSigned}}
 
 -- ---- what is kept
 

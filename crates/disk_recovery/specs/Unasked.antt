@@ -5,24 +5,14 @@
 -- Cited: a driver that serves a disk from where both began anew (specs/Together.antt), and where a
 -- host is with a device that recovers (`hba_driver`, specs/Slot30.antt).
 use Rattle.std.specs.Prelude.{ℕ, ◌≡◌, ◌<◌, ◌⊎◌, ◌++◌, true, List, [], ◌∷◌, Option, is_some}
-use Rattle.fis_view.specs.Frames.{IsFrame, Stamped, marked}
-use Rattle.fis_view.specs.Seen.{seen}
-use Rattle.hba_fbs.specs.declared.report.TakeReport.{TakeReport}
-use Rattle.hba_fbs.specs.Taking.{port_of}
-use Rattle.disk_model.specs.Anew.{IsClear}
-use Rattle.disk_model.specs.Ends.{IsRight}
-use Rattle.disk_model.specs.Histories.{Happening, Plugged, Sent}
-use Rattle.disk_model.specs.Ledger.{Ledger, Signs, ledger}
+use Rattle.fis_view.specs.{Frames.{IsFrame, Stamped, marked}, Seen.seen}
+use Rattle.hba_fbs.specs.{declared.report.TakeReport.TakeReport, Taking.port_of}
+use Rattle.disk_model.specs.{Anew.IsClear, Ends.IsRight, Histories.{Happening, Plugged, Sent}, Ledger.{Ledger, Signs, ledger}}
 use Rattle.hba_laws.specs.Client.{Touches}
-use Rattle.disk_simulation.specs.Files.{IsOfDisk}
-use Rattle.disk_simulation.specs.Same.{SlotCommand}
-use Rattle.hba_driver.specs.declared.plan.Device.TheVariants.{Absent}
-use Rattle.hba_driver.specs.Drivers.{device_at}
-use Rattle.hba_driver.specs.HostTurns.{Does, Host, HostTurn, Pushed, Took}
-use Rattle.hba_driver.specs.Slot30.{Faulty, IsAt30, IsUnsought, LogSent, Off}
-use Rattle.hba_driver.specs.Tended.{IsTended}
-use Rattle.disk_recovery.specs.Kept.{IsCalmTurn, given_to}
-use Rattle.disk_recovery.specs.Together.{IsServedOn}
+use Rattle.disk_simulation.specs.{Files.IsOfDisk, Same.SlotCommand}
+use Rattle.hba_driver.specs.{declared.plan.Device.TheVariants.Absent, Drivers.device_at, HostTurns.{Does, Host, HostTurn, Pushed, Took}}
+use Rattle.hba_driver.specs.{Slot30.{Faulty, IsAt30, IsUnsought, LogSent, Off}, Tended.IsTended}
+use Rattle.disk_recovery.specs.{Kept.{IsCalmTurn, given_to}, Together.IsServedOn}
 
 -- ---- a device that is taken to be absent
 

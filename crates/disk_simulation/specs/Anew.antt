@@ -2,44 +2,22 @@
 -- after a software reset, or with the log after an error (AHCI 1.3.1, 5.3 and 6.2.2, error recovery; Serial
 -- ATA 3.x, 13.6, native command queuing). What was queued before was given up, whatever was in transit then.
 -- From there on the port, the history and the ledger agree again, as they did since the disk was new.
-use Rattle.std.specs.Prelude.{ℕ, ◌≡◌, ◌≢◌, ◌<◌, ◌⊎◌, ◌++◌, true, false, List, [], ◌∷◌, Option, Some}
-use Rattle.std.specs.Prelude.{None, Ok}
-use Rattle.fis_view.specs.Frames.{IsFrame, Stamped, marked}
-use Rattle.fis_view.specs.Seen.{seen}
+use Rattle.std.specs.Prelude.{ℕ, ◌≡◌, ◌≢◌, ◌<◌, ◌⊎◌, ◌++◌, true, false, List, [], ◌∷◌, Option, Some, None, Ok}
+use Rattle.fis_view.specs.{Frames.{IsFrame, Stamped, marked}, Seen.seen}
 use Rattle.fis_view.specs.declared.view.Fis.TheVariants as view
 use Rattle.hba_commands.specs.declared.command.Command as issued_command
-use Rattle.slots.specs.Slots.{Issue, has_bit, is_control, own_issue}
-use Rattle.slots.specs.Work.{is_dma, is_queued}
-use Rattle.hba_fbs.specs.declared.register.Register.TheVariants.{Ci}
-use Rattle.hba_fbs.specs.declared.report.TakeReport.{TakeReport}
-use Rattle.hba_fbs.specs.Issuing.{aimed, asked}
-use Rattle.hba_fbs.specs.Sending.{Data, Order, gathered, outgoing}
-use Rattle.hba_fbs.specs.Tables.{prds_of}
-use Rattle.hba_fbs.specs.Taking.{port_of}
-use Rattle.hba_fbs.specs.Views.{view_of}
-use Rattle.disk_model.specs.declared.request.Request.TheVariants.{Queue}
-use Rattle.disk_model.specs.declared.plan.DiskPlan.{DiskPlan}
-use Rattle.disk_model.specs.Anew.{IsCarefulSince, IsClear, IsLinkedOn, OwesOnly}
-use Rattle.disk_model.specs.Ends.{IsRight}
-use Rattle.disk_model.specs.Histories.{Happening, Plugged, Received, Sent}
-use Rattle.disk_model.specs.Ledger.{IsSize, Ledger, ShowsPage, Signs, Wanted, ledger}
-use Rattle.disk_model.specs.Requests.{request_of}
-use Rattle.disk_model.specs.Runs.{IsDiskRun}
-use Rattle.hba_laws.specs.Agreement.{IsHistoryOf}
-use Rattle.hba_laws.specs.Client.{own}
-use Rattle.hba_laws.specs.Delivering.{touched}
+use Rattle.slots.specs.{Slots.{Issue, has_bit, is_control, own_issue}, Work.{is_dma, is_queued}}
+use Rattle.hba_fbs.specs.{declared.{register.Register.TheVariants.Ci, report.TakeReport.TakeReport}, Issuing.{aimed, asked}}
+use Rattle.hba_fbs.specs.{Sending.{Data, Order, gathered, outgoing}, Tables.prds_of, Taking.port_of, Views.view_of}
+use Rattle.disk_model.specs.declared.{request.Request.TheVariants.Queue, plan.DiskPlan.DiskPlan}
+use Rattle.disk_model.specs.{Anew.{IsCarefulSince, IsClear, IsLinkedOn, OwesOnly}, Ends.IsRight, Histories.{Happening, Plugged, Received, Sent}}
+use Rattle.disk_model.specs.{Ledger.{IsSize, Ledger, ShowsPage, Signs, Wanted, ledger}, Requests.request_of, Runs.IsDiskRun}
+use Rattle.hba_laws.specs.{Agreement.IsHistoryOf, Client.own, Delivering.touched, History.{History, Transfer, filled, issued}}
+use Rattle.hba_laws.specs.{Hosts.{Does, Gave, Host, TakesFrame, Took, Wrote}, Sound.IsHost}
 use Rattle.hba_laws.specs.History as event
-use Rattle.hba_laws.specs.History.{History, Transfer, filled, issued}
-use Rattle.hba_laws.specs.Hosts.{Does, Gave, Host, TakesFrame, Took, Wrote}
-use Rattle.hba_laws.specs.Sound.{IsHost}
-use Rattle.disk_simulation.specs.Answers.{IsAlone}
-use Rattle.disk_simulation.specs.Heard.{IsTakenWell}
-use Rattle.disk_simulation.specs.Honest.{IsDoneHonestly}
-use Rattle.disk_simulation.specs.Hosted.{IsHosted}
+use Rattle.disk_simulation.specs.{Answers.IsAlone, Heard.IsTakenWell, Honest.IsDoneHonestly, Hosted.IsHosted}
 use Rattle.disk_simulation.specs.Joined.{AreCounted, IsJoined, IsShort, SentAgrees}
-use Rattle.disk_simulation.specs.Together.{InTalk, IsWaitedUnset, NoneQueued, NothingWaits, Same, is_sent}
-use Rattle.disk_simulation.specs.Together.{told}
-use Rattle.disk_simulation.specs.Same.{SlotCommand}
+use Rattle.disk_simulation.specs.{Together.{InTalk, IsWaitedUnset, NoneQueued, NothingWaits, Same, is_sent, told}, Same.SlotCommand}
 
 -- ---- where they begin
 

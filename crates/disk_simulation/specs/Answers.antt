@@ -1,16 +1,12 @@
 -- What the answers of a device, and commands that are not queued, leave of each queued command: AHCI 1.3.1,
 -- 5.3 (how a port receives each type of FIS); Serial ATA 3.x, 10.5, FIS types, and 13.6, native command
 -- queuing.
-use Rattle.std.specs.Prelude.{ℕ, ◌≡◌, ◌==◌, ◌≤◌, Bool, true, false, List, [], ◌∷◌, length}
-use Rattle.std.specs.Prelude.{slice_get, None, Some}
+use Rattle.std.specs.Prelude.{ℕ, ◌≡◌, ◌==◌, ◌≤◌, Bool, true, false, List, [], ◌∷◌, length, slice_get, None, Some}
 use Rattle.slots.specs.Slots.{has_bit}
-use Rattle.disk_model.specs.declared.request.Request.{Request}
+use Rattle.disk_model.specs.{declared.request.Request.Request, Ends.{FitsRequest, IsFree}}
+use Rattle.disk_model.specs.Ledger.{Ledger, Names, ReadOut, Written, answered, answers, asks, sends_data}
 use Rattle.disk_model.specs.declared.request.Request.TheVariants as asked
-use Rattle.disk_model.specs.Ends.{FitsRequest, IsFree}
-use Rattle.disk_model.specs.Ledger.{Ledger, Names, ReadOut, Written, answered, answers, asks}
-use Rattle.disk_model.specs.Ledger.{sends_data}
-use Rattle.hba_laws.specs.History.{Answered, Carried, History, Named, PioSetUp, Sent, filled}
-use Rattle.hba_laws.specs.History.{is_at, waiting_in}
+use Rattle.hba_laws.specs.History.{Answered, Carried, History, Named, PioSetUp, Sent, filled, is_at, waiting_in}
 use Rattle.disk_simulation.specs.Same.{InLife, IsReadOf, IsWriteOf, SlotCommand, Stand}
 
 -- no queued command is outstanding or waits for an answer, and no data of one moves

@@ -2,26 +2,13 @@
 -- AHCI 1.3.1, 5.3.13 (how a port receives FISes), 6.2.2 (error recovery) and 9.3 (FIS-based Switching, on
 -- errors). Its FISes are ignored, or nothing queued of it is issued. All that was issued is emptied, and not
 -- done, before a queued command is issued anew.
-use Rattle.std.specs.Prelude.{ℕ, ◌≡◌, ◌<◌, ◌⊎◌, ◌++◌, true, false, List, Some}
-use Rattle.std.specs.Prelude.{is_some}
-use Rattle.slots.specs.Slots.{has_bit}
-use Rattle.slots.specs.Work.{is_queued}
+use Rattle.std.specs.Prelude.{ℕ, ◌≡◌, ◌<◌, ◌⊎◌, ◌++◌, true, false, List, Some, is_some}
+use Rattle.slots.specs.{Slots.has_bit, Work.is_queued}
 use Rattle.hba_commands.specs.declared.command.Command as issued_command
-use Rattle.hba_fbs.specs.declared.register.Register.{Register}
-use Rattle.hba_fbs.specs.declared.register.Register.TheVariants.{Ci, Cmd, Fbs}
-use Rattle.hba_fbs.specs.declared.report.TakeReport.{TakeReport}
-use Rattle.hba_fbs.specs.Issuing.{aimed, asked}
-use Rattle.hba_fbs.specs.Registers.{falls}
-use Rattle.hba_fbs.specs.Sending.{outgoing}
-use Rattle.hba_fbs.specs.Taking.{port_of}
-use Rattle.hba_fbs.specs.Views.{view_of}
-use Rattle.hba_fbs.specs.Writing.{cleared_by}
-use Rattle.hba_laws.specs.Client.{own}
-use Rattle.hba_laws.specs.Delivering.{touched}
-use Rattle.hba_laws.specs.History.{History, Transfer, issued}
-use Rattle.hba_laws.specs.Hosts.{Does, Flushed, Gave, Host, HostEvent, Put, Rewrote, Stored}
-use Rattle.hba_laws.specs.Hosts.{TakesFrame, Took, Wrote}
-use Rattle.hba_laws.specs.Isolation.{fails_by_bus}
+use Rattle.hba_fbs.specs.{declared.{register.Register.{Register, TheVariants.{Ci, Cmd, Fbs}}, report.TakeReport.TakeReport}, Issuing.{aimed, asked}}
+use Rattle.hba_fbs.specs.{Registers.falls, Sending.outgoing, Taking.port_of, Views.view_of, Writing.cleared_by}
+use Rattle.hba_laws.specs.{Client.own, Delivering.touched, History.{History, Transfer, issued}}
+use Rattle.hba_laws.specs.{Hosts.{Does, Flushed, Gave, Host, HostEvent, Put, Rewrote, Stored, TakesFrame, Took, Wrote}, Isolation.fails_by_bus}
 use Rattle.disk_simulation.specs.Together.{NoneQueued}
 
 -- no queued command is issued in any slot

@@ -1,20 +1,13 @@
 -- The words in which lemmas are stated that proofs of other crates use (`proofs/Door.antt`), and the words that these need.
 -- No clause says them.
 use Rattle.std.specs.Prelude.{List, Ok, Result, Some, true, ℕ, ◌≡◌}
-use Rattle.fis_view.specs.declared.view.Fis.{Fis}
+use Rattle.fis_view.specs.{declared.{view.Fis.Fis, view.FisFault.FisFault}, Table.{D2h, Status, field}}
 use Rattle.fis_view.specs.declared.view.Fis.TheVariants as view
-use Rattle.fis_view.specs.declared.view.FisFault.{FisFault}
-use Rattle.fis_view.specs.Table.{D2h, Status, field}
 use Rattle.fis_view.specs.Table as table
 use Rattle.slots.specs.Slots.{DeviceSlots, Issue, own_issue}
 use Rattle.hba_fbs.specs.declared.hearing.Happening.TheVariants as happening
-use Rattle.hba_fbs.specs.declared.hearing.Heard.{Heard}
-use Rattle.hba_fbs.specs.Hearing.{quietly, signing}
-use Rattle.hba_fbs.specs.Posting.{is_signature}
-use Rattle.hba_fbs.specs.Status.{after_reset}
-use Rattle.hba_fbs.specs.Views.{DeviceView}
-use Rattle.hba_laws.specs.Client.{own}
-use Rattle.hba_laws.specs.History.{Transfer}
+use Rattle.hba_fbs.specs.{declared.hearing.Heard.Heard, Hearing.{quietly, signing}, Posting.is_signature, Status.after_reset, Views.DeviceView}
+use Rattle.hba_laws.specs.{Client.own, History.Transfer}
 
 -- ---- joined
 

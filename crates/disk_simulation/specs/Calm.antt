@@ -1,19 +1,10 @@
 -- Events at a host port between two FISes of a device: each belongs to another device or to none, or issues
 -- commands for this one (AHCI 1.3.1, 3.3.14, PxCI, and chapter 9, FIS-based Switching).
 use Rattle.std.specs.Prelude.{ℕ, ◌≡◌, ◌<◌, ◌⊎◌, List, [], ◌∷◌, None}
-use Rattle.hba_fbs.specs.declared.register.Register.{Register}
-use Rattle.hba_fbs.specs.declared.register.Register.TheVariants.{Ci}
-use Rattle.hba_fbs.specs.Issuing.{aimed, asked}
-use Rattle.disk_model.specs.Histories.{Happening}
-use Rattle.disk_model.specs.Ledger.{Ledger, ledger}
-use Rattle.hba_laws.specs.Delivering.{history_after}
-use Rattle.hba_laws.specs.History.{History}
-use Rattle.hba_laws.specs.Hosts.{Host, HostEvent, Runs, Wrote}
-use Rattle.hba_laws.specs.Sound.{AreHosts}
-use Rattle.disk_simulation.specs.Elsewhere.{IsElsewhere}
-use Rattle.disk_simulation.specs.Hosted.{IsHosted}
-use Rattle.disk_simulation.specs.Joined.{AreCounted}
-use Rattle.disk_simulation.specs.Same.{SlotCommand}
+use Rattle.hba_fbs.specs.{declared.register.Register.{Register, TheVariants.Ci}, Issuing.{aimed, asked}}
+use Rattle.disk_model.specs.{Histories.Happening, Ledger.{Ledger, ledger}}
+use Rattle.hba_laws.specs.{Delivering.history_after, History.History, Hosts.{Host, HostEvent, Runs, Wrote}, Sound.AreHosts}
+use Rattle.disk_simulation.specs.{Elsewhere.IsElsewhere, Hosted.IsHosted, Joined.AreCounted, Same.SlotCommand}
 
 -- A write of PxCI issues commands for the device. The new map names them, by what the ledger tells at that
 -- time.

@@ -1,18 +1,9 @@
 -- What happens at a host port and does not concern one device (AHCI 1.3.1, chapter 9, FIS-based Switching):
 -- it leaves the device's view, and is no event of its history.
 use Rattle.std.specs.Prelude.{ℕ, ◌≡◌, ◌≢◌, ◌<◌, false, [], Some}
-use Rattle.hba_fbs.specs.declared.register.Register.{Register}
-use Rattle.hba_fbs.specs.declared.register.Register.TheVariants.{Ci, Cmd, Fbs}
-use Rattle.hba_fbs.specs.Issuing.{aimed}
-use Rattle.hba_fbs.specs.Registers.{falls}
-use Rattle.hba_fbs.specs.Sending.{Data, Nothing, Order, Outgoing, Unreadable, outgoing}
-use Rattle.hba_fbs.specs.Taking.{port_of}
-use Rattle.hba_fbs.specs.Views.{view_of}
-use Rattle.hba_fbs.specs.Writing.{cleared_by}
-use Rattle.hba_laws.specs.Client.{own}
-use Rattle.hba_laws.specs.Delivering.{touched}
-use Rattle.hba_laws.specs.Hosts.{Does, Flushed, Gave, Host, HostEvent, Put, Rewrote, Stored, Took}
-use Rattle.hba_laws.specs.Hosts.{Wrote}
+use Rattle.hba_fbs.specs.{declared.register.Register.{Register, TheVariants.{Ci, Cmd, Fbs}}, Issuing.aimed, Registers.falls}
+use Rattle.hba_fbs.specs.{Sending.{Data, Nothing, Order, Outgoing, Unreadable, outgoing}, Taking.port_of, Views.view_of, Writing.cleared_by}
+use Rattle.hba_laws.specs.{Client.own, Delivering.touched, Hosts.{Does, Flushed, Gave, Host, HostEvent, Put, Rewrote, Stored, Took, Wrote}}
 
 -- what is transmitted is for another device, and the port goes on
 abbrev pub IsForOther : ℕ → Outgoing → Type 0

@@ -1,30 +1,15 @@
 -- The task file that a host port has of an honest disk (AHCI 1.3.1, 3.3.8, PxTFD, and 5.3.13, how a port
 -- receives each type of FIS; ACS-3, 6.2, Status field). Status.ERR is 0 from the first FIS after both began
 -- anew, as long as the disk reports no error by a Set Device Bits FIS.
-use Rattle.std.specs.Prelude.{ℕ, ◌≡◌, ◌<◌, ◌⊎◌, ◌++◌, true, false, List, [], ◌∷◌, Option, Some}
-use Rattle.std.specs.Prelude.{None, Result, Ok, is_some}
-use Rattle.fis_view.specs.Frames.{IsFrame, Stamped, marked}
-use Rattle.fis_view.specs.Seen.{seen}
-use Rattle.fis_view.specs.Table.{EStatus, Pio, field}
-use Rattle.fis_view.specs.declared.view.Fis.{Fis}
+use Rattle.std.specs.Prelude.{ℕ, ◌≡◌, ◌<◌, ◌⊎◌, ◌++◌, true, false, List, [], ◌∷◌, Option, Some, None, Result, Ok, is_some}
+use Rattle.fis_view.specs.{Frames.{IsFrame, Stamped, marked}, Seen.seen, Table.{EStatus, Pio, field}, declared.{view.Fis.Fis, view.FisFault.FisFault}}
 use Rattle.fis_view.specs.declared.view.Fis.TheVariants as view
-use Rattle.fis_view.specs.declared.view.FisFault.{FisFault}
-use Rattle.hba_fbs.specs.declared.report.TakeReport.{TakeReport}
-use Rattle.hba_fbs.specs.declared.status.Block.{Block}
-use Rattle.hba_fbs.specs.declared.register.Register.TheVariants.{Ci}
-use Rattle.hba_fbs.specs.Status.{is_error}
-use Rattle.hba_fbs.specs.Taking.{port_of}
-use Rattle.hba_fbs.specs.Views.{DeviceView, view_of}
-use Rattle.disk_model.specs.declared.plan.DiskPlan.{DiskPlan}
-use Rattle.disk_model.specs.Anew.{IsCarefulSince, IsClear, OwesOnly}
-use Rattle.disk_model.specs.Ends.{reports}
-use Rattle.disk_model.specs.Histories.{Happening, Sent}
-use Rattle.disk_model.specs.Ledger.{Accepts, Finishes, IsSize, Ledger, Refuses, Reply, ShowsPage}
-use Rattle.disk_model.specs.Ledger.{Signs, Wanted, ledger}
-use Rattle.disk_model.specs.Runs.{IsDiskRun}
+use Rattle.hba_fbs.specs.{declared.{report.TakeReport.TakeReport, status.Block.Block, register.Register.TheVariants.Ci}, Status.is_error}
+use Rattle.hba_fbs.specs.{Taking.port_of, Views.{DeviceView, view_of}}
+use Rattle.disk_model.specs.{declared.plan.DiskPlan.DiskPlan, Anew.{IsCarefulSince, IsClear, OwesOnly}, Ends.reports, Histories.{Happening, Sent}}
+use Rattle.disk_model.specs.{Ledger.{Accepts, Finishes, IsSize, Ledger, Refuses, Reply, ShowsPage, Signs, Wanted, ledger}, Runs.IsDiskRun}
 use Rattle.hba_laws.specs.Hosts.{Does, Gave, Host, TakesFrame, Wrote}
-use Rattle.disk_simulation.specs.Line.{EachReply, IsSigning, IsWatchedWell}
-use Rattle.disk_simulation.specs.Watched.{IsPlainSince}
+use Rattle.disk_simulation.specs.{Line.{EachReply, IsSigning, IsWatchedWell}, Watched.IsPlainSince}
 
 -- ---- what a disk sends
 

@@ -2,25 +2,13 @@
 -- errors). Both ends are linked up to that error, which comes up after all that the disk sent before. What
 -- the disk does after it does not matter until both begin anew.
 use Rattle.std.specs.Prelude.{ℕ, ◌≡◌, ◌<◌, ◌⊎◌, ◌++◌, true, List, [], ◌∷◌, Some}
-use Rattle.fis_view.specs.Frames.{IsFrame, marked}
-use Rattle.fis_view.specs.Seen.{seen}
-use Rattle.slots.specs.Slots.{has_bit}
-use Rattle.slots.specs.Work.{is_queued}
-use Rattle.hba_fbs.specs.declared.report.TakeReport.{TakeReport}
-use Rattle.hba_fbs.specs.Taking.{port_of}
-use Rattle.disk_model.specs.declared.plan.DiskPlan.{DiskPlan}
-use Rattle.disk_model.specs.Anew.{IsCarefulSince, IsClear, IsLinkedOn}
-use Rattle.disk_model.specs.Ends.{reports}
-use Rattle.disk_model.specs.Histories.{Happening, Received, Sent}
-use Rattle.disk_model.specs.Ledger.{IsSize, ledger}
-use Rattle.disk_model.specs.Runs.{IsDiskRun}
-use Rattle.hba_laws.specs.History.{History, Transfer, filled, issued}
-use Rattle.hba_laws.specs.Hosts.{Host, TakesFrame}
-use Rattle.hba_laws.specs.Sound.{IsHost}
-use Rattle.disk_simulation.specs.Anew.{IsNextRight}
-use Rattle.disk_simulation.specs.Honest.{IsDoneHonestly}
-use Rattle.disk_simulation.specs.Joined.{IsJoined}
-use Rattle.disk_simulation.specs.Same.{SlotCommand}
+use Rattle.fis_view.specs.{Frames.{IsFrame, marked}, Seen.seen}
+use Rattle.slots.specs.{Slots.has_bit, Work.is_queued}
+use Rattle.hba_fbs.specs.{declared.report.TakeReport.TakeReport, Taking.port_of}
+use Rattle.disk_model.specs.{declared.plan.DiskPlan.DiskPlan, Anew.{IsCarefulSince, IsClear, IsLinkedOn}, Ends.reports}
+use Rattle.disk_model.specs.{Histories.{Happening, Received, Sent}, Ledger.{IsSize, ledger}, Runs.IsDiskRun}
+use Rattle.hba_laws.specs.{History.{History, Transfer, filled, issued}, Hosts.{Host, TakesFrame}, Sound.IsHost}
+use Rattle.disk_simulation.specs.{Anew.IsNextRight, Honest.IsDoneHonestly, Joined.IsJoined, Same.SlotCommand}
 
 -- What the disk did since the moment up to which it is followed, and what comes up behind the FISes sent
 -- before: nothing, or an error and all that was sent later. In the first case, what goes down to the disk is

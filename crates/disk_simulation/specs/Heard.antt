@@ -2,19 +2,10 @@
 -- 1.3.1, 5.3.13, how a port receives each type of FIS; Serial ATA 3.x, 10.5, FIS types).
 use Rattle.std.specs.Prelude.{ℕ, ◌≡◌, ◌<◌, false, List, None}
 use Rattle.fis_view.specs.Seen.{seen}
-use Rattle.hba_fbs.specs.declared.report.TakeReport.{TakeReport}
-use Rattle.hba_fbs.specs.Taking.{port_of}
-use Rattle.hba_fbs.specs.Views.{view_of}
-use Rattle.disk_model.specs.Ends.{IsRight}
-use Rattle.disk_model.specs.Ledger.{Ledger}
-use Rattle.hba_laws.specs.Agreement.{IsHistoryOf}
-use Rattle.hba_laws.specs.Client.{own}
-use Rattle.hba_laws.specs.Delivering.{touched}
-use Rattle.hba_laws.specs.History.{History}
-use Rattle.hba_laws.specs.Hosts.{Host, TakesFrame, Took}
-use Rattle.hba_laws.specs.Sound.{IsHost}
-use Rattle.disk_simulation.specs.Together.{IsHeard, Same, told}
-use Rattle.disk_simulation.specs.Same.{SlotCommand}
+use Rattle.hba_fbs.specs.{declared.report.TakeReport.TakeReport, Taking.port_of, Views.view_of}
+use Rattle.disk_model.specs.{Ends.IsRight, Ledger.Ledger}
+use Rattle.hba_laws.specs.{Agreement.IsHistoryOf, Client.own, Delivering.touched, History.History, Hosts.{Host, TakesFrame, Took}, Sound.IsHost}
+use Rattle.disk_simulation.specs.{Together.{IsHeard, Same, told}, Same.SlotCommand}
 
 -- the port hears the frame of a device that is not in software reset, and finds no fault in it
 pub record IsTakenWell (host : Host) (frame : List ℕ) (report : TakeReport)

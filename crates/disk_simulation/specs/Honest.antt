@@ -2,21 +2,14 @@
 -- medium (ACS-3, READ FPDMA QUEUED and WRITE FPDMA QUEUED; Serial ATA 3.x, 13.6, native command queuing).
 -- Whatever is in transit between disk and host at that moment, the device's history at the host port tells of
 -- the disk's own sectors.
-use Rattle.std.specs.Prelude.{ℕ, ◌≡◌, ◌*◌, ◌<◌, ◌≤◌, true, false, List, ◌∷◌, length, slice_get, Option}
-use Rattle.std.specs.Prelude.{Some, Ok}
-use Rattle.fis_view.specs.Table.{Bits, SActive, field}
-use Rattle.fis_view.specs.Seen.{seen}
+use Rattle.std.specs.Prelude.{ℕ, ◌≡◌, ◌*◌, ◌<◌, ◌≤◌, true, false, List, ◌∷◌, length, slice_get, Option, Some, Ok}
+use Rattle.fis_view.specs.{Table.{Bits, SActive, field}, Seen.seen}
 use Rattle.fis_view.specs.declared.view.Fis.TheVariants as view
 use Rattle.slots.specs.Work.{is_queued}
-use Rattle.disk_model.specs.declared.plan.DiskPlan.{DiskPlan}
-use Rattle.disk_model.specs.Chunks.{sectors_at}
-use Rattle.disk_model.specs.Ends.{IsCareful, IsLinked, IsRight}
-use Rattle.disk_model.specs.Histories.{Happening}
-use Rattle.disk_model.specs.Ledger.{IsSize, Ledger, ReadOut, Written, ledger, medium_with}
-use Rattle.disk_model.specs.Runs.{IsDiskRun}
+use Rattle.disk_model.specs.{declared.plan.DiskPlan.DiskPlan, Chunks.sectors_at, Ends.{IsCareful, IsLinked, IsRight}, Histories.Happening}
+use Rattle.disk_model.specs.{Ledger.{IsSize, Ledger, ReadOut, Written, ledger, medium_with}, Runs.IsDiskRun}
 use Rattle.hba_laws.specs.History.{History, Named, Transfer, completes, filled, issued}
-use Rattle.disk_simulation.specs.Together.{Same}
-use Rattle.disk_simulation.specs.Same.{SlotCommand}
+use Rattle.disk_simulation.specs.{Together.Same, Same.SlotCommand}
 
 -- each byte of this many is filled, with the one at its place among these
 abbrev pub AreFilledBy : (ℕ → Option ℕ) → ℕ → List ℕ → Type 0

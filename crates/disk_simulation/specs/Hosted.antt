@@ -1,39 +1,19 @@
 -- What a host did with a disk since its plugging, event by event, while its port refused nothing and emptied
 -- no slot (AHCI 1.3.1, 5.3; Serial ATA 3.x, 13.6, native command queuing). Its port, the device's history and
 -- the ledger agree all the time, and each FIS that it gave fits what was told before.
-use Rattle.std.specs.Prelude.{ℕ, ◌≡◌, ◌≢◌, ◌<◌, ◌++◌, true, false, List, [], ◌∷◌, Some}
-use Rattle.std.specs.Prelude.{None, Ok}
-use Rattle.fis_view.specs.Frames.{IsFrame, Stamped, marked}
-use Rattle.fis_view.specs.Seen.{seen}
+use Rattle.std.specs.Prelude.{ℕ, ◌≡◌, ◌≢◌, ◌<◌, ◌++◌, true, false, List, [], ◌∷◌, Some, None, Ok}
+use Rattle.fis_view.specs.{Frames.{IsFrame, Stamped, marked}, Seen.seen}
 use Rattle.fis_view.specs.declared.view.Fis.TheVariants as view
 use Rattle.hba_commands.specs.declared.command.Command as issued_command
-use Rattle.slots.specs.Slots.{is_control, own_issue}
-use Rattle.slots.specs.Work.{is_dma, is_queued}
-use Rattle.hba_fbs.specs.declared.register.Register.TheVariants.{Ci}
-use Rattle.hba_fbs.specs.declared.report.TakeReport.{TakeReport}
-use Rattle.hba_fbs.specs.Issuing.{aimed, asked}
-use Rattle.hba_fbs.specs.Sending.{Data, Order, gathered, outgoing}
-use Rattle.hba_fbs.specs.Tables.{prds_of}
-use Rattle.hba_fbs.specs.Taking.{port_of}
-use Rattle.hba_fbs.specs.Views.{view_of}
-use Rattle.disk_model.specs.declared.request.Request.TheVariants.{Queue}
-use Rattle.disk_model.specs.declared.plan.DiskPlan.{DiskPlan}
-use Rattle.disk_model.specs.Ends.{IsCareful, IsLinked, IsRight}
-use Rattle.disk_model.specs.Histories.{Happening, Plugged, Received, Sent}
-use Rattle.disk_model.specs.Ledger.{IsSize, Signs, ledger}
-use Rattle.disk_model.specs.Requests.{request_of}
-use Rattle.disk_model.specs.Runs.{IsDiskRun}
-use Rattle.hba_laws.specs.Agreement.{IsHistoryOf}
-use Rattle.hba_laws.specs.Client.{own}
-use Rattle.hba_laws.specs.Delivering.{touched}
+use Rattle.slots.specs.{Slots.{is_control, own_issue}, Work.{is_dma, is_queued}}
+use Rattle.hba_fbs.specs.{declared.{register.Register.TheVariants.Ci, report.TakeReport.TakeReport}, Issuing.{aimed, asked}}
+use Rattle.hba_fbs.specs.{Sending.{Data, Order, gathered, outgoing}, Tables.prds_of, Taking.port_of, Views.view_of}
+use Rattle.disk_model.specs.{declared.{request.Request.TheVariants.Queue, plan.DiskPlan.DiskPlan}, Ends.{IsCareful, IsLinked, IsRight}}
+use Rattle.disk_model.specs.{Histories.{Happening, Plugged, Received, Sent}, Ledger.{IsSize, Signs, ledger}, Requests.request_of, Runs.IsDiskRun}
+use Rattle.hba_laws.specs.{Agreement.IsHistoryOf, Client.own, Delivering.touched, History.{History, Transfer, issued}}
+use Rattle.hba_laws.specs.{Hosts.{Does, Gave, Host, Wrote}, Sound.IsHost}
 use Rattle.hba_laws.specs.History as event
-use Rattle.hba_laws.specs.History.{History, Transfer, issued}
-use Rattle.hba_laws.specs.Hosts.{Does, Gave, Host, Wrote}
-use Rattle.hba_laws.specs.Sound.{IsHost}
-use Rattle.disk_simulation.specs.Answers.{IsAlone}
-use Rattle.disk_simulation.specs.Heard.{IsTakenWell}
-use Rattle.disk_simulation.specs.Joined.{AreCounted, IsJoined, IsShort}
-use Rattle.disk_simulation.specs.Together.{NoneQueued, told}
+use Rattle.disk_simulation.specs.{Answers.IsAlone, Heard.IsTakenWell, Joined.{AreCounted, IsJoined, IsShort}, Together.{NoneQueued, told}}
 use Rattle.disk_simulation.specs.Same.{SlotCommand}
 
 -- What passes between a host and a device has PM Port 0 at the device's end of the link, and the device's

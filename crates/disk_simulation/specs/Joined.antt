@@ -1,44 +1,21 @@
 -- A host port, its device's history and the ledger of the FISes at its end of the link, joined: all three
 -- still agree after each FIS that the port hears or gives (AHCI 1.3.1, 5.3, how a port receives and transmits
 -- FISes; Serial ATA 3.x, 13.6, native command queuing).
-use Rattle.std.specs.Prelude.{ℕ, ◌≡◌, ◌≢◌, ◌<◌, ◌≤◌, ◌++◌, true, List, [], ◌∷◌, false}
-use Rattle.std.specs.Prelude.{length, Option, Some, None, Result, Ok, is_some}
-use Rattle.fis_view.specs.Frames.{IsFrame, Stamped, marked}
-use Rattle.fis_view.specs.Table.{Setup, field}
+use Rattle.std.specs.Prelude.{ℕ, ◌≡◌, ◌≢◌, ◌<◌, ◌≤◌, ◌++◌, true, List, [], ◌∷◌, false, length, Option, Some, None, Result, Ok, is_some}
+use Rattle.fis_view.specs.{Frames.{IsFrame, Stamped, marked}, Table.{Setup, field}, Seen.seen, declared.{view.Fis.Fis, view.FisFault.FisFault}}
 use Rattle.fis_view.specs.Table as table
-use Rattle.fis_view.specs.Seen.{seen}
-use Rattle.fis_view.specs.declared.view.Fis.{Fis}
-use Rattle.fis_view.specs.declared.view.FisFault.{FisFault}
 use Rattle.fis_view.specs.declared.view.Fis.TheVariants as view
 use Rattle.hba_commands.specs.declared.command.Command as issued_command
-use Rattle.slots.specs.Slots.{DeviceSlots, Issue, has_bit, is_control, own_issue}
-use Rattle.slots.specs.Work.{is_dma, is_queued}
-use Rattle.slots.specs.declared.table.Context.{Context}
-use Rattle.hba_fbs.specs.declared.register.Register.TheVariants.{Ci}
-use Rattle.hba_fbs.specs.declared.report.TakeReport.{TakeReport}
-use Rattle.hba_fbs.specs.Issuing.{aimed, asked}
-use Rattle.hba_fbs.specs.Sending.{Data, Order, gathered, outgoing}
-use Rattle.hba_fbs.specs.Tables.{prds_of}
-use Rattle.hba_fbs.specs.Taking.{port_of}
-use Rattle.hba_fbs.specs.Views.{view_of}
-use Rattle.disk_model.specs.declared.request.Request.TheVariants.{Queue}
-use Rattle.disk_model.specs.declared.plan.DiskPlan.{DiskPlan}
-use Rattle.disk_model.specs.Ends.{Fits, IsCareful, IsLinked, IsRight}
-use Rattle.disk_model.specs.Histories.{Happening, Received, Sent}
-use Rattle.disk_model.specs.Ledger.{IsSize, Ledger, Moving, Signs, ledger, listens}
-use Rattle.disk_model.specs.Requests.{request_of}
+use Rattle.slots.specs.{Slots.{DeviceSlots, Issue, has_bit, is_control, own_issue}, Work.{is_dma, is_queued}, declared.table.Context.Context}
+use Rattle.hba_fbs.specs.{declared.{register.Register.TheVariants.Ci, report.TakeReport.TakeReport}, Issuing.{aimed, asked}}
+use Rattle.hba_fbs.specs.{Sending.{Data, Order, gathered, outgoing}, Tables.prds_of, Taking.port_of, Views.view_of}
+use Rattle.disk_model.specs.{declared.{request.Request.TheVariants.Queue, plan.DiskPlan.DiskPlan}, Ends.{Fits, IsCareful, IsLinked, IsRight}}
+use Rattle.disk_model.specs.{Histories.{Happening, Received, Sent}, Ledger.{IsSize, Ledger, Moving, Signs, ledger, listens}, Requests.request_of}
 use Rattle.disk_model.specs.Runs.{IsDiskRun}
-use Rattle.hba_laws.specs.Agreement.{IsHistoryOf}
-use Rattle.hba_laws.specs.Client.{own}
-use Rattle.hba_laws.specs.Delivering.{touched}
+use Rattle.hba_laws.specs.{Agreement.IsHistoryOf, Client.own, Delivering.touched, History.{History, Transfer, filled, issued}}
+use Rattle.hba_laws.specs.{Hosts.{Does, Gave, Host, Wrote}, Sound.IsHost}
 use Rattle.hba_laws.specs.History as event
-use Rattle.hba_laws.specs.History.{History, Transfer, filled, issued}
-use Rattle.hba_laws.specs.Hosts.{Does, Gave, Host, Wrote}
-use Rattle.hba_laws.specs.Sound.{IsHost}
-use Rattle.disk_simulation.specs.Answers.{IsAlone}
-use Rattle.disk_simulation.specs.Heard.{IsTakenWell}
-use Rattle.disk_simulation.specs.Honest.{IsDoneHonestly}
-use Rattle.disk_simulation.specs.Together.{NoneQueued, Same, is_sent, told}
+use Rattle.disk_simulation.specs.{Answers.IsAlone, Heard.IsTakenWell, Honest.IsDoneHonestly, Together.{NoneQueued, Same, is_sent, told}}
 use Rattle.disk_simulation.specs.Same.{SlotCommand}
 
 -- the port has a command as sent where the history says so

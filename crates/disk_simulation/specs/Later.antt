@@ -3,22 +3,12 @@
 -- WRITE FPDMA QUEUED; Serial ATA 3.x, 13.6, native command queuing).
 use Rattle.std.specs.Prelude.{ℕ, ◌≡◌, ◌<◌, ◌+◌, ◌++◌, true, List, ◌∷◌, length, Some}
 use Rattle.fis_view.specs.Frames.{IsFrame, marked}
-use Rattle.slots.specs.Slots.{has_bit}
-use Rattle.slots.specs.Work.{is_queued}
-use Rattle.hba_fbs.specs.declared.report.TakeReport.{TakeReport}
-use Rattle.hba_fbs.specs.Taking.{port_of}
-use Rattle.disk_model.specs.declared.plan.DiskPlan.{DiskPlan}
-use Rattle.disk_model.specs.Ends.{IsCareful, IsLinked}
-use Rattle.disk_model.specs.Histories.{Happening}
-use Rattle.disk_model.specs.Ledger.{IsSize, ledger}
+use Rattle.slots.specs.{Slots.has_bit, Work.is_queued}
+use Rattle.hba_fbs.specs.{declared.report.TakeReport.TakeReport, Taking.port_of}
+use Rattle.disk_model.specs.{declared.plan.DiskPlan.DiskPlan, Ends.{IsCareful, IsLinked}, Histories.Happening, Ledger.{IsSize, ledger}}
 use Rattle.disk_model.specs.Runs.{IsDiskRun}
-use Rattle.hba_laws.specs.History.{History, Transfer, filled, issued}
-use Rattle.hba_laws.specs.Hosts.{Host, TakesFrame}
-use Rattle.hba_laws.specs.Sound.{IsHost}
-use Rattle.disk_simulation.specs.Anew.{IsNextRight}
-use Rattle.disk_simulation.specs.Honest.{IsDoneHonestly}
-use Rattle.disk_simulation.specs.Joined.{IsJoined}
-use Rattle.disk_simulation.specs.Same.{SlotCommand}
+use Rattle.hba_laws.specs.{History.{History, Transfer, filled, issued}, Hosts.{Host, TakesFrame}, Sound.IsHost}
+use Rattle.disk_simulation.specs.{Anew.IsNextRight, Honest.IsDoneHonestly, Joined.IsJoined, Same.SlotCommand}
 
 -- What the host receives next is right by what was told since the plugging.
 abbrev pub NextIsRightLater : Type 0

@@ -2,18 +2,12 @@
 -- log of an error, or resets the disk (Serial ATA 3.x, 13.6, native command queuing, on errors, and software
 -- reset; ACS-3, READ LOG EXT). A FIS that goes down can be lost. Then those behind it arrive without it.
 use Rattle.std.specs.Prelude.{ℕ, ◌≡◌, ◌≢◌, ◌<◌, ◌⊎◌, ◌++◌, true, false, List, [], ◌∷◌}
-use Rattle.fis_view.specs.Frames.{IsFrame, marked}
-use Rattle.fis_view.specs.Seen.{seen}
+use Rattle.fis_view.specs.{Frames.{IsFrame, marked}, Seen.seen}
 use Rattle.hba_fbs.specs.Posting.{signs}
-use Rattle.disk_model.specs.declared.plan.DiskPlan.{DiskPlan}
-use Rattle.disk_model.specs.declared.request.Request.{Request}
+use Rattle.disk_model.specs.{declared.{plan.DiskPlan.DiskPlan, request.Request.Request}, Anew.{IsCarefulSince, IsRequest, OwesOnly}}
+use Rattle.disk_model.specs.{Ends.{Rests, reports}, Histories.{Happening, Plugged, Received, Sent}}
+use Rattle.disk_model.specs.{Ledger.{Accepts, Finishes, IsSize, Ledger, LogOf, Refuses, Reply, ShowsPage, Signs, Wanted, ledger}, Runs.IsDiskRun}
 use Rattle.disk_model.specs.declared.request.Request.TheVariants as asked
-use Rattle.disk_model.specs.Anew.{IsCarefulSince, IsRequest, OwesOnly}
-use Rattle.disk_model.specs.Ends.{Rests, reports}
-use Rattle.disk_model.specs.Histories.{Happening, Plugged, Received, Sent}
-use Rattle.disk_model.specs.Ledger.{Accepts, Finishes, IsSize, Ledger, LogOf, Refuses, Reply}
-use Rattle.disk_model.specs.Ledger.{ShowsPage, Signs, Wanted, ledger}
-use Rattle.disk_model.specs.Runs.{IsDiskRun}
 use Rattle.disk_simulation.specs.Watched.{ArePlain, IsErred, IsPlain, IsWatched}
 
 -- ---- what is due, and what comes up

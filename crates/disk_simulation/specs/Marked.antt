@@ -1,11 +1,8 @@
 -- What a FIS tells does not depend on its PM Port, which only a port multiplier writes (Serial ATA 3.x, 10.5
 -- and chapter 16): the ledger hears the same of a frame and of the marked one.
 use Rattle.std.specs.Prelude.{ℕ, ◌≡◌, ◌<◌, List}
-use Rattle.fis_view.specs.Frames.{IsFrame, marked}
-use Rattle.fis_view.specs.Seen.{seen}
-use Rattle.disk_model.specs.Ends.{Fits, IsRight}
-use Rattle.disk_model.specs.Histories.{Received, Sent}
-use Rattle.disk_model.specs.Ledger.{Ledger, listens}
+use Rattle.fis_view.specs.{Frames.{IsFrame, marked}, Seen.seen}
+use Rattle.disk_model.specs.{Ends.{Fits, IsRight}, Histories.{Received, Sent}, Ledger.{Ledger, listens}}
 use Rattle.disk_simulation.specs.Joined.{IsShort}
 
 pub record IsHeardAlike (k : Ledger) (old new : List ℕ) : Type 0 where

@@ -4,27 +4,13 @@
 -- disk. Or it sets the disk aside, and the disk failed and rests. Or it sets the disk aside, the disk goes
 -- on, and Status.ERR of its task file is 0.
 use Rattle.std.specs.Prelude.{ℕ, ◌≡◌, ◌<◌, ◌⊎◌, ◌++◌, false, List, [], ◌∷◌, None}
-use Rattle.fis_view.specs.Frames.{IsFrame, marked}
-use Rattle.fis_view.specs.Seen.{seen}
-use Rattle.hba_fbs.specs.declared.report.TakeReport.{TakeReport}
-use Rattle.hba_fbs.specs.Taking.{port_of}
-use Rattle.hba_fbs.specs.Views.{view_of}
-use Rattle.disk_model.specs.declared.plan.DiskPlan.{DiskPlan}
-use Rattle.disk_model.specs.Anew.{OwesOnly}
-use Rattle.disk_model.specs.Ends.{Fits}
-use Rattle.disk_model.specs.Histories.{Happening, Sent}
+use Rattle.fis_view.specs.{Frames.{IsFrame, marked}, Seen.seen}
+use Rattle.hba_fbs.specs.{declared.report.TakeReport.TakeReport, Taking.port_of, Views.view_of}
+use Rattle.disk_model.specs.{declared.plan.DiskPlan.DiskPlan, Anew.OwesOnly, Ends.Fits, Histories.{Happening, Sent}}
 use Rattle.disk_model.specs.Ledger.{Ledger, Reply, Wanted, ledger}
-use Rattle.hba_laws.specs.Client.{own}
-use Rattle.hba_laws.specs.Delivering.{touched}
-use Rattle.hba_laws.specs.History.{History}
-use Rattle.hba_laws.specs.Hosts.{Host, TakesFrame, Took}
-use Rattle.hba_laws.specs.Sound.{IsHost}
-use Rattle.disk_simulation.specs.Anew.{IsHostedOn}
-use Rattle.disk_simulation.specs.Aside.{IsAside}
-use Rattle.disk_simulation.specs.Files.{IsFineFile, IsUnrefused}
-use Rattle.disk_simulation.specs.Line.{Failed, IsWatchedWell, Loose, OnLine}
-use Rattle.disk_simulation.specs.Phases.{AreWatching}
-use Rattle.disk_simulation.specs.Same.{SlotCommand}
+use Rattle.hba_laws.specs.{Client.own, Delivering.touched, History.History, Hosts.{Host, TakesFrame, Took}, Sound.IsHost}
+use Rattle.disk_simulation.specs.{Anew.IsHostedOn, Aside.IsAside, Files.{IsFineFile, IsUnrefused}, Line.{Failed, IsWatchedWell, Loose, OnLine}}
+use Rattle.disk_simulation.specs.{Phases.AreWatching, Same.SlotCommand}
 
 -- The host heard nothing of the disk since both began anew, or the disk's task file has no error.
 abbrev pub HasFineFile : ℕ → Host → (base given : List Happening) → Type 0

@@ -2,28 +2,14 @@
 -- to the error that the host takes. They are apart from its first fault until they begin anew (AHCI 1.3.1,
 -- 6.2.2, error recovery, and 9.3; Serial ATA 3.x, 13.6, native command queuing). In each phase, what the port
 -- says is done was done honestly.
-use Rattle.std.specs.Prelude.{ℕ, ◌≡◌, ◌<◌, ◌⊎◌, ◌++◌, true, false, List, [], ◌∷◌}
-use Rattle.std.specs.Prelude.{None, Some}
+use Rattle.std.specs.Prelude.{ℕ, ◌≡◌, ◌<◌, ◌⊎◌, ◌++◌, true, false, List, [], ◌∷◌, None, Some}
 use Rattle.fis_view.specs.Frames.{IsFrame, marked}
-use Rattle.slots.specs.Slots.{has_bit}
-use Rattle.slots.specs.Work.{is_queued}
-use Rattle.hba_fbs.specs.declared.report.TakeReport.{TakeReport}
-use Rattle.hba_fbs.specs.Taking.{port_of}
-use Rattle.disk_model.specs.declared.plan.DiskPlan.{DiskPlan}
-use Rattle.disk_model.specs.Histories.{Happening, Sent}
-use Rattle.disk_model.specs.Ledger.{IsSize, ledger}
-use Rattle.disk_model.specs.Runs.{IsDiskRun}
-use Rattle.hba_laws.specs.History.{History, Transfer, filled, issued}
-use Rattle.hba_laws.specs.Client.{own}
-use Rattle.hba_laws.specs.Delivering.{touched}
-use Rattle.hba_laws.specs.Hosts.{Does, Host, HostEvent, TakesFrame, Took}
-use Rattle.hba_laws.specs.Sound.{IsHost}
-use Rattle.disk_simulation.specs.Anew.{IsHostedOn}
-use Rattle.disk_simulation.specs.Aside.{IsAside}
-use Rattle.disk_simulation.specs.Calm.{IsCalm}
-use Rattle.disk_simulation.specs.Followed.{IsFollowed}
-use Rattle.disk_simulation.specs.Honest.{IsDoneHonestly}
-use Rattle.disk_simulation.specs.Watched.{IsWatched}
+use Rattle.slots.specs.{Slots.has_bit, Work.is_queued}
+use Rattle.hba_fbs.specs.{declared.report.TakeReport.TakeReport, Taking.port_of}
+use Rattle.disk_model.specs.{declared.plan.DiskPlan.DiskPlan, Histories.{Happening, Sent}, Ledger.{IsSize, ledger}, Runs.IsDiskRun}
+use Rattle.hba_laws.specs.{History.{History, Transfer, filled, issued}, Client.own, Delivering.touched}
+use Rattle.hba_laws.specs.{Hosts.{Does, Host, HostEvent, TakesFrame, Took}, Sound.IsHost}
+use Rattle.disk_simulation.specs.{Anew.IsHostedOn, Aside.IsAside, Calm.IsCalm, Followed.IsFollowed, Honest.IsDoneHonestly, Watched.IsWatched}
 use Rattle.disk_simulation.specs.Same.{SlotCommand}
 
 -- The disk did all this, and these bytes come next from it. The host heard and gave that, its slots have

@@ -2,17 +2,12 @@
 -- it, and the history of the device's events at the host port. They say where the command stands, and that
 -- each filled byte is the byte that the ledger has there (Serial ATA 3.x, 13.6, native command queuing; AHCI
 -- 1.3.1, 5.3 and 9.3). No FIS is in transit between the two.
-use Rattle.std.specs.Prelude.{ℕ, ◌≡◌, ◌+◌, ◌*◌, ◌==◌, ◌≤◌, ◌⊎◌, Bool, true, false, List, ◌∷◌, ◌++◌}
-use Rattle.std.specs.Prelude.{length, slice_get, find, Option, Some, None}
+use Rattle.std.specs.Prelude.{ℕ, ◌≡◌, ◌+◌, ◌*◌, ◌==◌, ◌≤◌, ◌⊎◌, Bool, true, false, List, ◌∷◌, ◌++◌, length, slice_get, find, Option, Some, None}
 use Rattle.std.specs.List.{list_any}
-use Rattle.disk_model.specs.declared.request.Command.{Command}
-use Rattle.disk_model.specs.Chunks.{put}
-use Rattle.disk_model.specs.Ends.{IsFree, MovesOther, has}
-use Rattle.disk_model.specs.Laws.{bytes_named}
-use Rattle.disk_model.specs.declared.request.Request.TheVariants.{Queue}
-use Rattle.disk_model.specs.Ledger.{Ledger, Moving, ReadOut, Written, asks, starts_moving}
-use Rattle.hba_laws.specs.History.{Carried, History, Issued, Sent, SetUp, Setup, Transfer, carried}
-use Rattle.hba_laws.specs.History.{filled, is_at, is_set_up, last_setup, none_filled, waiting_in}
+use Rattle.disk_model.specs.{declared.request.Command.Command, Chunks.put, Ends.{IsFree, MovesOther, has}, Laws.bytes_named}
+use Rattle.disk_model.specs.{declared.request.Request.TheVariants.Queue, Ledger.{Ledger, Moving, ReadOut, Written, asks, starts_moving}}
+use Rattle.hba_laws.specs.History.{Carried, History, Issued, Sent, SetUp, Setup, Transfer, carried, filled, is_at, is_set_up, last_setup, none_filled}
+use Rattle.hba_laws.specs.History.{waiting_in}
 
 -- each filled byte is the one at its place in these bytes
 abbrev pub Stand : (ℕ → Option ℕ) → List ℕ → Type 0

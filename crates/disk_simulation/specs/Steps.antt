@@ -1,9 +1,7 @@
 -- What three further FISes of the command whose data moves leave of each queued command: a DMA Setup, a DMA
 -- Activate and Data (Serial ATA 3.x, 10.5, FIS types, and 13.6, native command queuing).
 use Rattle.std.specs.Prelude.{ℕ, ◌≡◌, ◌+◌, ◌*◌, ◌≤◌, Bool, List, ◌∷◌, Some}
-use Rattle.disk_model.specs.Ends.{IsAskedFor}
-use Rattle.disk_model.specs.Laws.{CarriesNext, bytes_named}
-use Rattle.disk_model.specs.Ledger.{Ledger, Moving, activates, sends_data, sets_up, takes_data}
+use Rattle.disk_model.specs.{Ends.IsAskedFor, Laws.{CarriesNext, bytes_named}, Ledger.{Ledger, Moving, activates, sends_data, sets_up, takes_data}}
 use Rattle.hba_laws.specs.History.{Carried, History, SetUp}
 use Rattle.disk_simulation.specs.Same.{InLife, SlotCommand}
 

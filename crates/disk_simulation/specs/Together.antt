@@ -2,26 +2,17 @@
 -- and the history of the device's events at its port still say the same of each slot (Serial ATA 3.x, 13.6,
 -- native command queuing; AHCI 1.3.1, 5.3 and 9.3). This holds from the moment that the disk is plugged in,
 -- as long as the port refuses no FIS, empties no slot and resets no device.
-use Rattle.std.specs.Prelude.{ℕ, ◌≡◌, ◌≢◌, ◌≤◌, ◌==◌, length, if◌then◌else◌, Bool, true, false, List, [], ◌∷◌}
-use Rattle.std.specs.Prelude.{◌++◌, drop}
-use Rattle.std.specs.Prelude.{Option, Some, None, Result, Ok}
-use Rattle.fis_view.specs.Table.{Bits, BufferId, EStatus, Offset, Pio, SActive, Setup, field}
+use Rattle.std.specs.Prelude.{ℕ, ◌≡◌, ◌≢◌, ◌≤◌, ◌==◌, length, if◌then◌else◌, Bool, true, false, List, [], ◌∷◌, ◌++◌, drop, Option, Some, None, Result}
+use Rattle.std.specs.Prelude.{Ok}
+use Rattle.fis_view.specs.{Table.{Bits, BufferId, EStatus, Offset, Pio, SActive, Setup, field}, declared.{view.Fis.Fis, view.FisFault.FisFault}}
 use Rattle.fis_view.specs.Table as table
-use Rattle.fis_view.specs.declared.view.Fis.{Fis}
 use Rattle.fis_view.specs.declared.view.Fis.TheVariants as view
-use Rattle.fis_view.specs.declared.view.FisFault.{FisFault}
-use Rattle.slots.specs.Slots.{has_bit}
-use Rattle.slots.specs.Work.{is_queued}
-use Rattle.disk_model.specs.declared.request.Request.{Request}
-use Rattle.disk_model.specs.declared.request.Request.TheVariants.{Queue}
-use Rattle.disk_model.specs.Ends.{FitsData, FitsRequest, IsFree, IsRight}
-use Rattle.disk_model.specs.Ledger.{Accepts, Finishes, Ledger, Refuses, Reply, ShowsPage, Signs}
-use Rattle.disk_model.specs.Ledger.{Wanted}
-use Rattle.disk_model.specs.Ledger.{asks, listens_up, takes_data}
-use Rattle.hba_laws.specs.History.{Answered, Carried, History, Issued, Named, PioSetUp, Sent, SetUp}
-use Rattle.hba_laws.specs.History.{Transfer, completes, is_at, is_set_up, issued, waiting_in}
-use Rattle.disk_simulation.specs.Answers.{IsAlone, IsIdle}
-use Rattle.disk_simulation.specs.Same.{InLife, SlotCommand}
+use Rattle.slots.specs.{Slots.has_bit, Work.is_queued}
+use Rattle.disk_model.specs.{declared.request.Request.{Request, TheVariants.Queue}, Ends.{FitsData, FitsRequest, IsFree, IsRight}}
+use Rattle.disk_model.specs.Ledger.{Accepts, Finishes, Ledger, Refuses, Reply, ShowsPage, Signs, Wanted, asks, listens_up, takes_data}
+use Rattle.hba_laws.specs.History.{Answered, Carried, History, Issued, Named, PioSetUp, Sent, SetUp, Transfer, completes, is_at, is_set_up, issued}
+use Rattle.hba_laws.specs.History.{waiting_in}
+use Rattle.disk_simulation.specs.{Answers.{IsAlone, IsIdle}, Same.{InLife, SlotCommand}}
 
 -- ---- what is still to be answered
 

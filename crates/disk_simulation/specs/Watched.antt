@@ -3,19 +3,12 @@
 -- until its log is read or it is reset (Serial ATA 3.x, 13.6, native command queuing, on errors; ACS-3, READ
 -- LOG EXT and the NCQ Command Error log).
 use Rattle.std.specs.Prelude.{ℕ, ◌≡◌, ◌≤◌, ◌⊎◌, ◌++◌, true, false, List, [], ◌∷◌, length, Result, Ok}
-use Rattle.fis_view.specs.Seen.{seen}
-use Rattle.fis_view.specs.declared.view.Fis.{Fis}
+use Rattle.fis_view.specs.{Seen.seen, declared.{view.Fis.Fis, view.FisFault.FisFault}}
 use Rattle.fis_view.specs.declared.view.Fis.TheVariants as view
-use Rattle.fis_view.specs.declared.view.FisFault.{FisFault}
-use Rattle.disk_model.specs.declared.plan.DiskPlan.{DiskPlan}
-use Rattle.disk_model.specs.declared.request.Request.{Request}
+use Rattle.disk_model.specs.{declared.{plan.DiskPlan.DiskPlan, request.Request.Request}, Anew.{IsCarefulSince, IsClear, IsLinkedOn}}
+use Rattle.disk_model.specs.{Ends.{Rests, reports}, Histories.{Happening, Plugged, Loaded, Received, Sent}, Ledger.{IsSize, Ledger, ledger}}
+use Rattle.disk_model.specs.{Requests.request_of, Runs.IsDiskRun}
 use Rattle.disk_model.specs.declared.request.Request.TheVariants as asked
-use Rattle.disk_model.specs.Anew.{IsCarefulSince, IsClear, IsLinkedOn}
-use Rattle.disk_model.specs.Ends.{Rests, reports}
-use Rattle.disk_model.specs.Histories.{Happening, Plugged, Loaded, Received, Sent}
-use Rattle.disk_model.specs.Ledger.{IsSize, Ledger, ledger}
-use Rattle.disk_model.specs.Requests.{request_of}
-use Rattle.disk_model.specs.Runs.{IsDiskRun}
 use Rattle.disk_simulation.specs.Followed.{IsFollowed}
 
 -- ---- what a host gives a disk while it watches it

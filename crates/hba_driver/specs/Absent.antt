@@ -1,9 +1,7 @@
 -- A device that the driver takes to be absent, over turns that do not flush it (Serial ATA 3.x, port
 -- multipliers: SStatus, PSCR[0] of a fan-out port, says whether a device is there).
 use Rattle.std.specs.Prelude.{ℕ, ◌≡◌, true}
-use Rattle.hba_driver.specs.declared.plan.Device.TheVariants.{Absent}
-use Rattle.hba_driver.specs.Drivers.{device_at}
-use Rattle.hba_driver.specs.HostTurns.{Does, Host, HostTurn}
+use Rattle.hba_driver.specs.{declared.plan.Device.TheVariants.Absent, Drivers.device_at, HostTurns.{Does, Host, HostTurn}}
 use Rattle.hba_driver.specs.Steady.{IsSteadyTurn, detects}
 
 -- If a device is looked for only while it is taken to be absent, and is taken to be absent after a calm turn,

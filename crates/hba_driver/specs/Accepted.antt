@@ -3,15 +3,10 @@
 -- section 3.3, port registers, 5.5, how commands are issued, and chapter 9).
 use Rattle.std.specs.Prelude.{ℕ, ◌≡◌, true, List, [], ◌∷◌, None}
 use Rattle.host_memory.specs.Memory.{IsHostMemory, Memory}
-use Rattle.hba_fbs.specs.Views.{Port}
-use Rattle.hba_fbs.specs.Writing.{write_refusal}
-use Rattle.hba_driver.specs.declared.effect.Effect.{Effect}
+use Rattle.hba_fbs.specs.{Views.Port, Writing.write_refusal}
+use Rattle.hba_driver.specs.{declared.{effect.Effect.Effect, mode.Mode.Mode}, Effects.ActsAll, Events.opening_host_in}
+use Rattle.hba_driver.specs.{HostTurns.{Does, DoesAll, Host, HostTurn, Ticked, sight_in}, Ticks.effects}
 use Rattle.hba_driver.specs.declared.effect.Effect.TheVariants as effect
-use Rattle.hba_driver.specs.declared.mode.Mode.{Mode}
-use Rattle.hba_driver.specs.Effects.{ActsAll}
-use Rattle.hba_driver.specs.Events.{opening_host_in}
-use Rattle.hba_driver.specs.HostTurns.{Does, DoesAll, Host, HostTurn, Ticked, sight_in}
-use Rattle.hba_driver.specs.Ticks.{effects}
 
 -- a write is to a register that exists, and is not refused
 abbrev pub IsAccepted : Effect → Port → Memory → Type 0

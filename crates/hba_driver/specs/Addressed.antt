@@ -2,9 +2,7 @@
 -- 16.3, port multiplier: PM Port; AHCI 1.3.1, 9.3, FIS-based Switching).
 use Rattle.std.specs.Prelude.{ℕ, ◌≡◌, ◌%◌, true, List, [], ◌∷◌, Some, slice_index}
 use Rattle.host_memory.specs.Memory.{IsHostMemory, Memory}
-use Rattle.hba_driver.specs.declared.mode.Mode.{Mode}
-use Rattle.hba_driver.specs.Events.{opening_host_in}
-use Rattle.hba_driver.specs.HostTurns.{DoesAll, Host, HostTurn, Pushed}
+use Rattle.hba_driver.specs.{declared.mode.Mode.Mode, Events.opening_host_in, HostTurns.{DoesAll, Host, HostTurn, Pushed}}
 
 -- a frame that goes out has the port of its stamp
 abbrev pub IsAddressed : HostTurn → Type 0

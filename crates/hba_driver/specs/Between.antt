@@ -1,68 +1,32 @@
 -- The words in which lemmas are stated that proofs of other crates use (`proofs/Door.antt`), and the words that these need.
 -- No clause says them.
-use Rattle.std.specs.Prelude.{Bool, List, None, Option, Some, false, is_some, length, nat_lt, not, slice_index, true, ℕ}
-use Rattle.std.specs.Prelude.{◌%◌, ◌&&◌, ◌+◌, ◌<◌, ◌==◌, ◌∷◌, ◌≡◌, ◌≢◌, ◌≤◌, ◌⊎◌, []}
-use Rattle.std.specs.List.{list_all, list_any}
-use Rattle.std.specs.Int.{bit_at}
+use Rattle.std.specs.Prelude.{Bool, List, None, Option, Some, false, is_some, length, nat_lt, not, slice_index, true, ℕ, ◌%◌, ◌&&◌, ◌+◌, ◌<◌, ◌==◌}
+use Rattle.std.specs.{Prelude.{◌∷◌, ◌≡◌, ◌≢◌, ◌≤◌, ◌⊎◌, []}, List.{list_all, list_any}, Int.bit_at}
 use Rattle.fis_view.specs.declared.build.H2dFields.{H2dFields}
-use Rattle.host_memory.specs.Memory.{Memory}
-use Rattle.host_memory.specs.Place.{total_of}
-use Rattle.host_memory.specs.Reading.{read_fault}
+use Rattle.host_memory.specs.{Memory.Memory, Place.total_of, Reading.read_fault}
 use Rattle.slots.specs.Slots.{DeviceSlots, Issue, has_bit, is_control, is_pio, is_whole_issue, own_issue, slots_of}
 use Rattle.port_errors.specs.Errors.{cleared_device}
-use Rattle.hba_commands.specs.declared.command.Command.{Command}
-use Rattle.hba_commands.specs.Commands.{command_at, is_proper, total_at}
-use Rattle.hba_commands.specs.Requests.{request_of}
-use Rattle.hba_commands.specs.Writing.{header_for}
-use Rattle.hba_fbs.specs.declared.register.Register.{Register}
-use Rattle.hba_fbs.specs.declared.register.Register.TheVariants.{Ci, Cmd, Fbs, Is, Sact, Sntf}
-use Rattle.hba_fbs.specs.declared.registers.Registers.{Registers}
-use Rattle.hba_fbs.specs.Bits.{en, fre}
-use Rattle.hba_fbs.specs.Offsets.{register_at}
-use Rattle.hba_fbs.specs.Views.{Port, last_command, view_of}
-use Rattle.hba_laws.specs.Between.{transfer_of}
-use Rattle.hba_laws.specs.Client.{Touches}
-use Rattle.hba_laws.specs.Delivering.{HaveTables}
-use Rattle.hba_laws.specs.History.{Transfer}
+use Rattle.hba_commands.specs.{declared.command.Command.Command, Commands.{command_at, is_proper, total_at}, Requests.request_of, Writing.header_for}
+use Rattle.hba_fbs.specs.declared.{register.Register.{Register, TheVariants.{Ci, Cmd, Fbs, Is, Sact, Sntf}}, registers.Registers.Registers}
+use Rattle.hba_fbs.specs.{Bits.{en, fre}, Offsets.register_at, Views.{Port, last_command, view_of}}
+use Rattle.hba_laws.specs.{Between.transfer_of, Client.Touches, Delivering.HaveTables, History.Transfer}
 use Rattle.hba_laws.specs.Hosts as event
-use Rattle.hba_driver.specs.declared.effect.Effect.{Effect}
-use Rattle.hba_driver.specs.declared.effect.Effect.TheVariants as effect
-use Rattle.hba_driver.specs.declared.mode.Mode.{Mode}
-use Rattle.hba_driver.specs.declared.mode.Mode.TheVariants.{CommandBased, Switching}
-use Rattle.hba_driver.specs.declared.path.Path.{Path}
-use Rattle.hba_driver.specs.declared.path.Recovery.TheVariants.{Log}
-use Rattle.hba_driver.specs.declared.path.Stage.{Stage}
-use Rattle.hba_driver.specs.declared.path.Stage.TheVariants.{Identify, ReadLog}
-use Rattle.hba_driver.specs.declared.path.TaskFile.{TaskFile}
-use Rattle.hba_driver.specs.declared.plan.Device.{Device}
-use Rattle.hba_driver.specs.declared.plan.Device.TheVariants.{Absent, Ready, Recovering}
-use Rattle.hba_driver.specs.declared.plan.Plan.{Plan}
-use Rattle.hba_driver.specs.declared.request.Completion.{Completion}
-use Rattle.hba_driver.specs.declared.request.Outcome.TheVariants.{Done}
-use Rattle.hba_driver.specs.declared.request.Request.{Request}
-use Rattle.hba_driver.specs.declared.slot.Phase.{Phase}
-use Rattle.hba_driver.specs.declared.slot.Phase.TheVariants.{Aside, Ended, Issued, Waits}
-use Rattle.hba_driver.specs.declared.turn.Act.{Act}
-use Rattle.hba_driver.specs.declared.turn.Act.TheVariants as act
-use Rattle.hba_driver.specs.Done.{completes}
+use Rattle.hba_driver.specs.declared.{effect.Effect.Effect, mode.Mode.{Mode, TheVariants.{CommandBased, Switching}}, path.Path.Path}
+use Rattle.hba_driver.specs.declared.{path.Recovery.TheVariants.Log, path.Stage.{Stage, TheVariants.{Identify, ReadLog}}, path.TaskFile.TaskFile}
+use Rattle.hba_driver.specs.declared.{plan.Device.{Device, TheVariants.{Absent, Ready, Recovering}}, plan.Plan.Plan, request.Completion.Completion}
+use Rattle.hba_driver.specs.declared.{request.Outcome.TheVariants.Done, request.Request.Request}
+use Rattle.hba_driver.specs.{declared.{slot.Phase.{Phase, TheVariants.{Aside, Ended, Issued, Waits}}, turn.Act.Act}, Done.completes}
 use Rattle.hba_driver.specs.Drivers.{Driver, Entry, device_at, entry_at, is_issued, rephased, waits}
-use Rattle.hba_driver.specs.Effects.{opening_write, restart_write, table_of}
-use Rattle.hba_driver.specs.Events.{IsSoundHostIn, shared_by}
-use Rattle.hba_driver.specs.Going.{IsOfControl}
-use Rattle.hba_driver.specs.HostTurns.{Host, HostTurn, Submitted, Ticked, Took}
-use Rattle.hba_driver.specs.Known.{is_identify, is_request}
-use Rattle.hba_driver.specs.Laws.{GoesOn, Kept, gives}
-use Rattle.hba_driver.specs.Modes.{is_switching}
-use Rattle.hba_driver.specs.Orders.{is_queued, request_fields}
-use Rattle.hba_driver.specs.Paths.{reads_page}
-use Rattle.hba_driver.specs.Requests.{is_bad_count, is_bad_prd, is_full, is_mismatch, overlaps}
-use Rattle.hba_driver.specs.Seeing.{Sight}
-use Rattle.hba_driver.specs.Served.{IsOrdered, IsRequest, IsServed, IsStep}
-use Rattle.hba_driver.specs.Slot30.{IsUnsent30}
+use Rattle.hba_driver.specs.{Effects.{opening_write, restart_write, table_of}, Events.{IsSoundHostIn, shared_by}, Going.IsOfControl}
+use Rattle.hba_driver.specs.{HostTurns.{Host, HostTurn, Submitted, Ticked, Took}, Known.{is_identify, is_request}, Laws.{GoesOn, Kept, gives}}
+use Rattle.hba_driver.specs.{Modes.is_switching, Orders.{is_queued, request_fields}, Paths.reads_page}
+use Rattle.hba_driver.specs.{Requests.{is_bad_count, is_bad_prd, is_full, is_mismatch, overlaps}, Seeing.Sight}
+use Rattle.hba_driver.specs.{Served.{IsOrdered, IsRequest, IsServed, IsStep}, Slot30.IsUnsent30}
 use Rattle.hba_driver.specs.Steady.{HasSignature, IsAskedOf, IsSteady, IsSteadyPlan, IsSwitching, detects}
-use Rattle.hba_driver.specs.Submits.{end_of, lowest_ended, new_entry, next_slot}
-use Rattle.hba_driver.specs.Ticks.{after_tick, effects, effects_due, turn}
+use Rattle.hba_driver.specs.{Submits.{end_of, lowest_ended, new_entry, next_slot}, Ticks.{after_tick, effects, effects_due, turn}}
 use Rattle.hba_driver.specs.Turns.{may_issue, stage_for}
+use Rattle.hba_driver.specs.declared.effect.Effect.TheVariants as effect
+use Rattle.hba_driver.specs.declared.turn.Act.TheVariants as act
 
 -- ---- ticks
 

@@ -5,23 +5,15 @@
 -- Cited from `hba_laws`: what a device's history issues, fills and completes (specs/History.antt), the
 -- history of each device and the byte at an address of client memory (specs/Client.antt), and what a report
 -- tells (specs/Delivering.antt).
-use Rattle.std.specs.Prelude.{ℕ, ◌≡◌, ◌≢◌, ◌+◌, ◌-◌, ◌<◌, ◌≤◌, ◌||◌, true, false, List, [], ◌++◌, length}
-use Rattle.std.specs.Prelude.{slice_index, Some}
-use Rattle.host_memory.specs.Memory.{IsHostMemory, Memory, client_start}
-use Rattle.host_memory.specs.Place.{AreInside, LiesInClient, place}
-use Rattle.host_memory.specs.Reading.{share_with}
+use Rattle.std.specs.Prelude.{ℕ, ◌≡◌, ◌≢◌, ◌+◌, ◌-◌, ◌<◌, ◌≤◌, ◌||◌, true, false, List, [], ◌++◌, length, slice_index, Some}
+use Rattle.host_memory.specs.{Memory.{IsHostMemory, Memory, client_start}, Place.{AreInside, LiesInClient, place}, Reading.share_with}
 use Rattle.slots.specs.Slots.{has_bit, match_some}
-use Rattle.hba_fbs.specs.declared.report.TakeReport.{TakeReport}
-use Rattle.hba_fbs.specs.Taking.{port_of}
-use Rattle.hba_laws.specs.Client.{AreApart, IsKept, IsReading, Touches, own}
-use Rattle.hba_laws.specs.Delivering.{IsClient, ReportsDone, touched, touches_after}
+use Rattle.hba_fbs.specs.{declared.report.TakeReport.TakeReport, Taking.port_of}
+use Rattle.hba_laws.specs.{Client.{AreApart, IsKept, IsReading, Touches, own}, Delivering.{IsClient, ReportsDone, touched, touches_after}}
 use Rattle.hba_laws.specs.History.{History, Transfer, completions, filled, issued}
 use Rattle.hba_laws.specs.Hosts as event
-use Rattle.hba_driver.specs.declared.mode.Mode.{Mode}
-use Rattle.hba_driver.specs.Drivers.{Entry, entry_at, is_read}
-use Rattle.hba_driver.specs.Events.{TurnsTell, events_over, opening_host_in, shared_by}
-use Rattle.hba_driver.specs.HostTurns.{Does, DoesAll, Host, HostTurn, Took}
-use Rattle.hba_driver.specs.Served.{IssuesAreRequests, RunServes}
+use Rattle.hba_driver.specs.{declared.mode.Mode.Mode, Drivers.{Entry, entry_at, is_read}, Events.{TurnsTell, events_over, opening_host_in, shared_by}}
+use Rattle.hba_driver.specs.{HostTurns.{Does, DoesAll, Host, HostTurn, Took}, Served.{IssuesAreRequests, RunServes}}
 
 -- the host came here from its opening in this mode by these turns
 pub record HasCome (mode : Mode) (given : ℕ) (start : Memory) (turns : List HostTurn) (h : Host) : Type 0 where

@@ -4,19 +4,13 @@
 --
 -- Cited: the turns of the host and their tickets (specs/HostTurns.antt). DoneIsCompleted of `hba_laws`
 -- (specs/Delivering.antt) says that the device named exactly the slots that a report names as done.
-use Rattle.std.specs.Prelude.{ℕ, ◌≡◌, ◌==◌, ◌&&◌, ◌||◌, Bool, true, false, List, [], ◌∷◌, Some}
-use Rattle.std.specs.List.{list_any}
+use Rattle.std.specs.{Prelude.{ℕ, ◌≡◌, ◌==◌, ◌&&◌, ◌||◌, Bool, true, false, List, [], ◌∷◌, Some}, List.list_any}
 use Rattle.host_memory.specs.Memory.{IsHostMemory, Memory}
 use Rattle.slots.specs.Slots.{has_bit}
 use Rattle.hba_fbs.specs.Taking.{port_of}
-use Rattle.hba_driver.specs.declared.mode.Mode.{Mode}
-use Rattle.hba_driver.specs.declared.request.Completion.{Completion}
-use Rattle.hba_driver.specs.declared.request.Outcome.TheVariants.{Done}
-use Rattle.hba_driver.specs.declared.slot.Phase.TheVariants.{Ended}
-use Rattle.hba_driver.specs.Drivers.{Entry, entry_at}
-use Rattle.hba_driver.specs.Events.{opening_host_in}
-use Rattle.hba_driver.specs.HostTurns.{Does, DoesAll, Host, HostTurn, Took, Ticked, Submitted, Polled}
-use Rattle.hba_driver.specs.HostTurns.{issued_by}
+use Rattle.hba_driver.specs.declared.{mode.Mode.Mode, request.Completion.Completion, request.Outcome.TheVariants.Done, slot.Phase.TheVariants.Ended}
+use Rattle.hba_driver.specs.{Drivers.{Entry, entry_at}, Events.opening_host_in}
+use Rattle.hba_driver.specs.HostTurns.{Does, DoesAll, Host, HostTurn, Took, Ticked, Submitted, Polled, issued_by}
 
 -- a request for this device is taken under this ticket
 abbrev pub takes : (ticket dev : ℕ) → HostTurn → Bool

@@ -1,25 +1,13 @@
 -- The driver as its callers see it. It drives one AHCI host port (AHCI 1.3.1) with a port multiplier behind
 -- it (Serial ATA 3.x, port multipliers). Requests use the slots 0 to 29. The driver's own commands go to a
 -- device through slot 30, and to the control port of the multiplier, port Fh, through slot 31.
-use Rattle.std.specs.Prelude.{ℕ, ◌≡◌, ◌≢◌, ◌<◌, ◌≤◌, ◌||◌, Bool, true, false, if◌then◌else◌, List, map}
-use Rattle.std.specs.Prelude.{replicate, length, slice_index_or, slice_set, Option, Some, None}
-use Rattle.std.specs.Option.{option_map}
-use Rattle.std.specs.List.{range_with_len}
-use Rattle.host_memory.specs.Reading.{share_with}
-use Rattle.host_memory.specs.declared.table.Prd.{Prd}
-use Rattle.hba_driver.specs.declared.mode.Mode.{Mode}
-use Rattle.hba_driver.specs.declared.mode.Mode.TheVariants.{Switching}
-use Rattle.hba_driver.specs.declared.order.Order.{Order}
-use Rattle.hba_driver.specs.declared.order.Order.TheVariants.{ResetOn, Open, Clear, Detect}
-use Rattle.hba_driver.specs.declared.path.Path.{Path}
-use Rattle.hba_driver.specs.declared.plan.Device.{Device}
-use Rattle.hba_driver.specs.declared.plan.Device.TheVariants.{Absent}
-use Rattle.hba_driver.specs.declared.plan.Plan.{Plan}
-use Rattle.hba_driver.specs.declared.request.Work.{Work}
+use Rattle.std.specs.Prelude.{ℕ, ◌≡◌, ◌≢◌, ◌<◌, ◌≤◌, ◌||◌, Bool, true, false, if◌then◌else◌, List, map, replicate, length, slice_index_or, slice_set}
+use Rattle.std.specs.{Prelude.{Option, Some, None}, Option.option_map, List.range_with_len}
+use Rattle.host_memory.specs.{Reading.share_with, declared.table.Prd.Prd}
+use Rattle.hba_driver.specs.declared.{mode.Mode.{Mode, TheVariants.Switching}, order.Order.{Order, TheVariants.{ResetOn, Open, Clear, Detect}}}
+use Rattle.hba_driver.specs.declared.{path.Path.Path, plan.Device.{Device, TheVariants.Absent}, plan.Plan.Plan, request.Work.Work, slot.Head.Head}
+use Rattle.hba_driver.specs.declared.slot.Phase.{Phase, TheVariants.{Waits, Issued, Aside, Ended}}
 use Rattle.hba_driver.specs.declared.request.Work.TheVariants as work
-use Rattle.hba_driver.specs.declared.slot.Head.{Head}
-use Rattle.hba_driver.specs.declared.slot.Phase.{Phase}
-use Rattle.hba_driver.specs.declared.slot.Phase.TheVariants.{Waits, Issued, Aside, Ended}
 
 -- a request that was taken and is not polled yet: its head, and where its bytes are
 pub record Entry : Type 0 where

@@ -1,31 +1,18 @@
 -- What an act does to port and memory: writes of registers (AHCI 1.3.1, section 3.3), commands (4.2.2,
 -- 4.2.3), the flush of a device and its row of the received area (4.2.1).
-use Rattle.std.specs.Prelude.{ℕ, ◌≡◌, ◌+◌, ◌*◌, ◌^◌, Bool, true, false, nat_lt, List, [], ◌∷◌, replicate, ◌++◌}
-use Rattle.std.specs.Prelude.{slice_index_or, Some, None}
+use Rattle.std.specs.Prelude.{ℕ, ◌≡◌, ◌+◌, ◌*◌, ◌^◌, Bool, true, false, nat_lt, List, [], ◌∷◌, replicate, ◌++◌, slice_index_or, Some, None}
 use Rattle.fis_view.specs.declared.build.H2dFields.{H2dFields}
-use Rattle.host_memory.specs.Memory.{Memory, overwritten}
-use Rattle.host_memory.specs.declared.table.Prd.{Prd}
+use Rattle.host_memory.specs.{Memory.{Memory, overwritten}, declared.table.Prd.Prd}
 use Rattle.port_errors.specs.Errors.{AreErrors}
-use Rattle.slots.specs.Slots.{match_some}
-use Rattle.slots.specs.Table.{IsTable}
+use Rattle.slots.specs.{Slots.match_some, Table.IsTable}
 use Rattle.hba_commands.specs.Writing.{IsWritten}
-use Rattle.hba_fbs.specs.declared.error.WriteError.{WriteError}
-use Rattle.hba_fbs.specs.Views.{Flushes, IsPort, Port}
-use Rattle.hba_fbs.specs.Writing.{Writes, write_refusal}
-use Rattle.hba_driver.specs.declared.effect.Effect.{Effect}
+use Rattle.hba_fbs.specs.{declared.error.WriteError.WriteError, Views.{Flushes, IsPort, Port}, Writing.{Writes, write_refusal}}
+use Rattle.hba_driver.specs.declared.{effect.Effect.Effect, mode.Mode.{Mode, TheVariants.{Switching, CommandBased}}}
+use Rattle.hba_driver.specs.{declared.{order.Order.{Order, TheVariants.{Scan, Clear}}, path.Stage.Stage, turn.Act.Act}, Modes.{clears_with, enabled}}
+use Rattle.hba_driver.specs.{Orders.{control_port, order_fields}, Paths.{reads_page, stage_fields}}
+use Rattle.hba_driver.specs.Sights.{px_ci, px_clb, px_clbu, px_cmd, px_fb, px_fbs, px_fbu, px_is, px_sact, px_sntf}
 use Rattle.hba_driver.specs.declared.effect.Effect.TheVariants as effect
-use Rattle.hba_driver.specs.declared.mode.Mode.{Mode}
-use Rattle.hba_driver.specs.declared.mode.Mode.TheVariants.{Switching, CommandBased}
-use Rattle.hba_driver.specs.declared.order.Order.{Order}
-use Rattle.hba_driver.specs.declared.order.Order.TheVariants.{Scan, Clear}
-use Rattle.hba_driver.specs.declared.path.Stage.{Stage}
-use Rattle.hba_driver.specs.declared.turn.Act.{Act}
 use Rattle.hba_driver.specs.declared.turn.Act.TheVariants as act
-use Rattle.hba_driver.specs.Modes.{clears_with, enabled}
-use Rattle.hba_driver.specs.Orders.{control_port, order_fields}
-use Rattle.hba_driver.specs.Paths.{reads_page, stage_fields}
-use Rattle.hba_driver.specs.Sights.{px_ci, px_clb, px_clbu, px_cmd, px_fb, px_fbs, px_fbu, px_is, px_sact}
-use Rattle.hba_driver.specs.Sights.{px_sntf}
 
 -- ---- the effects of an act
 

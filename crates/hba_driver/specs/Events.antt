@@ -1,33 +1,19 @@
 -- The turns of a host as events of its port and memory. Each turn is a list of events, and a list of turns is
 -- the lists of its turns, one after another (AHCI 1.3.1, 3.3, registers, 4.2, memory structures, and chapters
 -- 5 and 9).
-use Rattle.std.specs.Prelude.{ℕ, ◌≡◌, ◌<◌, ◌≤◌, true, false, List, [], ◌∷◌, ◌++◌, replicate}
-use Rattle.std.specs.Prelude.{Option, Some, None}
-use Rattle.std.specs.List.{flat_map}
+use Rattle.std.specs.{Prelude.{ℕ, ◌≡◌, ◌<◌, ◌≤◌, true, false, List, [], ◌∷◌, ◌++◌, replicate, Option, Some, None}, List.flat_map}
 use Rattle.fis_view.specs.Frames.{Stamped}
 use Rattle.host_memory.specs.Memory.{IsHostMemory, Memory}
 use Rattle.slots.specs.Slots.{match_some}
-use Rattle.hba_fbs.specs.declared.register.Register.{Register}
-use Rattle.hba_fbs.specs.declared.registers.Registers.{Registers}
-use Rattle.hba_fbs.specs.declared.report.TakeReport.{TakeReport}
-use Rattle.hba_fbs.specs.Offsets.{register_at}
-use Rattle.hba_fbs.specs.Views.{Port, opening_port}
-use Rattle.hba_fbs.specs.Writing.{write_refusal}
-use Rattle.hba_laws.specs.Delivering.{IsSound}
+use Rattle.hba_fbs.specs.{declared.{register.Register.Register, registers.Registers.Registers, report.TakeReport.TakeReport}, Offsets.register_at}
+use Rattle.hba_fbs.specs.{Views.{Port, opening_port}, Writing.write_refusal}
+use Rattle.hba_laws.specs.{Delivering.IsSound, Hosts.{HostEvent, Runs}}
 use Rattle.hba_laws.specs.Hosts as event
-use Rattle.hba_laws.specs.Hosts.{HostEvent, Runs}
-use Rattle.hba_driver.specs.declared.effect.Effect.{Effect}
+use Rattle.hba_driver.specs.declared.{effect.Effect.Effect, mode.Mode.{Mode, TheVariants.Switching}, plan.Device.TheVariants.Absent, plan.Plan.Plan}
+use Rattle.hba_driver.specs.{Drivers.{AreRequests, device_at, new_driver_in}, Effects.{ActsAll, IsRuled}}
+use Rattle.hba_driver.specs.HostTurns.{AreHosts, Does, DoesAll, Host, HostTurn, sight_in, Took, Pushed, Ticked, Submitted, Polled, Put}
+use Rattle.hba_driver.specs.{Modes.is_switching, Ticks.effects}
 use Rattle.hba_driver.specs.declared.effect.Effect.TheVariants as effect
-use Rattle.hba_driver.specs.declared.mode.Mode.{Mode}
-use Rattle.hba_driver.specs.declared.mode.Mode.TheVariants.{Switching}
-use Rattle.hba_driver.specs.declared.plan.Device.TheVariants.{Absent}
-use Rattle.hba_driver.specs.declared.plan.Plan.{Plan}
-use Rattle.hba_driver.specs.Drivers.{AreRequests, device_at, new_driver_in}
-use Rattle.hba_driver.specs.Effects.{ActsAll, IsRuled}
-use Rattle.hba_driver.specs.HostTurns.{AreHosts, Does, DoesAll, Host, HostTurn, sight_in}
-use Rattle.hba_driver.specs.HostTurns.{Took, Pushed, Ticked, Submitted, Polled, Put}
-use Rattle.hba_driver.specs.Modes.{is_switching}
-use Rattle.hba_driver.specs.Ticks.{effects}
 
 -- ---- the events of a turn
 

@@ -1,15 +1,9 @@
 -- Which requests end as failed by their device: those that the device's error log names (ACS-3, NCQ Command
 -- Error log).
 use Rattle.std.specs.Prelude.{ℕ, ◌≡◌, true, false, Some}
-use Rattle.hba_driver.specs.declared.path.Path.{Path}
-use Rattle.hba_driver.specs.declared.path.Stage.TheVariants.{ReadLog}
-use Rattle.hba_driver.specs.declared.path.TaskFile.{TaskFile}
-use Rattle.hba_driver.specs.declared.request.Outcome.TheVariants.{DeviceError}
-use Rattle.hba_driver.specs.Seeing.{Sight}
-use Rattle.hba_driver.specs.declared.slot.Phase.TheVariants.{Ended}
-use Rattle.hba_driver.specs.Drivers.{Driver, Entry, entry_at, has_ended, is_aside}
-use Rattle.hba_driver.specs.Ticks.{after_tick, is_named, log_outcome}
-use Rattle.hba_driver.specs.Turns.{control_seen, is_back}
+use Rattle.hba_driver.specs.declared.{path.Path.Path, path.Stage.TheVariants.ReadLog, path.TaskFile.TaskFile, request.Outcome.TheVariants.DeviceError}
+use Rattle.hba_driver.specs.{Seeing.Sight, declared.slot.Phase.TheVariants.Ended, Drivers.{Driver, Entry, entry_at, has_ended, is_aside}}
+use Rattle.hba_driver.specs.{Ticks.{after_tick, is_named, log_outcome}, Turns.{control_seen, is_back}}
 
 -- The request was set aside. The read of its device's error log is over, and the log is whole and names the
 -- request. Status and Error are the log's or, if the log names no queued command, those of the device after

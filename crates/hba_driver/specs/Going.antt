@@ -7,18 +7,12 @@ use Rattle.fis_view.specs.Seen.{seen}
 use Rattle.fis_view.specs.declared.view.Fis.TheVariants as view
 use Rattle.host_memory.specs.Memory.{IsHostMemory, Memory}
 use Rattle.slots.specs.Slots.{own_issue, slots_of}
-use Rattle.hba_fbs.specs.Sending.{outgoing}
-use Rattle.hba_fbs.specs.Tables.{sound_command}
-use Rattle.hba_fbs.specs.Taking.{admitted, heard_now, port_cause, port_of}
+use Rattle.hba_fbs.specs.{Sending.outgoing, Tables.sound_command, Taking.{admitted, heard_now, port_cause, port_of}}
 use Rattle.hba_laws.specs.Hosts as event
-use Rattle.hba_laws.specs.Isolation.{fails_by_bus, stops_port}
-use Rattle.hba_laws.specs.Sound.{IsHost}
-use Rattle.hba_driver.specs.declared.turn.Act.{Act}
+use Rattle.hba_laws.specs.{Isolation.{fails_by_bus, stops_port}, Sound.IsHost}
+use Rattle.hba_driver.specs.{declared.turn.Act.Act, Events.{opening_host, shared_by}, HostTurns.{DoesAll, Host, HostTurn, Took, sight_in}}
+use Rattle.hba_driver.specs.{Orders.control_port, Ticks.due}
 use Rattle.hba_driver.specs.declared.turn.Act.TheVariants as act
-use Rattle.hba_driver.specs.Events.{opening_host, shared_by}
-use Rattle.hba_driver.specs.HostTurns.{DoesAll, Host, HostTurn, Took, sight_in}
-use Rattle.hba_driver.specs.Orders.{control_port}
-use Rattle.hba_driver.specs.Ticks.{due}
 
 -- a FIS that a control port may send: Register Device to Host, or Set Device Bits
 abbrev pub IsReport : List ℕ → Type 0

@@ -3,12 +3,8 @@
 --
 -- Cited from `hba_laws`: what holds for the bytes of issued writes (`HoldsWrites`, specs/Sent.antt).
 use Rattle.std.specs.Prelude.{[], ◌∷◌}
-use Rattle.hba_laws.specs.Client.{Touches}
-use Rattle.hba_laws.specs.Delivering.{touches_after}
-use Rattle.hba_laws.specs.Sent.{HoldsWrites}
-use Rattle.hba_driver.specs.declared.mode.Mode.{Mode}
-use Rattle.hba_driver.specs.Events.{IsSoundHostIn, events_over, shared_by}
-use Rattle.hba_driver.specs.HostTurns.{DoesAll, Host, HostTurn}
+use Rattle.hba_laws.specs.{Client.Touches, Delivering.touches_after, Sent.HoldsWrites}
+use Rattle.hba_driver.specs.{declared.mode.Mode.Mode, Events.{IsSoundHostIn, events_over, shared_by}, HostTurns.{DoesAll, Host, HostTurn}}
 use Rattle.hba_driver.specs.Served.{IsServed, RunServes}
 
 -- This holds over each turn whose events serve what is issued.

@@ -1,26 +1,14 @@
 -- What the host does, turn by turn: host port, driver and memory together. A frame that is taken or asked for
 -- leaves the driver as it is. What the driver does between two ticks leaves the port as it is. Whatever holds
 -- for every port by itself holds after a turn too.
-use Rattle.std.specs.Prelude.{ℕ, ◌≡◌, ◌-◌, Bool, true, false, List, [], ◌∷◌, ◌++◌, length, Option, Some, None}
-use Rattle.std.specs.List.{list_all}
+use Rattle.std.specs.{Prelude.{ℕ, ◌≡◌, ◌-◌, Bool, true, false, List, [], ◌∷◌, ◌++◌, length, Option, Some, None}, List.list_all}
 use Rattle.fis_view.specs.Frames.{IsFrame, Stamped}
-use Rattle.host_memory.specs.Memory.{IsHostMemory, Memory, client_start, overwritten}
-use Rattle.host_memory.specs.Place.{LiesInClient}
-use Rattle.hba_fbs.specs.declared.report.TakeReport.{TakeReport}
-use Rattle.hba_fbs.specs.Sending.{Gives, outgoing}
-use Rattle.hba_fbs.specs.Taking.{Hears, Ignores, ignores, port_of}
-use Rattle.hba_fbs.specs.Views.{Port}
-use Rattle.hba_driver.specs.declared.request.Completion.{Completion}
-use Rattle.hba_driver.specs.declared.request.Request.{Request}
-use Rattle.hba_driver.specs.Seeing.{Sight}
-use Rattle.hba_driver.specs.declared.turn.Act.{Act}
+use Rattle.host_memory.specs.{Memory.{IsHostMemory, Memory, client_start, overwritten}, Place.LiesInClient}
+use Rattle.hba_fbs.specs.{declared.report.TakeReport.TakeReport, Sending.{Gives, outgoing}, Taking.{Hears, Ignores, ignores, port_of}, Views.Port}
+use Rattle.hba_driver.specs.{declared.{request.Completion.Completion, request.Request.Request}, Seeing.Sight, declared.turn.Act.Act}
+use Rattle.hba_driver.specs.{Drivers.{Driver, Entry, entry_at}, Effects.{ActsAll, IsRuled, is_effect}, Requests.in_use, Sights.{file_shown, sight_of}}
+use Rattle.hba_driver.specs.{Submits.{Takes, after_poll, completion_of, submit_refusal}, Ticks.{acts, after_tick, due, effects, seen}}
 use Rattle.hba_driver.specs.declared.turn.Act.TheVariants as act
-use Rattle.hba_driver.specs.Drivers.{Driver, Entry, entry_at}
-use Rattle.hba_driver.specs.Effects.{ActsAll, IsRuled, is_effect}
-use Rattle.hba_driver.specs.Requests.{in_use}
-use Rattle.hba_driver.specs.Sights.{file_shown, sight_of}
-use Rattle.hba_driver.specs.Submits.{Takes, after_poll, completion_of, submit_refusal}
-use Rattle.hba_driver.specs.Ticks.{acts, after_tick, due, effects, seen}
 
 pub record Host : Type 0 where
   pub port : Port

@@ -1,28 +1,15 @@
 -- Which devices the driver knows: those whose IDENTIFY data it accepted since it last flushed the device
 -- (ACS-3, IDENTIFY DEVICE; Serial ATA 3.x, 16.3, port multiplier: presence of a device on a port). Requests
 -- are issued only to such a device.
-use Rattle.std.specs.Prelude.{ℕ, ◌≡◌, ◌<◌, ◌==◌, ◌&&◌, ◌||◌, Bool, true, false, if◌then◌else◌}
-use Rattle.std.specs.Prelude.{List, [], ◌∷◌, Option, Some, None}
-use Rattle.std.specs.List.{list_any}
+use Rattle.std.specs.{Prelude.{ℕ, ◌≡◌, ◌<◌, ◌==◌, ◌&&◌, ◌||◌, Bool, true, false, if◌then◌else◌, List, [], ◌∷◌, Option, Some, None}, List.list_any}
 use Rattle.fis_view.specs.Frames.{Stamped}
 use Rattle.host_memory.specs.Memory.{IsHostMemory, Memory}
 use Rattle.slots.specs.Slots.{match_some}
-use Rattle.slots.specs.declared.work.Kind.{Kind}
-use Rattle.slots.specs.declared.work.Kind.TheVariants.{QueuedRead, QueuedWrite, DmaIn, DmaOut, PioIn, PioOut}
-use Rattle.slots.specs.declared.work.Kind.TheVariants.{NoData}
-use Rattle.slots.specs.declared.work.Kind.TheVariants.{Control}
-use Rattle.hba_commands.specs.Requests.{kind_of, request_at}
-use Rattle.hba_commands.specs.declared.command.Command.{Command}
-use Rattle.hba_fbs.specs.declared.report.Wrote.{Wrote}
-use Rattle.hba_fbs.specs.Taking.{port_of}
-use Rattle.hba_fbs.specs.Views.{Port, last_command}
-use Rattle.hba_driver.specs.declared.plan.Device.TheVariants.{Ready}
-use Rattle.hba_driver.specs.Drivers.{Entry, device_at, entry_at, is_issued}
-use Rattle.hba_driver.specs.Events.{opening_host}
-use Rattle.hba_driver.specs.HostTurns.{Does, DoesAll, Host, HostTurn, Took, Pushed, Ticked}
-use Rattle.hba_driver.specs.HostTurns.{sight_in}
-use Rattle.hba_driver.specs.Laws.{flushes}
-use Rattle.hba_driver.specs.Ticks.{effects}
+use Rattle.slots.specs.declared.work.Kind.{Kind, TheVariants.{QueuedRead, QueuedWrite, DmaIn, DmaOut, PioIn, PioOut, NoData, Control}}
+use Rattle.hba_commands.specs.{Requests.{kind_of, request_at}, declared.command.Command.Command}
+use Rattle.hba_fbs.specs.{declared.report.Wrote.Wrote, Taking.port_of, Views.{Port, last_command}}
+use Rattle.hba_driver.specs.{declared.plan.Device.TheVariants.Ready, Drivers.{Entry, device_at, entry_at, is_issued}, Events.opening_host}
+use Rattle.hba_driver.specs.{HostTurns.{Does, DoesAll, Host, HostTurn, Took, Pushed, Ticked, sight_in}, Laws.flushes, Ticks.effects}
 
 -- the command of a slot is IDENTIFY DEVICE, ECh
 abbrev pub is_identify : Option Command → Bool

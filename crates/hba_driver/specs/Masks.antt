@@ -1,9 +1,7 @@
 -- Masks of slots: a bit for each slot, 0 to 31.
 use Rattle.std.specs.Prelude.{ℕ, ◌≡◌, ◌<◌, ◌==◌, Bool, true, false, if◌then◌else◌, List, Option, Some, None}
 use Rattle.slots.specs.Slots.{has_bit}
-use Rattle.hba_driver.specs.declared.taken.Masks.{Masks}
-use Rattle.hba_driver.specs.Drivers.{Entry, entry_at, has_ended, holds, is_issued, waits}
-use Rattle.hba_driver.specs.Requests.{is_free}
+use Rattle.hba_driver.specs.{declared.taken.Masks.Masks, Drivers.{Entry, entry_at, has_ended, holds, is_issued, waits}, Requests.is_free}
 
 -- the bit of a slot is set or cleared, and each other bit stays
 abbrev pub SetsBit : (slot : ℕ) → (set : Bool) → (old new : ℕ) → Type 0

@@ -1,7 +1,6 @@
 -- How the host port tells devices apart: FIS-based or command-based switching (AHCI 1.3.1, chapter 9).
 use Rattle.std.specs.Prelude.{ℕ, Bool, true, false}
-use Rattle.hba_driver.specs.declared.mode.Mode.{Mode}
-use Rattle.hba_driver.specs.declared.mode.Mode.TheVariants.{Switching, CommandBased}
+use Rattle.hba_driver.specs.declared.mode.Mode.{Mode, TheVariants.{Switching, CommandBased}}
 
 abbrev pub is_switching : Mode → Bool
 is_switching Switching = true

@@ -1,16 +1,12 @@
 -- The driver's own commands as tables: READ PORT MULTIPLIER and WRITE PORT MULTIPLIER (Serial ATA 3.x, port
 -- multiplier commands), software reset, IDENTIFY DEVICE and the commands of requests (ACS-3).
-use Rattle.std.specs.Prelude.{ℕ, ◌+◌, ◌*◌, ◌/◌, ◌%◌, ◌&&◌, Bool, true, false, nat_lt, nat_le, if◌then◌else◌}
-use Rattle.std.specs.Prelude.{Option, Some, None}
+use Rattle.std.specs.Prelude.{ℕ, ◌+◌, ◌*◌, ◌/◌, ◌%◌, ◌&&◌, Bool, true, false, nat_lt, nat_le, if◌then◌else◌, Option, Some, None}
 use Rattle.fis_view.specs.declared.build.H2dFields.{H2dFields}
 use Rattle.slots.specs.Slots.{has_bit, lowest_below, match_some}
 use Rattle.hba_driver.specs.declared.order.Order.{Order}
-use Rattle.hba_driver.specs.declared.order.Order.TheVariants.{ResetOn, ResetOff, AwaitSignature, CountPorts}
-use Rattle.hba_driver.specs.declared.order.Order.TheVariants.{SetMask, Enable, Open, Scan, Clear, Detect}
-use Rattle.hba_driver.specs.declared.order.Order.TheVariants.{Watch}
-use Rattle.hba_driver.specs.declared.request.Work.{Work}
+use Rattle.hba_driver.specs.declared.order.Order.TheVariants.{ResetOn, ResetOff, AwaitSignature, CountPorts, SetMask, Enable, Open, Scan, Clear, Detect, Watch}
+use Rattle.hba_driver.specs.declared.{request.Work.Work, slot.Head.Head}
 use Rattle.hba_driver.specs.declared.request.Work.TheVariants as work
-use Rattle.hba_driver.specs.declared.slot.Head.{Head}
 
 -- the control port of the multiplier
 abbrev pub control_port : ℕ

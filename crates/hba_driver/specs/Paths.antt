@@ -4,14 +4,9 @@
 use Rattle.std.specs.Prelude.{ℕ, Bool, true, false, if◌then◌else◌, Option, Some, None}
 use Rattle.fis_view.specs.declared.build.H2dFields.{H2dFields}
 use Rattle.slots.specs.Slots.{has_bit}
-use Rattle.hba_driver.specs.declared.path.Recovery.{Recovery}
-use Rattle.hba_driver.specs.declared.path.Recovery.TheVariants.{Log, Reset}
-use Rattle.hba_driver.specs.declared.path.Stage.{Stage}
-use Rattle.hba_driver.specs.declared.path.Stage.TheVariants.{Identify, ReadLog, AssertReset, ReleaseReset}
-use Rattle.hba_driver.specs.declared.path.Stage.TheVariants.{AwaitReset}
-use Rattle.hba_driver.specs.declared.path.TaskFile.{TaskFile}
-use Rattle.hba_driver.specs.declared.plan.Device.{Device}
-use Rattle.hba_driver.specs.declared.plan.Device.TheVariants.{Absent, Starting, Ready, Recovering}
+use Rattle.hba_driver.specs.declared.path.Recovery.{Recovery, TheVariants.{Log, Reset}}
+use Rattle.hba_driver.specs.declared.path.Stage.{Stage, TheVariants.{Identify, ReadLog, AssertReset, ReleaseReset, AwaitReset}}
+use Rattle.hba_driver.specs.declared.{path.TaskFile.TaskFile, plan.Device.{Device, TheVariants.{Absent, Starting, Ready, Recovering}}}
 use Rattle.hba_driver.specs.Orders.{control, identify_fields, log_fields}
 
 -- the command that slot 30 issues for a stage, None if it issues nothing

@@ -7,17 +7,10 @@
 use Rattle.std.specs.Prelude.{ℕ, ◌≡◌, true, List, [], ◌∷◌, ◌++◌, Some}
 use Rattle.host_memory.specs.Memory.{IsHostMemory, Memory}
 use Rattle.slots.specs.Slots.{has_bit}
-use Rattle.hba_fbs.specs.declared.report.TakeReport.{TakeReport}
-use Rattle.hba_fbs.specs.Taking.{port_of}
-use Rattle.hba_driver.specs.declared.mode.Mode.{Mode}
-use Rattle.hba_driver.specs.declared.request.Completion.{Completion}
-use Rattle.hba_driver.specs.declared.request.Outcome.TheVariants.{Done}
-use Rattle.hba_driver.specs.declared.request.Request.{Request}
-use Rattle.hba_driver.specs.declared.slot.Phase.TheVariants.{Ended, Issued}
-use Rattle.hba_driver.specs.Drivers.{entry_at, rephased}
-use Rattle.hba_driver.specs.Events.{opening_host_in}
-use Rattle.hba_driver.specs.HostTurns.{Does, DoesAll, Host, HostTurn, Polled, Submitted, Took}
-use Rattle.hba_driver.specs.Submits.{new_entry}
+use Rattle.hba_fbs.specs.{declared.report.TakeReport.TakeReport, Taking.port_of}
+use Rattle.hba_driver.specs.declared.{mode.Mode.Mode, request.Completion.Completion, request.Outcome.TheVariants.Done, request.Request.Request}
+use Rattle.hba_driver.specs.{declared.slot.Phase.TheVariants.{Ended, Issued}, Drivers.{entry_at, rephased}, Events.opening_host_in}
+use Rattle.hba_driver.specs.{HostTurns.{Does, DoesAll, Host, HostTurn, Polled, Submitted, Took}, Submits.new_entry}
 
 -- the hosts of a run, each before its turn
 abbrev pub hosts_over : (old new : Host) → (turns : List HostTurn) → DoesAll old turns new → List Host

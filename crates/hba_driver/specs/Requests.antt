@@ -1,22 +1,12 @@
 -- The bytes of requests, and how a request is taken, polled and refused. The refusals are defined by this
 -- driver.
-use Rattle.std.specs.Prelude.{ℕ, ◌+◌, ◌*◌, ◌%◌, ◌==◌, ◌&&◌, ◌||◌, Bool, true, false, not, nat_lt, nat_le}
-use Rattle.std.specs.Prelude.{if◌then◌else◌, List, length, Option, Some, None, is_none}
-use Rattle.std.specs.List.{list_any}
-use Rattle.host_memory.specs.Memory.{client_start}
-use Rattle.host_memory.specs.Place.{total_of}
-use Rattle.host_memory.specs.Reading.{have_overlap, share_with}
-use Rattle.host_memory.specs.declared.table.Prd.{Prd}
+use Rattle.std.specs.Prelude.{ℕ, ◌+◌, ◌*◌, ◌%◌, ◌==◌, ◌&&◌, ◌||◌, Bool, true, false, not, nat_lt, nat_le, if◌then◌else◌, List, length, Option, Some}
+use Rattle.std.specs.{Prelude.{None, is_none}, List.list_any}
+use Rattle.host_memory.specs.{Memory.client_start, Place.total_of, Reading.{have_overlap, share_with}, declared.table.Prd.Prd}
 use Rattle.slots.specs.Slots.{lowest_below}
-use Rattle.hba_driver.specs.declared.plan.Device.{Device}
-use Rattle.hba_driver.specs.declared.plan.Device.TheVariants.{Ready, Recovering}
-use Rattle.hba_driver.specs.declared.request.Request.{Request}
-use Rattle.hba_driver.specs.declared.request.SubmitError.{SubmitError}
+use Rattle.hba_driver.specs.declared.{plan.Device.{Device, TheVariants.{Ready, Recovering}}, request.Request.Request, request.SubmitError.SubmitError}
+use Rattle.hba_driver.specs.{declared.{request.Work.Work, slot.Head.Head}, Drivers.{Driver, Entry, entry_at, has_ended, is_read}, Orders.is_flush}
 use Rattle.hba_driver.specs.declared.request.SubmitError.TheVariants as refusal
-use Rattle.hba_driver.specs.declared.request.Work.{Work}
-use Rattle.hba_driver.specs.declared.slot.Head.{Head}
-use Rattle.hba_driver.specs.Drivers.{Driver, Entry, entry_at, has_ended, is_read}
-use Rattle.hba_driver.specs.Orders.{is_flush}
 
 -- ---- bytes in use
 

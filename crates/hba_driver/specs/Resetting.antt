@@ -1,11 +1,7 @@
 -- The tick that issues the software reset of a tended device (Serial ATA 3.x, software reset).
 use Rattle.std.specs.Prelude.{ℕ, ◌≡◌, ◌<◌, Bool, true, false, Some}
-use Rattle.hba_driver.specs.Drivers.{Entry, entry_at}
-use Rattle.hba_driver.specs.HostTurns.{Does, Host, Ticked}
-use Rattle.hba_driver.specs.Laws.{is_withdrawn}
-use Rattle.hba_driver.specs.Slot30.{IsPlan30, Sets}
-use Rattle.hba_driver.specs.Steady.{IsSwitching, detects}
-use Rattle.hba_driver.specs.Tended.{IsResetTurn, IsTended}
+use Rattle.hba_driver.specs.{Drivers.{Entry, entry_at}, HostTurns.{Does, Host, Ticked}, Laws.is_withdrawn, Slot30.{IsPlan30, Sets}}
+use Rattle.hba_driver.specs.{Steady.{IsSwitching, detects}, Tended.{IsResetTurn, IsTended}}
 
 -- Then the driver waits for the Control that sets SRST to go out, and no request of the device waits or is
 -- issued.

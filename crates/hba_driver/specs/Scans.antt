@@ -1,28 +1,17 @@
 -- Scans of the ports of a multiplier. The driver reads GSCR[32], which has a bit for each port with an error,
 -- and clears the errors of each port that the answer names, lowest port first (Serial ATA 3.x, 16.2 and 16.3,
 -- port multiplier: GSCR[32], PSCR[1]).
-use Rattle.std.specs.Prelude.{ℕ, ◌≡◌, ◌<◌, ◌==◌, ◌&&◌, ◌||◌, Bool, true, false, not, nat_lt, nat_le}
-use Rattle.std.specs.Prelude.{if◌then◌else◌, List, [], ◌∷◌, take, drop, is_none, unwrap_or, Result, Ok}
-use Rattle.fis_view.specs.Seen.{seen}
-use Rattle.fis_view.specs.Table.{D2h, Status, field}
-use Rattle.fis_view.specs.declared.view.Fis.{Fis}
+use Rattle.std.specs.Prelude.{ℕ, ◌≡◌, ◌<◌, ◌==◌, ◌&&◌, ◌||◌, Bool, true, false, not, nat_lt, nat_le, if◌then◌else◌, List, [], ◌∷◌, take, drop}
+use Rattle.std.specs.Prelude.{is_none, unwrap_or, Result, Ok}
+use Rattle.fis_view.specs.{Seen.seen, Table.{D2h, Status, field}, declared.{view.Fis.Fis, view.FisFault.FisFault}}
 use Rattle.fis_view.specs.declared.view.Fis.TheVariants as view
-use Rattle.fis_view.specs.declared.view.FisFault.{FisFault}
 use Rattle.host_memory.specs.Memory.{IsHostMemory, Memory}
 use Rattle.slots.specs.Slots.{has_bit, own_issue}
-use Rattle.hba_fbs.specs.declared.report.TakeReport.{TakeReport}
-use Rattle.hba_fbs.specs.Status.{is_busy}
-use Rattle.hba_fbs.specs.Taking.{port_of}
+use Rattle.hba_fbs.specs.{declared.report.TakeReport.TakeReport, Status.is_busy, Taking.port_of}
 use Rattle.hba_laws.specs.Parts.{DevicePart}
-use Rattle.hba_driver.specs.declared.order.Order.{Order}
-use Rattle.hba_driver.specs.declared.order.Order.TheVariants.{Scan, Clear, Detect}
-use Rattle.hba_driver.specs.declared.plan.Plan.{Plan}
-use Rattle.hba_driver.specs.Events.{opening_host}
-use Rattle.hba_driver.specs.HostTurns.{DoesAll, Host, HostTurn, Ticked, Took}
-use Rattle.hba_driver.specs.Orders.{control_port}
-use Rattle.hba_driver.specs.Sights.{answer_in}
-use Rattle.hba_driver.specs.Slot31.{Asks, IsAnswer31, IsFree31, MayBe31, Rests, Stage31, Turns31, control_of}
-use Rattle.hba_driver.specs.Slot31.{orders_clear}
+use Rattle.hba_driver.specs.{declared.{order.Order.{Order, TheVariants.{Scan, Clear, Detect}}, plan.Plan.Plan}, Events.opening_host}
+use Rattle.hba_driver.specs.{HostTurns.{DoesAll, Host, HostTurn, Ticked, Took}, Orders.control_port, Sights.answer_in}
+use Rattle.hba_driver.specs.Slot31.{Asks, IsAnswer31, IsFree31, MayBe31, Rests, Stage31, Turns31, control_of, orders_clear}
 
 -- ---- which ports the scan found
 

@@ -2,38 +2,20 @@
 -- order to the multiplier. So no two issued reads share a byte, no client writes into one, and the PRDs of a
 -- command stay while it is issued (AHCI 1.3.1, 4.2.3.3, Physical Region Descriptor Table, and 5.5, how
 -- commands are issued).
-use Rattle.std.specs.Prelude.{ℕ, ◌≡◌, ◌+◌, ◌<◌, ◌≤◌, ◌⊎◌, true, false, List, [], ◌∷◌, length}
-use Rattle.std.specs.Prelude.{Some}
-use Rattle.fis_view.specs.Built.{IsBuilt, h2d_given}
-use Rattle.fis_view.specs.Table.{H2d, PmPort, field}
-use Rattle.fis_view.specs.declared.build.H2dFields.{H2dFields}
-use Rattle.host_memory.specs.Memory.{IsHostMemory, Memory}
-use Rattle.host_memory.specs.Place.{total_of}
-use Rattle.host_memory.specs.Reading.{have_overlap, prds_at, share_with}
-use Rattle.hba_commands.specs.declared.command.Command.{Command}
-use Rattle.hba_commands.specs.Commands.{cfis_at}
-use Rattle.hba_commands.specs.Headers.{header_at}
-use Rattle.hba_commands.specs.Requests.{request_at, request_of}
-use Rattle.hba_commands.specs.Requests.{work_of as moved_by}
-use Rattle.hba_commands.specs.Writing.{header_for}
+use Rattle.std.specs.Prelude.{ℕ, ◌≡◌, ◌+◌, ◌<◌, ◌≤◌, ◌⊎◌, true, false, List, [], ◌∷◌, length, Some}
+use Rattle.fis_view.specs.{Built.{IsBuilt, h2d_given}, Table.{H2d, PmPort, field}, declared.build.H2dFields.H2dFields}
+use Rattle.host_memory.specs.{Memory.{IsHostMemory, Memory}, Place.total_of, Reading.{have_overlap, prds_at, share_with}}
+use Rattle.hba_commands.specs.{declared.command.Command.Command, Commands.cfis_at, Headers.header_at}
+use Rattle.hba_commands.specs.{Requests.{request_at, request_of, work_of as moved_by}, Writing.header_for}
 use Rattle.slots.specs.Work as moved
 use Rattle.hba_fbs.specs.Views.{Port, last_command}
-use Rattle.hba_laws.specs.Agreement.{AreHistoriesOf}
-use Rattle.hba_laws.specs.Client.{IsKept, Touches, own}
-use Rattle.hba_laws.specs.Delivering.{AreSpared, IsSound, touches_after}
-use Rattle.hba_laws.specs.History.{Transfer, issued}
+use Rattle.hba_laws.specs.{Agreement.AreHistoriesOf, Client.{IsKept, Touches, own}, Delivering.{AreSpared, IsSound, touches_after}}
+use Rattle.hba_laws.specs.{History.{Transfer, issued}, Hosts.Runs}
 use Rattle.hba_laws.specs.Hosts as event
-use Rattle.hba_laws.specs.Hosts.{Runs}
-use Rattle.hba_driver.specs.declared.mode.Mode.{Mode}
-use Rattle.hba_driver.specs.declared.mode.Mode.TheVariants.{Switching, CommandBased}
-use Rattle.hba_driver.specs.declared.path.Path.{Path}
-use Rattle.hba_driver.specs.declared.slot.Head.{Head}
-use Rattle.hba_driver.specs.Drivers.{Driver, Entry, IsPath, entry_at, is_issued, is_read, new_driver_in}
-use Rattle.hba_driver.specs.Effects.{buffer_prd, prds_with, table_of}
-use Rattle.hba_driver.specs.Events.{IsSoundHostIn, events_over, opening_host_in, shared_by}
-use Rattle.hba_driver.specs.HostTurns.{DoesAll, Host, HostTurn}
-use Rattle.hba_driver.specs.Orders.{control_port, is_queued, request_fields}
-use Rattle.hba_driver.specs.Paths.{reads_page, stage_fields}
+use Rattle.hba_driver.specs.declared.{mode.Mode.{Mode, TheVariants.{Switching, CommandBased}}, path.Path.Path, slot.Head.Head}
+use Rattle.hba_driver.specs.{Drivers.{Driver, Entry, IsPath, entry_at, is_issued, is_read, new_driver_in}, Effects.{buffer_prd, prds_with, table_of}}
+use Rattle.hba_driver.specs.{Events.{IsSoundHostIn, events_over, opening_host_in, shared_by}, HostTurns.{DoesAll, Host, HostTurn}}
+use Rattle.hba_driver.specs.{Orders.{control_port, is_queued, request_fields}, Paths.{reads_page, stage_fields}}
 
 -- ---- what a request wrote
 

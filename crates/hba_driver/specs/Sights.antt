@@ -1,24 +1,14 @@
 -- What a tick sees of the port and of memory: AHCI 1.3.1, section 3.3 (registers) and 4.2.1 (received FISes);
 -- Serial ATA 3.x, 10.5.6 (signatures); ACS-3, IDENTIFY DEVICE.
-use Rattle.std.specs.Prelude.{ℕ, ◌+◌, ◌*◌, ◌/◌, ◌%◌, ◌^◌, ◌==◌, ◌&&◌, Bool, false, not, if◌then◌else◌, bit_or, ◌||◌}
-use Rattle.std.specs.Prelude.{List, map, take, drop, slice_index, sum, Option, Some, None, Result, Ok}
-use Rattle.std.specs.List.{range_with_len}
-use Rattle.std.specs.Result.{result_unwrap_or}
-use Rattle.fis_view.specs.Seen.{seen}
+use Rattle.std.specs.Prelude.{ℕ, ◌+◌, ◌*◌, ◌/◌, ◌%◌, ◌^◌, ◌==◌, ◌&&◌, Bool, false, not, if◌then◌else◌, bit_or, ◌||◌, List, map, take, drop}
+use Rattle.std.specs.{Prelude.{slice_index, sum, Option, Some, None, Result, Ok}, List.range_with_len, Result.result_unwrap_or}
+use Rattle.fis_view.specs.{Seen.seen, Table.field, declared.{view.Fis.Fis, view.FisFault.FisFault}}
 use Rattle.fis_view.specs.Table as table
-use Rattle.fis_view.specs.Table.{field}
-use Rattle.fis_view.specs.declared.view.Fis.{Fis}
 use Rattle.fis_view.specs.declared.view.Fis.TheVariants as view
-use Rattle.fis_view.specs.declared.view.FisFault.{FisFault}
 use Rattle.host_memory.specs.Memory.{Memory}
 use Rattle.slots.specs.Slots.{has_bit}
-use Rattle.hba_fbs.specs.Posting.{is_ata_signature}
-use Rattle.hba_fbs.specs.Reading.{read_at}
-use Rattle.hba_fbs.specs.Views.{Port, view_of}
-use Rattle.hba_driver.specs.declared.mode.Mode.{Mode}
-use Rattle.hba_driver.specs.declared.mode.Mode.TheVariants.{Switching, CommandBased}
-use Rattle.hba_driver.specs.declared.path.TaskFile.{TaskFile}
-use Rattle.hba_driver.specs.declared.sight.ErrorLog.{ErrorLog}
+use Rattle.hba_fbs.specs.{Posting.is_ata_signature, Reading.read_at, Views.{Port, view_of}}
+use Rattle.hba_driver.specs.declared.{mode.Mode.{Mode, TheVariants.{Switching, CommandBased}}, path.TaskFile.TaskFile, sight.ErrorLog.ErrorLog}
 use Rattle.hba_driver.specs.Seeing.{Sight}
 
 -- the value of the register at an offset

@@ -1,48 +1,20 @@
 -- Slot 30 over turns of the host, while a device recovers from a fault (AHCI 1.3.1, 6.2.2, error recovery,
 -- and 9.3, FIS-based Switching, on errors; Serial ATA 3.x, software reset; ACS-3, READ LOG EXT). Its fault is
 -- cleared, and then its error log is read, or it is reset. Meanwhile no request of it waits or is issued.
-use Rattle.std.specs.Prelude.{ℕ, ◌≡◌, ◌≢◌, ◌<◌, ◌≤◌, ◌⊎◌, ◌&&◌, Bool, true, false, not, Option, Some, None}
-use Rattle.std.specs.Prelude.{List, is_some}
-use Rattle.fis_view.specs.Built.{IsBuilt, h2d_given}
-use Rattle.fis_view.specs.Frames.{Stamped}
-use Rattle.fis_view.specs.Seen.{seen}
-use Rattle.fis_view.specs.Table.{H2d}
-use Rattle.fis_view.specs.declared.build.H2dFields.{H2dFields}
-use Rattle.hba_commands.specs.declared.command.Command.{Command}
-use Rattle.hba_commands.specs.Requests.{request_of, work_of}
-use Rattle.slots.specs.Slots.{Issue, has_bit, new_issue, own_issue}
-use Rattle.slots.specs.Work.{is_queued}
-use Rattle.hba_fbs.specs.declared.report.TakeReport.{TakeReport}
-use Rattle.hba_fbs.specs.Posting.{signs}
-use Rattle.hba_fbs.specs.Taking.{port_of}
-use Rattle.hba_fbs.specs.Views.{Port, last_command, view_of}
-use Rattle.hba_laws.specs.Client.{Touches, own}
-use Rattle.hba_laws.specs.History.{Transfer, issued}
+use Rattle.std.specs.Prelude.{ℕ, ◌≡◌, ◌≢◌, ◌<◌, ◌≤◌, ◌⊎◌, ◌&&◌, Bool, true, false, not, Option, Some, None, List, is_some}
+use Rattle.fis_view.specs.{Built.{IsBuilt, h2d_given}, Frames.Stamped, Seen.seen, Table.H2d, declared.build.H2dFields.H2dFields}
+use Rattle.hba_commands.specs.{declared.command.Command.Command, Requests.{request_of, work_of}}
+use Rattle.slots.specs.{Slots.{Issue, has_bit, new_issue, own_issue}, Work.is_queued}
+use Rattle.hba_fbs.specs.{declared.report.TakeReport.TakeReport, Posting.signs, Taking.port_of, Views.{Port, last_command, view_of}}
+use Rattle.hba_laws.specs.{Client.{Touches, own}, History.{Transfer, issued}}
 use Rattle.host_memory.specs.Memory.{IsHostMemory, Memory}
-use Rattle.hba_driver.specs.declared.order.Order.TheVariants.{Detect}
-use Rattle.hba_driver.specs.declared.path.Path.{Path}
-use Rattle.hba_driver.specs.declared.path.Recovery.{Recovery}
-use Rattle.hba_driver.specs.declared.path.Recovery.TheVariants.{Log, Reset}
-use Rattle.hba_driver.specs.declared.path.Stage.{Stage}
-use Rattle.hba_driver.specs.declared.path.Stage.TheVariants.{AssertReset, AwaitReset, ReadLog}
-use Rattle.hba_driver.specs.declared.path.Stage.TheVariants.{ReleaseReset}
-use Rattle.hba_driver.specs.declared.path.TaskFile.{TaskFile}
-use Rattle.hba_driver.specs.declared.plan.Device.TheVariants.{Ready, Recovering}
-use Rattle.hba_driver.specs.declared.plan.Plan.{Plan}
-use Rattle.hba_driver.specs.declared.request.Completion.{Completion}
-use Rattle.hba_driver.specs.declared.request.Request.{Request}
-use Rattle.hba_driver.specs.Drivers.{Entry, device_at, entry_at}
-use Rattle.hba_driver.specs.Events.{IsSoundHost, opening_host, shared_by}
-use Rattle.hba_driver.specs.Going.{GoesOn}
-use Rattle.hba_driver.specs.HostTurns.{Does, DoesAll, Host, HostTurn, Polled, Pushed, Put}
-use Rattle.hba_driver.specs.HostTurns.{Submitted, Ticked, Took, sight_in}
-use Rattle.hba_driver.specs.Laws.{is_withdrawn}
-use Rattle.hba_driver.specs.Orders.{control, log_fields}
-use Rattle.hba_driver.specs.Served.{IsServed}
-use Rattle.hba_driver.specs.Sights.{file_shown}
-use Rattle.hba_driver.specs.Tended.{IsUnworked}
-use Rattle.hba_driver.specs.Steady.{IsFlushTick, detects}
-use Rattle.hba_driver.specs.Turns.{is_out, is_there}
+use Rattle.hba_driver.specs.declared.{order.Order.TheVariants.Detect, path.Path.Path, path.Recovery.{Recovery, TheVariants.{Log, Reset}}}
+use Rattle.hba_driver.specs.declared.{path.Stage.{Stage, TheVariants.{AssertReset, AwaitReset, ReadLog, ReleaseReset}}, path.TaskFile.TaskFile}
+use Rattle.hba_driver.specs.declared.{plan.Device.TheVariants.{Ready, Recovering}, plan.Plan.Plan, request.Completion.Completion}
+use Rattle.hba_driver.specs.{declared.request.Request.Request, Drivers.{Entry, device_at, entry_at}, Events.{IsSoundHost, opening_host, shared_by}}
+use Rattle.hba_driver.specs.{Going.GoesOn, HostTurns.{Does, DoesAll, Host, HostTurn, Polled, Pushed, Put, Submitted, Ticked, Took, sight_in}}
+use Rattle.hba_driver.specs.{Laws.is_withdrawn, Orders.{control, log_fields}, Served.IsServed, Sights.file_shown, Tended.IsUnworked}
+use Rattle.hba_driver.specs.{Steady.{IsFlushTick, detects}, Turns.{is_out, is_there}}
 
 pub data Stage30 : Type 0 where
   -- the device has a fault that the driver has not cleared

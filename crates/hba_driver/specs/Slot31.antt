@@ -2,33 +2,18 @@
 -- 16.2: READ PORT MULTIPLIER and WRITE PORT MULTIPLIER, software reset of the control port). An order is
 -- issued, goes out and is answered before the next one is issued. The two FISes of a software reset have no
 -- answer but the signature.
-use Rattle.std.specs.Prelude.{ℕ, ◌≡◌, ◌≢◌, ◌<◌, ◌⊎◌, ◌||◌, Bool, List, [], ◌∷◌, Ok, true, false, Some, None}
-use Rattle.std.specs.Prelude.{is_some}
-use Rattle.std.specs.List.{list_any}
-use Rattle.fis_view.specs.Built.{IsBuilt, h2d_given}
-use Rattle.fis_view.specs.Frames.{Stamped}
-use Rattle.fis_view.specs.Seen.{seen}
-use Rattle.fis_view.specs.Table.{Bits, D2h, H2d, SActive, Status, field}
-use Rattle.fis_view.specs.declared.view.Fis.TheVariants as view
+use Rattle.std.specs.{Prelude.{ℕ, ◌≡◌, ◌≢◌, ◌<◌, ◌⊎◌, ◌||◌, Bool, List, [], ◌∷◌, Ok, true, false, Some, None, is_some}, List.list_any}
+use Rattle.fis_view.specs.{Built.{IsBuilt, h2d_given}, Frames.Stamped, Seen.seen, Table.{Bits, D2h, H2d, SActive, Status, field}}
 use Rattle.fis_view.specs.declared.build.H2dFields.{H2dFields}
+use Rattle.fis_view.specs.declared.view.Fis.TheVariants as view
 use Rattle.host_memory.specs.Memory.{IsHostMemory, Memory}
-use Rattle.hba_commands.specs.declared.command.Command.{Command}
-use Rattle.hba_commands.specs.Requests.{request_of, work_of}
-use Rattle.slots.specs.Slots.{Issue, new_issue, own_issue}
-use Rattle.slots.specs.Work.{is_queued, needs_all}
-use Rattle.hba_fbs.specs.Posting.{is_signature}
-use Rattle.hba_fbs.specs.Status.{is_busy, is_error}
-use Rattle.hba_fbs.specs.Taking.{port_of}
+use Rattle.hba_commands.specs.{declared.command.Command.Command, Requests.{request_of, work_of}}
+use Rattle.slots.specs.{Slots.{Issue, new_issue, own_issue}, Work.{is_queued, needs_all}}
+use Rattle.hba_fbs.specs.{Posting.is_signature, Status.{is_busy, is_error}, Taking.port_of}
 use Rattle.hba_laws.specs.Parts.{DevicePart, part_of}
-use Rattle.hba_driver.specs.declared.order.Order.{Order}
-use Rattle.hba_driver.specs.declared.order.Order.TheVariants.{ResetOn, ResetOff, AwaitSignature, Clear}
-use Rattle.hba_driver.specs.Events.{opening_host, shared_by}
-use Rattle.hba_driver.specs.Laws.{flushes}
-use Rattle.hba_driver.specs.Ticks.{effects}
-use Rattle.hba_driver.specs.HostTurns.{DoesAll, Host, HostTurn, Pushed, Ticked, Took, sight_in}
-use Rattle.hba_driver.specs.Orders.{control_port, order_fields}
-use Rattle.hba_driver.specs.Turns.{control_seen}
-use Rattle.hba_driver.specs.declared.plan.Plan.{Plan}
+use Rattle.hba_driver.specs.{declared.order.Order.{Order, TheVariants.{ResetOn, ResetOff, AwaitSignature, Clear}}, Events.{opening_host, shared_by}}
+use Rattle.hba_driver.specs.{Laws.flushes, Ticks.effects, HostTurns.{DoesAll, Host, HostTurn, Pushed, Ticked, Took, sight_in}}
+use Rattle.hba_driver.specs.{Orders.{control_port, order_fields}, Turns.control_seen, declared.plan.Plan.Plan}
 
 pub data Stage31 : Type 0 where
   -- no order is issued

@@ -2,37 +2,21 @@
 -- with it, which of its requests may be open together, and what a tick does that does not flush it and ends
 -- no fault of it (AHCI 1.3.1, 5.5, how commands are issued, and chapter 9, FIS-based Switching; ACS-3,
 -- IDENTIFY DEVICE, FLUSH CACHE EXT and queued commands; Serial ATA 3.x, 10.5.6, signatures).
-use Rattle.std.specs.Prelude.{ℕ, ◌≡◌, ◌≢◌, ◌^◌, ◌<◌, ◌⊎◌, ◌==◌, ◌&&◌, Bool, true, false}
-use Rattle.std.specs.Prelude.{List, [], ◌∷◌, Option, Some, None, Ok, is_some}
+use Rattle.std.specs.Prelude.{ℕ, ◌≡◌, ◌≢◌, ◌^◌, ◌<◌, ◌⊎◌, ◌==◌, ◌&&◌, Bool, true, false, List, [], ◌∷◌, Option, Some, None, Ok, is_some}
 use Rattle.fis_view.specs.Seen.{seen}
 use Rattle.fis_view.specs.declared.view.Fis.TheVariants as view
 use Rattle.host_memory.specs.Memory.{zeroed}
-use Rattle.hba_fbs.specs.declared.register.Register.{Register}
-use Rattle.hba_fbs.specs.declared.register.Register.TheVariants.{Ci, Cmd, Fbs}
-use Rattle.hba_fbs.specs.Issuing.{aimed, asked}
-use Rattle.hba_fbs.specs.Registers.{falls}
-use Rattle.hba_fbs.specs.Taking.{port_of}
+use Rattle.hba_fbs.specs.{declared.register.Register.{Register, TheVariants.{Ci, Cmd, Fbs}}, Issuing.{aimed, asked}, Registers.falls, Taking.port_of}
 use Rattle.hba_fbs.specs.Writing.{cleared_by}
 use Rattle.hba_laws.specs.Hosts as event
 use Rattle.hba_laws.specs.Hosts.{HostEvent, Runs}
-use Rattle.hba_driver.specs.declared.mode.Mode.TheVariants.{Switching}
-use Rattle.hba_driver.specs.declared.order.Order.{Order}
-use Rattle.hba_driver.specs.declared.order.Order.TheVariants.{Clear, Detect}
-use Rattle.hba_driver.specs.declared.path.Path.{Path}
-use Rattle.hba_driver.specs.declared.path.Stage.TheVariants.{Identify}
-use Rattle.hba_driver.specs.declared.plan.Device.{Device}
-use Rattle.hba_driver.specs.declared.plan.Device.TheVariants.{Absent, Ready, Recovering, Starting}
-use Rattle.hba_driver.specs.declared.plan.Plan.{Plan}
-use Rattle.hba_driver.specs.declared.turn.Act.{Act}
-use Rattle.hba_driver.specs.declared.turn.Act.TheVariants as act
-use Rattle.hba_driver.specs.Drivers.{Driver, Entry, device_at, entry_at, has_ended}
-use Rattle.hba_driver.specs.Drivers.{new_driver}
+use Rattle.hba_driver.specs.declared.{mode.Mode.TheVariants.Switching, order.Order.{Order, TheVariants.{Clear, Detect}}, path.Path.Path}
+use Rattle.hba_driver.specs.declared.{path.Stage.TheVariants.Identify, plan.Device.{Device, TheVariants.{Absent, Ready, Recovering, Starting}}}
+use Rattle.hba_driver.specs.{declared.{plan.Plan.Plan, turn.Act.Act}, Drivers.{Driver, Entry, device_at, entry_at, has_ended, new_driver}}
 use Rattle.hba_driver.specs.Events.{IsSoundHost, events_over, opening_host, shared_by}
-use Rattle.hba_driver.specs.HostTurns.{Does, DoesAll, Host, HostTurn, Ticked, Took, sight_in}
-use Rattle.hba_driver.specs.Orders.{is_flush}
-use Rattle.hba_driver.specs.Served.{AreBounded}
-use Rattle.hba_driver.specs.Sights.{is_ata, last_d2h}
-use Rattle.hba_driver.specs.Ticks.{due}
+use Rattle.hba_driver.specs.{HostTurns.{Does, DoesAll, Host, HostTurn, Ticked, Took, sight_in}, Orders.is_flush, Served.AreBounded}
+use Rattle.hba_driver.specs.{Sights.{is_ata, last_d2h}, Ticks.due}
+use Rattle.hba_driver.specs.declared.turn.Act.TheVariants as act
 
 -- ---- the plan
 

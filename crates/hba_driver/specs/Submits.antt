@@ -1,24 +1,14 @@
 -- What submit and poll do.
-use Rattle.std.specs.Prelude.{ℕ, ◌≡◌, ◌+◌, Bool, if◌then◌else◌, List, length, slice_set, Option, Some, None, ◌==◌, ◌&&◌, not}
-use Rattle.std.specs.Prelude.{unwrap_or}
-use Rattle.std.specs.List.{list_any}
-use Rattle.std.specs.Option.{option_or}
+use Rattle.std.specs.Prelude.{ℕ, ◌≡◌, ◌+◌, Bool, if◌then◌else◌, List, length, slice_set, Option, Some, None, ◌==◌, ◌&&◌, not, unwrap_or}
+use Rattle.std.specs.{List.list_any, Option.option_or}
 use Rattle.host_memory.specs.Memory.{Memory, client_start}
 use Rattle.slots.specs.Slots.{lowest_below, match_some}
 use Rattle.hba_commands.specs.Writing.{IsWritten}
-use Rattle.hba_driver.specs.declared.mode.Mode.{Mode}
-use Rattle.hba_driver.specs.declared.mode.Mode.TheVariants.{Switching, CommandBased}
-use Rattle.hba_driver.specs.declared.request.Completion.{Completion}
-use Rattle.hba_driver.specs.declared.request.Request.{Request}
-use Rattle.hba_driver.specs.declared.request.SubmitError.{SubmitError}
-use Rattle.hba_driver.specs.declared.request.SubmitError.TheVariants as refusal
-use Rattle.hba_driver.specs.declared.slot.Head.{Head}
-use Rattle.hba_driver.specs.declared.slot.Phase.{Phase}
-use Rattle.hba_driver.specs.declared.slot.Phase.TheVariants.{Waits, Ended}
-use Rattle.hba_driver.specs.Drivers.{Driver, Entry, device_at, entry_at, has_ended, holds}
-use Rattle.hba_driver.specs.Effects.{table_of}
-use Rattle.hba_driver.specs.Orders.{request_fields}
+use Rattle.hba_driver.specs.declared.{mode.Mode.{Mode, TheVariants.{Switching, CommandBased}}, request.Completion.Completion, request.Request.Request}
+use Rattle.hba_driver.specs.declared.{request.SubmitError.SubmitError, slot.Head.Head, slot.Phase.{Phase, TheVariants.{Waits, Ended}}}
+use Rattle.hba_driver.specs.{Drivers.{Driver, Entry, device_at, entry_at, has_ended, holds}, Effects.table_of, Orders.request_fields}
 use Rattle.hba_driver.specs.Requests.{blocks, device_refusal, lowest_free, room_refusal, shape_refusal}
+use Rattle.hba_driver.specs.declared.request.SubmitError.TheVariants as refusal
 
 -- ---- submit
 

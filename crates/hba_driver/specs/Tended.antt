@@ -5,28 +5,16 @@
 --
 -- Cited: a device with which nothing has failed since its flush, and the ticks that are calm for one
 -- (specs/Steady.antt).
-use Rattle.std.specs.Prelude.{ℕ, ◌≡◌, ◌≢◌, ◌<◌, ◌⊎◌, ◌||◌, Bool, true, false, List}
-use Rattle.std.specs.Prelude.{None, Option, Some}
+use Rattle.std.specs.Prelude.{ℕ, ◌≡◌, ◌≢◌, ◌<◌, ◌⊎◌, ◌||◌, Bool, true, false, List, None, Option, Some}
 use Rattle.slots.specs.Slots.{issue_at}
 use Rattle.hba_fbs.specs.Views.{view_of}
-use Rattle.hba_driver.specs.declared.path.Path.{Path}
-use Rattle.hba_driver.specs.declared.path.Recovery.TheVariants.{Log, Reset}
-use Rattle.hba_driver.specs.declared.path.Stage.{Stage}
-use Rattle.hba_driver.specs.declared.path.Stage.TheVariants.{Identify, ReadLog, AssertReset}
-use Rattle.hba_driver.specs.declared.path.Stage.TheVariants.{ReleaseReset, AwaitReset}
-use Rattle.hba_driver.specs.declared.path.TaskFile.{TaskFile}
-use Rattle.hba_driver.specs.declared.plan.Device.TheVariants.{Absent, Ready, Recovering, Starting}
-use Rattle.hba_driver.specs.declared.plan.Plan.{Plan}
-use Rattle.hba_driver.specs.declared.turn.Act.{Act}
+use Rattle.hba_driver.specs.declared.{path.Path.Path, path.Recovery.TheVariants.{Log, Reset}}
+use Rattle.hba_driver.specs.declared.path.Stage.{Stage, TheVariants.{Identify, ReadLog, AssertReset, ReleaseReset, AwaitReset}}
+use Rattle.hba_driver.specs.declared.{path.TaskFile.TaskFile, plan.Device.TheVariants.{Absent, Ready, Recovering, Starting}, plan.Plan.Plan}
+use Rattle.hba_driver.specs.{declared.turn.Act.Act, Drivers.{Driver, Entry, device_at, entry_at, is_issued, new_driver, waits}, Events.IsSoundHost}
+use Rattle.hba_driver.specs.{HostTurns.{Does, Host, HostTurn, Ticked, sight_in}, Orders.is_flush}
+use Rattle.hba_driver.specs.{Steady.{HasSignature, IsFine, IsFlushTick, IsSteady, IsSteadyTurn, IsSwitching, detects}, Ticks.due}
 use Rattle.hba_driver.specs.declared.turn.Act.TheVariants as act
-use Rattle.hba_driver.specs.Drivers.{Driver, Entry, device_at, entry_at, is_issued, new_driver}
-use Rattle.hba_driver.specs.Drivers.{waits}
-use Rattle.hba_driver.specs.Events.{IsSoundHost}
-use Rattle.hba_driver.specs.HostTurns.{Does, Host, HostTurn, Ticked, sight_in}
-use Rattle.hba_driver.specs.Orders.{is_flush}
-use Rattle.hba_driver.specs.Steady.{HasSignature, IsFine, IsFlushTick, IsSteady, IsSteadyTurn}
-use Rattle.hba_driver.specs.Steady.{IsSwitching, detects}
-use Rattle.hba_driver.specs.Ticks.{due}
 
 -- ---- slot 30
 

@@ -1,39 +1,19 @@
 -- A tick: the driver afterwards, the effects on port and memory, and the answer.
-use Rattle.std.specs.Prelude.{ℕ, ◌≡◌, ◌+◌, ◌==◌, ◌&&◌, ◌||◌, Bool, true, false, nat_lt, not, if◌then◌else◌}
-use Rattle.std.specs.Prelude.{List, [], map, slice_set, Option, Some, None, is_some}
-use Rattle.std.specs.Option.{option_map}
+use Rattle.std.specs.Prelude.{ℕ, ◌≡◌, ◌+◌, ◌==◌, ◌&&◌, ◌||◌, Bool, true, false, nat_lt, not, if◌then◌else◌, List, [], map, slice_set, Option, Some}
+use Rattle.std.specs.{Prelude.{None, is_some}, Option.option_map}
 use Rattle.host_memory.specs.Memory.{Memory}
 use Rattle.slots.specs.Slots.{has_bit, lowest_below, match_some}
 use Rattle.hba_fbs.specs.Views.{Port}
-use Rattle.hba_driver.specs.declared.effect.Effect.{Effect}
-use Rattle.hba_driver.specs.declared.mode.Mode.{Mode}
-use Rattle.hba_driver.specs.declared.order.Order.{Order}
-use Rattle.hba_driver.specs.declared.order.Order.TheVariants.{Clear, ResetOn}
-use Rattle.hba_driver.specs.declared.path.Path.{Path}
-use Rattle.hba_driver.specs.declared.path.Stage.{Stage}
-use Rattle.hba_driver.specs.declared.path.Stage.TheVariants.{AssertReset}
-use Rattle.hba_driver.specs.declared.path.TaskFile.{TaskFile}
-use Rattle.hba_driver.specs.declared.plan.Device.TheVariants.{Absent, Recovering}
-use Rattle.hba_driver.specs.declared.plan.Plan.{Plan}
-use Rattle.hba_driver.specs.declared.request.Outcome.{Outcome}
-use Rattle.hba_driver.specs.declared.request.Outcome.TheVariants.{Done, DeviceError, Aborted, Removed}
-use Rattle.hba_driver.specs.declared.request.Outcome.TheVariants.{PortError}
-use Rattle.hba_driver.specs.declared.sight.ErrorLog.{ErrorLog}
-use Rattle.hba_driver.specs.Seeing.{Sight}
-use Rattle.hba_driver.specs.declared.slot.Group.{Group}
+use Rattle.hba_driver.specs.declared.{effect.Effect.Effect, mode.Mode.Mode, order.Order.{Order, TheVariants.{Clear, ResetOn}}, path.Path.Path}
+use Rattle.hba_driver.specs.declared.{path.Stage.{Stage, TheVariants.AssertReset}, path.TaskFile.TaskFile}
+use Rattle.hba_driver.specs.declared.{plan.Device.TheVariants.{Absent, Recovering}, plan.Plan.Plan}
+use Rattle.hba_driver.specs.declared.request.Outcome.{Outcome, TheVariants.{Done, DeviceError, Aborted, Removed, PortError}}
+use Rattle.hba_driver.specs.{declared.sight.ErrorLog.ErrorLog, Seeing.Sight, declared.{slot.Group.Group, slot.Head.Head}}
+use Rattle.hba_driver.specs.declared.{slot.Phase.TheVariants.{Issued, Aside, Ended}, turn.Act.Act, turn.Logged.Logged, turn.Turn.Turn}
+use Rattle.hba_driver.specs.Drivers.{Driver, Entry, device_at, entry_at, has_ended, holds, is_aside, is_issued, rephase_all, rephased, with_device}
+use Rattle.hba_driver.specs.{Effects.effects_of, Orders.{control_port, is_flush}, Paths.{recovery, reset_if_there}, Turns.turn_of}
 use Rattle.hba_driver.specs.declared.slot.Group.TheVariants as group
-use Rattle.hba_driver.specs.declared.slot.Head.{Head}
-use Rattle.hba_driver.specs.declared.slot.Phase.TheVariants.{Issued, Aside, Ended}
-use Rattle.hba_driver.specs.declared.turn.Act.{Act}
 use Rattle.hba_driver.specs.declared.turn.Act.TheVariants as act
-use Rattle.hba_driver.specs.declared.turn.Logged.{Logged}
-use Rattle.hba_driver.specs.declared.turn.Turn.{Turn}
-use Rattle.hba_driver.specs.Drivers.{Driver, Entry, device_at, entry_at, has_ended, holds, is_aside}
-use Rattle.hba_driver.specs.Drivers.{is_issued, rephase_all, rephased, with_device}
-use Rattle.hba_driver.specs.Effects.{effects_of}
-use Rattle.hba_driver.specs.Orders.{control_port, is_flush}
-use Rattle.hba_driver.specs.Paths.{recovery, reset_if_there}
-use Rattle.hba_driver.specs.Turns.{turn_of}
 
 -- ---- groups of requests
 

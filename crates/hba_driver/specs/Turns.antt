@@ -2,33 +2,17 @@
 -- open the port, start it again after a fault, clear the fault of a device, bring up the multiplier and watch
 -- it by slot 31, identify a device or recover it by slot 30, issue a request (AHCI 1.3.1, 5.5, 6.2.2, error
 -- recovery, and 9.3, FIS-based Switching, on errors).
-use Rattle.std.specs.Prelude.{ℕ, ◌%◌, ◌<◌, ◌==◌, ◌&&◌, ◌||◌, Bool, true, false, not, nat_lt, if◌then◌else◌}
-use Rattle.std.specs.Prelude.{List, slice_index_or, Option, Some, None, is_some}
-use Rattle.std.specs.List.{list_any}
-use Rattle.std.specs.Option.{option_map, option_or}
+use Rattle.std.specs.Prelude.{ℕ, ◌%◌, ◌<◌, ◌==◌, ◌&&◌, ◌||◌, Bool, true, false, not, nat_lt, if◌then◌else◌, List, slice_index_or, Option, Some, None}
+use Rattle.std.specs.{Prelude.is_some, List.list_any, Option.{option_map, option_or}}
 use Rattle.slots.specs.Slots.{has_bit, lowest_below, match_some}
-use Rattle.hba_driver.specs.declared.mode.Mode.{Mode}
-use Rattle.hba_driver.specs.declared.mode.Mode.TheVariants.{Switching, CommandBased}
-use Rattle.hba_driver.specs.declared.order.Order.{Order}
-use Rattle.hba_driver.specs.declared.order.Order.TheVariants.{AwaitSignature, CountPorts, ResetOn, Scan}
-use Rattle.hba_driver.specs.declared.order.Order.TheVariants.{Detect, Watch}
-use Rattle.hba_driver.specs.declared.path.Path.{Path}
-use Rattle.hba_driver.specs.declared.path.Recovery.TheVariants.{Reset}
-use Rattle.hba_driver.specs.declared.path.Stage.{Stage}
-use Rattle.hba_driver.specs.declared.path.Stage.TheVariants.{Identify, ReadLog, AwaitReset}
-use Rattle.hba_driver.specs.declared.plan.Device.{Device}
-use Rattle.hba_driver.specs.declared.plan.Device.TheVariants.{Absent, Starting, Ready, Unusable, Recovering}
-use Rattle.hba_driver.specs.declared.plan.Plan.{Plan}
-use Rattle.hba_driver.specs.Seeing.{Sight}
-use Rattle.hba_driver.specs.declared.slot.Head.{Head}
-use Rattle.hba_driver.specs.declared.turn.Act.{Act}
+use Rattle.hba_driver.specs.declared.mode.Mode.{Mode, TheVariants.{Switching, CommandBased}}
+use Rattle.hba_driver.specs.declared.{order.Order.{Order, TheVariants.{AwaitSignature, CountPorts, ResetOn, Scan, Detect, Watch}}, path.Path.Path}
+use Rattle.hba_driver.specs.declared.{path.Recovery.TheVariants.Reset, path.Stage.{Stage, TheVariants.{Identify, ReadLog, AwaitReset}}}
+use Rattle.hba_driver.specs.declared.{plan.Device.{Device, TheVariants.{Absent, Starting, Ready, Unusable, Recovering}}, plan.Plan.Plan}
+use Rattle.hba_driver.specs.{Seeing.Sight, declared.{slot.Head.Head, turn.Act.Act, turn.Logged.Logged, turn.Turn.Turn}}
+use Rattle.hba_driver.specs.Drivers.{Entry, IsOrder, device_at, entry_at, holds, is_issued, waits, with_device}
+use Rattle.hba_driver.specs.{Orders.{control_port, is_queued, next_order, order_fields}, Paths.{first_stage, next_stage, stage_fields}}
 use Rattle.hba_driver.specs.declared.turn.Act.TheVariants as act
-use Rattle.hba_driver.specs.declared.turn.Logged.{Logged}
-use Rattle.hba_driver.specs.declared.turn.Turn.{Turn}
-use Rattle.hba_driver.specs.Drivers.{Entry, IsOrder, device_at, entry_at, holds, is_issued, waits}
-use Rattle.hba_driver.specs.Drivers.{with_device}
-use Rattle.hba_driver.specs.Orders.{control_port, is_queued, next_order, order_fields}
-use Rattle.hba_driver.specs.Paths.{first_stage, next_stage, stage_fields}
 
 -- ---- slot 31: the multiplier
 

@@ -82,6 +82,7 @@ impl Driver {
     pub fn keeps_rules(&self)
         ensures { IsSound self.now }
     {
+        // Read, so that what its type says of it is known here.
         let _ = &self.plan;
     }
 

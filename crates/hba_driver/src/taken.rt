@@ -87,6 +87,7 @@ impl Slots {
     pub(crate) fn keep_count(&self)
         ensures { length self.now ≡ 30 }
     {
+        // Read, so that what its type says of it is known here.
         let _ = &self.masks;
     }
 

@@ -3,7 +3,7 @@
 ghost use Rattle.std.specs.Prelude.{◌≡◌, ◌<◌, true, IfSome, Some};
 ghost use Rattle.hba_driver.specs.Drivers.{IsOrder, IsSoundPlan};
 ghost use Rattle.hba_driver.specs.Ticks.{cleared_plan, from_reset as from_reset_of, ordered as ordered_of, plan_after as plan_after_of, plan_without, recovering as recovering_of, stopped_plan, unless as unless_of};
-ghost use Rattle.hba_driver.specs.Turns.{IsAct, allowed as allowed_of, control_beside as control_beside_of, control_turn as control_turn_of, device_due as device_due_of, device_of, device_or_request, device_turn as device_turn_of, early_due as early_due_of, fault_due as fault_due_of, may_go as may_go_of, may_go_to as may_go_to_of, opening_due as opening_due_of, order_allowed as order_allowed_of, order_due as order_due_of, path_beside as path_beside_of, path_due as path_due_of, plain_turn, request_due as request_due_of, restart_due as restart_due_of, stage_due as stage_due_of, step_of, turn_of};
+ghost use Rattle.hba_driver.specs.Turns.{IsAct, allowed as allowed_of, control_beside as control_beside_of, control_turn as control_turn_of, device_due as device_due_of, device_of, device_or_request as device_or_request_of, device_turn as device_turn_of, early_due as early_due_of, fault_due as fault_due_of, may_go as may_go_of, may_go_to as may_go_to_of, opening_due as opening_due_of, order_allowed as order_allowed_of, order_due as order_due_of, path_beside as path_beside_of, path_due as path_due_of, plain_turn, request_due as request_due_of, restart_due as restart_due_of, stage_due as stage_due_of, step_of, turn_of};
 
 use crate::mode::Mode;
 use crate::order::{CONTROL_PORT, Order};
@@ -261,7 +261,7 @@ impl Plan {
     }
 
     #[tactic(auto, unfolding(crate::specs::Turns::device_due))]
-    fn slot_due(self, sight: &Sight<'_>) -> Option<Act>
+    fn device_due(self, sight: &Sight<'_>) -> Option<Act>
         requires { IsSoundPlan self }
         ensures value { result ≡ device_due_of sight.now self }
         ensures act { IfSome result IsAct }
@@ -276,12 +276,12 @@ impl Plan {
     }
 
     // What is due by slot 30, or else for the requests.
-    fn device_due(self, sight: &Sight<'_>, slots: &Slots) -> Option<Act>
+    fn device_or_request(self, sight: &Sight<'_>, slots: &Slots) -> Option<Act>
         requires { IsSoundPlan self }
-        ensures value { result ≡ device_or_request sight.now self slots.now }
+        ensures value { result ≡ device_or_request_of sight.now self slots.now }
         ensures act { IfSome result IsAct }
     {
-        match self.allowed(sight, slots, self.slot_due(sight)) {
+        match self.allowed(sight, slots, self.device_due(sight)) {
             Some(act) => Some(act),
             None => self.allowed(sight, slots, request_due(self, slots)),
         }
@@ -296,7 +296,7 @@ impl Plan {
         let plan = self.device_seen(sight);
         Turn {
             plan,
-            act: plan.device_due(sight, slots),
+            act: plan.device_or_request(sight, slots),
             news: news || self.device_news(sight),
             logged: self.device_logged(sight),
         }

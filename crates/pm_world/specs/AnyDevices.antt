@@ -1,9 +1,7 @@
 -- A device that is a unit or the caller's own: what laws see of it, and what it does itself.
 use Rattle.std.specs.Prelude.{ℕ, List}
-use Rattle.disk_model.specs.Histories.{GoesOn, Happening, IsSilent, Plan, SendsNext}
-use Rattle.disk_model.specs.Units.{UnitGoesOn, UnitIsSilent, UnitSends}
-use Rattle.pm_world.specs.Attached.{Attached, Modelled, Own}
-use Rattle.pm_world.specs.declared.device.AnyDevice.{AnyDevice}
+use Rattle.disk_model.specs.{Histories.{GoesOn, Happening, IsSilent, Plan, SendsNext}, Units.{UnitGoesOn, UnitIsSilent, UnitSends}}
+use Rattle.pm_world.specs.{Attached.{Attached, Modelled, Own}, declared.device.AnyDevice.AnyDevice}
 use Rattle.pm_world.specs.declared.device.AnyDevice.TheVariants as any
 
 abbrev pub seen_any : {D : Type 0} → AnyDevice D → Attached

@@ -1,10 +1,9 @@
 -- What laws see of the device at a fan-out port. Of a unit of `disk_model` they know the plan and what may have happened to
 -- it. Of a device of the caller's own they know nothing: it stands for no history, so they do not say what it sends.
 use Rattle.std.specs.Prelude.{ℕ, List, []}
-use Rattle.disk_model.specs.Histories.{Happening, Plan, Script, GoesOn, SendsNext, IsSilent}
-use Rattle.disk_model.specs.Units.{MaySend, UnitWantsRoom}
-use Rattle.disk_model.specs.Units as units
+use Rattle.disk_model.specs.{Histories.{Happening, Plan, Script, GoesOn, SendsNext, IsSilent}, Units.{MaySend, UnitWantsRoom}}
 use Rattle.disk_model.specs.declared.unit.Unit.{Unit}
+use Rattle.disk_model.specs.Units as units
 
 pub data Attached : Type 0 where
   -- a unit of `disk_model`

@@ -2,23 +2,15 @@
 -- reported of its coming (Serial ATA 3.x, 16.3, port multiplier: presence of a device on a port;
 -- 16.4.2: PSCR[1], bit X, a device was exchanged). A FIS that the host sent before that is for the
 -- device before.
-use Rattle.std.specs.Prelude.{ℕ, ◌≡◌, ◌≢◌, ◌==◌, ◌&&◌, Bool, false, List, [], ◌∷◌, ◌++◌, take, Option, Some}
-use Rattle.std.specs.List.{list_any}
+use Rattle.std.specs.{Prelude.{ℕ, ◌≡◌, ◌≢◌, ◌==◌, ◌&&◌, Bool, false, List, [], ◌∷◌, ◌++◌, take, Option, Some}, List.list_any}
 use Rattle.fis_view.specs.Frames.{Stamped}
-use Rattle.pm_registers.specs.Bits.{shares}
-use Rattle.pm_registers.specs.Port.{bit_x}
-use Rattle.pm_control.specs.Requests.{request_in}
-use Rattle.pm_control.specs.declared.request.Request.{Request}
-use Rattle.pm_control.specs.declared.request.Request.TheVariants.{Write}
+use Rattle.pm_registers.specs.{Bits.shares, Port.bit_x}
+use Rattle.pm_control.specs.{Requests.request_in, declared.request.Request.{Request, TheVariants.Write}}
 use Rattle.multiplier.specs.State.{port_at}
 use Rattle.multiplier.specs.declared.multiplier.Passed.TheVariants as passed
-use Rattle.pm_world.specs.Downward.{fell_to}
-use Rattle.pm_world.specs.Places.{Places, new_world_in}
-use Rattle.pm_world.specs.Rules.{Run}
-use Rattle.pm_world.specs.Runs.{AfterEveryRun}
-use Rattle.pm_world.specs.declared.step.Step.{Step}
-use Rattle.pm_world.specs.declared.step.Step.TheVariants as step
+use Rattle.pm_world.specs.{Downward.fell_to, Places.{Places, new_world_in}, Rules.Run, Runs.AfterEveryRun, declared.step.Step.Step}
 use Rattle.pm_world.specs.declared.step.Answer.{Answer}
+use Rattle.pm_world.specs.declared.step.Step.TheVariants as step
 use Rattle.pm_world.specs.declared.step.Answer.TheVariants as answer
 
 -- WRITE PORT MULTIPLIER of PSCR[1] of port n, with a one in the place of bit X, which clears it

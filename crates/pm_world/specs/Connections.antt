@@ -6,13 +6,8 @@
 -- connection, and when its removal is recorded (specs/Traffic.antt).
 use Rattle.std.specs.Prelude.{ℕ, ◌≡◌, ◌<◌, ◌⊎◌, true, false, List, [], length, Some, slice_get}
 use Rattle.multiplier.specs.State.{port_at}
-use Rattle.pm_world.specs.Attached.{Attached}
-use Rattle.pm_world.specs.Places.{Place, Places, is_config, new_world}
-use Rattle.pm_world.specs.Rules.{Run}
-use Rattle.pm_world.specs.Traffic.{is_removed, transit}
-use Rattle.pm_world.specs.declared.step.Config.{Config}
-use Rattle.pm_world.specs.declared.step.Step.{Step}
-use Rattle.pm_world.specs.declared.step.Answer.{Answer}
+use Rattle.pm_world.specs.{Attached.Attached, Places.{Place, Places, is_config, new_world}, Rules.Run, Traffic.{is_removed, transit}}
+use Rattle.pm_world.specs.declared.{step.Config.Config, step.Step.Step, step.Answer.Answer}
 
 -- the connection of the unit at port n comes before this one
 pub record IsAhead (n d : ℕ) (now : Places) : Type 0 where

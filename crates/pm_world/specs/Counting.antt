@@ -1,19 +1,10 @@
 -- How many FISes were sent and taken on each connection, and in which order the counts are listed. No
 -- standard defines these counts.
-use Rattle.std.specs.Prelude.{ℕ, ◌+◌, ◌≡◌, ◌<◌, ◌≤◌, ◌==◌, ◌&&◌, min, Bool, false, true, if◌then◌else◌}
-use Rattle.std.specs.Prelude.{List, [], ◌∷◌, ◌++◌, length, find, HoldsAt, Option, Some, None}
-use Rattle.std.specs.Prelude.{AllPairs, ◌⊎◌}
-use Rattle.std.specs.List.{list_any, AllWithin}
-use Rattle.std.specs.Option.{option_map, option_or}
+use Rattle.std.specs.Prelude.{ℕ, ◌+◌, ◌≡◌, ◌<◌, ◌≤◌, ◌==◌, ◌&&◌, min, Bool, false, true, if◌then◌else◌, List, [], ◌∷◌, ◌++◌, length, find, HoldsAt}
+use Rattle.std.specs.{Prelude.{Option, Some, None, AllPairs, ◌⊎◌}, List.{list_any, AllWithin}, Option.{option_map, option_or}}
 use Rattle.hba_driver.specs.declared.mode.Mode.{Mode}
-use Rattle.pm_world.specs.Attached.{Attached}
-use Rattle.pm_world.specs.Places.{Places, is_config, new_world_in}
-use Rattle.pm_world.specs.Rules.{Run}
-use Rattle.pm_world.specs.Traffic.{sent, taken}
-use Rattle.pm_world.specs.declared.counts.ConnCount.{ConnCount}
-use Rattle.pm_world.specs.declared.step.Config.{Config}
-use Rattle.pm_world.specs.declared.step.Step.{Step}
-use Rattle.pm_world.specs.declared.step.Answer.{Answer}
+use Rattle.pm_world.specs.{Attached.Attached, Places.{Places, is_config, new_world_in}, Rules.Run, Traffic.{sent, taken}}
+use Rattle.pm_world.specs.declared.{counts.ConnCount.ConnCount, step.Config.Config, step.Step.Step, step.Answer.Answer}
 use Rattle.pm_world.specs.declared.step.Answer.TheVariants as answer
 
 -- the largest count; a count that reached it stays

@@ -10,17 +10,11 @@ use Rattle.fis_view.specs.Frames.{marked}
 use Rattle.hba_fbs.specs.declared.report.TakeReport.{TakeReport}
 use Rattle.multiplier.specs.Arbiter.{control_port}
 use Rattle.disk_model.specs.Histories.{Happening, Received, Sent}
-use Rattle.pm_world.specs.Places.{IsOrderly, Places}
-use Rattle.pm_world.specs.Units.{happens}
-use Rattle.pm_world.specs.Rules.{Rule}
-use Rattle.pm_world.specs.Runs.{AfterEveryRun, IsReached}
-use Rattle.pm_world.specs.Traffic.{all_marked, transit}
-use Rattle.pm_world.specs.declared.step.Step.{Step}
+use Rattle.pm_world.specs.{Places.{IsOrderly, Places}, Units.happens, Rules.Rule, Runs.{AfterEveryRun, IsReached}, Traffic.{all_marked, transit}}
+use Rattle.pm_world.specs.declared.{step.Step.Step, step.Answer.Answer}
+use Rattle.pm_world.specs.PathEnds.{AreAmong, IsAtHost, IsAway, IsOnly, IsThere, IsUnremoved, befalls, descending, descending_on, injects, unplugs}
 use Rattle.pm_world.specs.declared.step.Step.TheVariants as step
-use Rattle.pm_world.specs.declared.step.Answer.{Answer}
 use Rattle.pm_world.specs.declared.step.Answer.TheVariants as answer
-use Rattle.pm_world.specs.PathEnds.{AreAmong, IsAtHost, IsAway, IsOnly, IsThere, IsUnremoved, befalls}
-use Rattle.pm_world.specs.PathEnds.{descending, descending_on, injects, unplugs}
 
 -- ---- the path
 

@@ -10,41 +10,20 @@
 -- Cited: runs and what is told over them (specs/Rules.antt, Runs.antt); the history of a unit
 -- (`happens`, specs/Units.antt); the turns of the host (specs/Turns.antt); touches
 -- (specs/HostTouches.antt); and requests that ended honestly (specs/HonestEnds.antt).
-use Rattle.std.specs.Prelude.{ℕ, ◌≡◌, ◌<◌, ◌==◌, ◌++◌, true, false, List, [], ◌∷◌, length}
-use Rattle.std.specs.Prelude.{slice_get, Some, Ok}
-use Rattle.std.specs.List.{list_any}
+use Rattle.std.specs.{Prelude.{ℕ, ◌≡◌, ◌<◌, ◌==◌, ◌++◌, true, false, List, [], ◌∷◌, length, slice_get, Some, Ok}, List.list_any}
 use Rattle.host_memory.specs.Memory.{Memory}
 use Rattle.slots.specs.Slots.{has_bit}
 use Rattle.hba_fbs.specs.declared.report.TakeReport.{TakeReport}
-use Rattle.disk_model.specs.declared.plan.DiskPlan.{DiskPlan}
-use Rattle.disk_model.specs.declared.unit.Unit.TheVariants.{Disk}
-use Rattle.disk_model.specs.Disks.{DiskValue}
-use Rattle.disk_model.specs.Histories.{Happening}
-use Rattle.disk_model.specs.Ledger.{IsSize}
+use Rattle.disk_model.specs.{declared.{plan.DiskPlan.DiskPlan, unit.Unit.TheVariants.Disk}, Disks.DiskValue, Histories.Happening, Ledger.IsSize}
 use Rattle.disk_model.specs.Runs.{DiskStandsFor}
-use Rattle.hba_laws.specs.Client.{Touches, own}
-use Rattle.hba_laws.specs.History.{filled}
-use Rattle.hba_driver.specs.declared.request.Request.{Request}
-use Rattle.hba_driver.specs.declared.request.Ticket.{Ticket}
-use Rattle.hba_driver.specs.declared.slot.Phase.TheVariants.{Waits}
-use Rattle.hba_driver.specs.Drivers.{Entry, entry_at, rephased}
-use Rattle.hba_driver.specs.HostTurns.{HostTurn}
-use Rattle.hba_driver.specs.Orders.{is_queued}
-use Rattle.pm_world.specs.Attached.{Attached, Modelled}
-use Rattle.pm_world.specs.PathEnds.{injects}
-use Rattle.pm_world.specs.Units.{happens}
-use Rattle.pm_world.specs.Places.{Places, is_config, new_world}
-use Rattle.pm_world.specs.Rules.{Rule, Run}
-use Rattle.pm_world.specs.Runs.{IsStepOf, over}
-use Rattle.pm_world.specs.Turns.{turn_of}
-use Rattle.pm_world.specs.declared.step.Config.{Config}
-use Rattle.pm_world.specs.declared.step.Step.{Step}
+use Rattle.hba_laws.specs.{Client.{Touches, own}, History.filled}
+use Rattle.hba_driver.specs.declared.{request.Request.Request, request.Ticket.Ticket, slot.Phase.TheVariants.Waits}
+use Rattle.hba_driver.specs.{Drivers.{Entry, entry_at, rephased}, HostTurns.HostTurn, Orders.is_queued, Submits.new_entry}
+use Rattle.pm_world.specs.{Attached.{Attached, Modelled}, PathEnds.injects, Units.happens, Places.{Places, is_config, new_world}, Rules.{Rule, Run}}
+use Rattle.pm_world.specs.{Runs.{IsStepOf, over}, Turns.turn_of, declared.{step.Config.Config, step.Step.Step, step.Answer.Answer}}
+use Rattle.pm_world.specs.{HonestEnds.{EndsHonestly, TookFlush}, HostTouches.AreTouched}
 use Rattle.pm_world.specs.declared.step.Step.TheVariants as step
-use Rattle.pm_world.specs.declared.step.Answer.{Answer}
 use Rattle.pm_world.specs.declared.step.Answer.TheVariants as answer
-use Rattle.pm_world.specs.HonestEnds.{EndsHonestly, TookFlush}
-use Rattle.pm_world.specs.HostTouches.{AreTouched}
-use Rattle.hba_driver.specs.Submits.{new_entry}
 
 -- ---- the disk and its run
 

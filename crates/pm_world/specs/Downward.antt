@@ -1,18 +1,12 @@
 -- What goes down: from the host to the multiplier, and from each of its ports to the device (Serial
 -- ATA 3.x, 16.3, port multiplier: frame transmission from a host to a device).
-use Rattle.std.specs.Prelude.{ℕ, ◌≡◌, ◌==◌, if◌then◌else◌, Bool, false, true, List, [], ◌++◌, length}
-use Rattle.std.specs.Prelude.{drop, take, filter, Option, Some, None, slice_get, option_to_list}
-use Rattle.std.specs.List.{flat_map}
+use Rattle.std.specs.Prelude.{ℕ, ◌≡◌, ◌==◌, if◌then◌else◌, Bool, false, true, List, [], ◌++◌, length, drop, take, filter, Option, Some, None}
+use Rattle.std.specs.{Prelude.{slice_get, option_to_list}, List.flat_map}
 use Rattle.fis_view.specs.Frames.{Stamped}
-use Rattle.multiplier.specs.Passing.{falls, lost_from}
+use Rattle.multiplier.specs.{Passing.{falls, lost_from}, State.{passes_to, port_at}}
 use Rattle.pm_ports.specs.Port.{is_gone}
-use Rattle.multiplier.specs.State.{passes_to, port_at}
 use Rattle.multiplier.specs.declared.multiplier.Passed.TheVariants as passed
-use Rattle.pm_world.specs.Places.{Places, Place}
-use Rattle.pm_world.specs.Rules.{Run}
-use Rattle.pm_world.specs.Runs.{Telling, over}
-use Rattle.pm_world.specs.declared.step.Step.{Step}
-use Rattle.pm_world.specs.declared.step.Answer.{Answer}
+use Rattle.pm_world.specs.{Places.{Places, Place}, Rules.Run, Runs.{Telling, over}, declared.{step.Step.Step, step.Answer.Answer}}
 use Rattle.pm_world.specs.declared.step.Answer.TheVariants as answer
 
 -- ---- what a step tells

@@ -7,17 +7,11 @@
 use Rattle.std.specs.Prelude.{ℕ, ◌≡◌, ◌<◌, true, List, length, slice_get, IsSomeAnd, Some}
 use Rattle.pm_registers.specs.RegisterMap.{forwards}
 use Rattle.multiplier.specs.State.{port_at}
-use Rattle.disk_model.specs.declared.plan.DiskPlan.{DiskPlan}
-use Rattle.disk_model.specs.Histories.{DiskOf, Happening}
+use Rattle.disk_model.specs.{declared.plan.DiskPlan.DiskPlan, Histories.{DiskOf, Happening}}
 use Rattle.hba_laws.specs.Client.{Touches}
 use Rattle.disk_recovery.specs.Ends.{AreEnds, IsRunning}
-use Rattle.pm_world.specs.Attached.{Attached, StandsFor, plan_of}
-use Rattle.pm_world.specs.DevicePaths.{IsOnPath}
-use Rattle.pm_world.specs.Disks.{DiskRun, HasDisk, disk_history, host_turns}
-use Rattle.pm_world.specs.HostTouches.{AreTouched}
-use Rattle.pm_world.specs.PathEnds.{IsThere, descending_on}
-use Rattle.pm_world.specs.Places.{Places, is_config}
-use Rattle.pm_world.specs.declared.step.Config.{Config}
+use Rattle.pm_world.specs.{Attached.{Attached, StandsFor, plan_of}, DevicePaths.IsOnPath, Disks.{DiskRun, HasDisk, disk_history, host_turns}}
+use Rattle.pm_world.specs.{HostTouches.AreTouched, PathEnds.{IsThere, descending_on}, Places.{Places, is_config}, declared.step.Config.Config}
 
 -- the unit is a disk of this plan, with this many sectors, and stands for all this
 pub record IsDiskWith (plan : DiskPlan) (sectors : ℕ) (history : List Happening) (unit : Attached) : Type 0 where

@@ -4,30 +4,14 @@
 --
 -- Cited: requests that were polled (specs/Polled.antt), the run of a disk (specs/Disks.antt, InOrder.antt),
 -- and what a unit shows of its medium (specs/ReadBack.antt).
-use Rattle.std.specs.Prelude.{ℕ, ◌≡◌, ◌+◌, ◌-◌, ◌*◌, ◌<◌, suc, true, drop, List, length, slice_get}
-use Rattle.std.specs.Prelude.{slice_index, refl, IsSomeAnd, Some}
-use Rattle.host_memory.specs.Memory.{client_start}
-use Rattle.host_memory.specs.Place.{place}
-use Rattle.disk_model.specs.declared.plan.DiskPlan.{DiskPlan}
-use Rattle.disk_model.specs.Histories.{Happening}
-use Rattle.disk_model.specs.Last.{NoneCovers}
-use Rattle.disk_model.specs.Ledger.{ledger}
-use Rattle.hba_driver.specs.declared.request.Completion.{Completion}
-use Rattle.hba_driver.specs.declared.request.Work.TheVariants.{Flush, Write}
-use Rattle.hba_driver.specs.Orders.{is_queued}
-use Rattle.hba_driver.specs.Submits.{new_entry}
-use Rattle.pm_world.specs.Attached.{Attached}
-use Rattle.pm_world.specs.Disks.{DiskRun, FlushedSince, HasDisk, disk_history}
-use Rattle.pm_world.specs.InOrder.{IsLeftSince, disk_run}
-use Rattle.pm_world.specs.Places.{Places, is_config, new_world}
-use Rattle.pm_world.specs.Polled.{IsPolledHonestly}
-use Rattle.pm_world.specs.ReadBack.{Shows}
-use Rattle.pm_world.specs.Rules.{Run}
-use Rattle.pm_world.specs.Runs.{IsStepOf}
-use Rattle.pm_world.specs.declared.step.Config.{Config}
-use Rattle.pm_world.specs.declared.step.Step.{Step}
+use Rattle.std.specs.Prelude.{ℕ, ◌≡◌, ◌+◌, ◌-◌, ◌*◌, ◌<◌, suc, true, drop, List, length, slice_get, slice_index, refl, IsSomeAnd, Some}
+use Rattle.host_memory.specs.{Memory.client_start, Place.place}
+use Rattle.disk_model.specs.{declared.plan.DiskPlan.DiskPlan, Histories.Happening, Last.NoneCovers, Ledger.ledger}
+use Rattle.hba_driver.specs.{declared.{request.Completion.Completion, request.Work.TheVariants.{Flush, Write}}, Orders.is_queued, Submits.new_entry}
+use Rattle.pm_world.specs.{Attached.Attached, Disks.{DiskRun, FlushedSince, HasDisk, disk_history}, InOrder.{IsLeftSince, disk_run}}
+use Rattle.pm_world.specs.{Places.{Places, is_config, new_world}, Polled.IsPolledHonestly, ReadBack.Shows, Rules.Run, Runs.IsStepOf}
+use Rattle.pm_world.specs.declared.{step.Config.Config, step.Step.Step, step.Answer.Answer}
 use Rattle.pm_world.specs.declared.step.Step.TheVariants as step
-use Rattle.pm_world.specs.declared.step.Answer.{Answer}
 use Rattle.pm_world.specs.declared.step.Answer.TheVariants as answer
 
 -- A write was polled as Done earlier in this run, before the FLUSH was submitted to the same device, which

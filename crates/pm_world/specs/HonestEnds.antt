@@ -2,21 +2,11 @@
 -- when the disk started it. A write is on the medium (ACS-3, READ FPDMA QUEUED and WRITE FPDMA
 -- QUEUED; AHCI 1.3.1, 4.2.3.3, Physical Region Descriptor Table). The ledger of FISes comes from
 -- `disk_model` (specs/Ledger.antt), entries from `hba_driver` (specs/Drivers.antt).
-use Rattle.std.specs.Prelude.{ℕ, ◌≡◌, ◌-◌, ◌*◌, ◌<◌, ◌≤◌, ◌++◌, List, ◌∷◌, length, slice_get}
-use Rattle.std.specs.Prelude.{slice_index, Option, Some}
-use Rattle.host_memory.specs.Memory.{Memory, client_start}
-use Rattle.host_memory.specs.Place.{LiesInClient, place}
-use Rattle.host_memory.specs.declared.table.Prd.{Prd}
-use Rattle.disk_model.specs.declared.request.Command.{Command}
-use Rattle.disk_model.specs.declared.request.Request.TheVariants.{Flush}
-use Rattle.disk_model.specs.Anew.{IsRequest}
-use Rattle.disk_model.specs.Chunks.{sectors_at}
-use Rattle.disk_model.specs.Fronts.{IsFront}
-use Rattle.disk_model.specs.Histories.{Happening, Received}
-use Rattle.disk_model.specs.Ledger.{ReadOut, Written, ledger, medium_with}
-use Rattle.hba_driver.specs.declared.request.Work.TheVariants.{Read, Write}
-use Rattle.hba_driver.specs.declared.slot.Head.{Head}
-use Rattle.hba_driver.specs.Drivers.{Entry}
+use Rattle.std.specs.Prelude.{ℕ, ◌≡◌, ◌-◌, ◌*◌, ◌<◌, ◌≤◌, ◌++◌, List, ◌∷◌, length, slice_get, slice_index, Option, Some}
+use Rattle.host_memory.specs.{Memory.{Memory, client_start}, Place.{LiesInClient, place}, declared.table.Prd.Prd}
+use Rattle.disk_model.specs.{declared.{request.Command.Command, request.Request.TheVariants.Flush}, Anew.IsRequest, Chunks.sectors_at, Fronts.IsFront}
+use Rattle.disk_model.specs.{Histories.{Happening, Received}, Ledger.{ReadOut, Written, ledger, medium_with}}
+use Rattle.hba_driver.specs.{declared.{request.Work.TheVariants.{Read, Write}, slot.Head.Head}, Drivers.Entry}
 
 -- byte i of these stands in client memory, where the PRDs say
 pub record StandsAt (bytes : List ℕ) (prds : List Prd) (memory : Memory) (i : ℕ) : Type 0 where

@@ -2,9 +2,7 @@
 
 use Rattle.std.specs.Prelude.{List, [], Option, Some, None, slice_get}
 use Rattle.fis_view.specs.Frames.{Stamped}
-use Rattle.pm_world.specs.Places.{Place, Places}
-use Rattle.pm_world.specs.declared.hop.Hop.{Hop}
-use Rattle.pm_world.specs.declared.hop.Hop.TheVariants.{HostToPm, PmToHost, DeviceToPm, PmToDevice}
+use Rattle.pm_world.specs.{Places.{Place, Places}, declared.hop.Hop.{Hop, TheVariants.{HostToPm, PmToHost, DeviceToPm, PmToDevice}}}
 
 -- the frames on their way from a device, oldest first; none if there is no such port
 abbrev pub frames_from : Option Place → List Stamped

@@ -4,11 +4,8 @@
 -- Served.antt).
 use Rattle.std.specs.Prelude.{ℕ, List, [], ◌∷◌, ◌++◌}
 use Rattle.host_memory.specs.Memory.{zeroed}
-use Rattle.hba_laws.specs.Client.{Touches}
-use Rattle.hba_laws.specs.Delivering.{touches_after}
-use Rattle.hba_driver.specs.Events.{events_over, opening_host, shared_by}
-use Rattle.hba_driver.specs.HostTurns.{DoesAll, Host, HostTurn}
-use Rattle.hba_driver.specs.Served.{RunServes}
+use Rattle.hba_laws.specs.{Client.Touches, Delivering.touches_after}
+use Rattle.hba_driver.specs.{Events.{events_over, opening_host, shared_by}, HostTurns.{DoesAll, Host, HostTurn}, Served.RunServes}
 
 -- the host beside a memory of this many bytes came here over these turns, with these touches
 pub data AreTouched (len : ℕ) : List HostTurn → Host → Touches → Type 0 where

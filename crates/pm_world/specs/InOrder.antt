@@ -4,30 +4,14 @@
 --
 -- Cited: requests that were polled (specs/Polled.antt), the run of a disk (specs/Disks.antt), which bytes a
 -- read and a write both have (specs/ReadBack.antt), and bytes in client memory (specs/Submitted.antt).
-use Rattle.std.specs.Prelude.{ℕ, ◌≡◌, ◌+◌, ◌-◌, ◌*◌, ◌<◌, suc, true, false, drop, List, length, slice_index, refl}
-use Rattle.std.specs.List.{list_any}
-use Rattle.host_memory.specs.Memory.{client_start}
-use Rattle.host_memory.specs.Place.{place}
-use Rattle.disk_model.specs.declared.plan.DiskPlan.{DiskPlan}
-use Rattle.disk_model.specs.Histories.{Happening}
-use Rattle.disk_model.specs.Last.{NoneCovers}
-use Rattle.hba_driver.specs.declared.request.Completion.{Completion}
-use Rattle.hba_driver.specs.declared.request.Work.TheVariants.{Read, Write}
-use Rattle.hba_driver.specs.Orders.{is_queued}
-use Rattle.hba_driver.specs.Submits.{new_entry}
-use Rattle.pm_world.specs.Attached.{Attached}
-use Rattle.pm_world.specs.Disks.{DiskRun, HasDisk}
-use Rattle.pm_world.specs.PathEnds.{injects}
-use Rattle.pm_world.specs.Places.{Places, is_config, new_world}
-use Rattle.pm_world.specs.Polled.{IsPolledHonestly}
-use Rattle.pm_world.specs.ReadBack.{IsOneByte}
-use Rattle.pm_world.specs.Rules.{Run}
-use Rattle.pm_world.specs.Runs.{IsStepOf}
-use Rattle.pm_world.specs.Submitted.{StandsThere}
-use Rattle.pm_world.specs.declared.step.Config.{Config}
-use Rattle.pm_world.specs.declared.step.Step.{Step}
+use Rattle.std.specs.{Prelude.{ℕ, ◌≡◌, ◌+◌, ◌-◌, ◌*◌, ◌<◌, suc, true, false, drop, List, length, slice_index, refl}, List.list_any}
+use Rattle.host_memory.specs.{Memory.client_start, Place.place}
+use Rattle.disk_model.specs.{declared.plan.DiskPlan.DiskPlan, Histories.Happening, Last.NoneCovers}
+use Rattle.hba_driver.specs.{declared.{request.Completion.Completion, request.Work.TheVariants.{Read, Write}}, Orders.is_queued, Submits.new_entry}
+use Rattle.pm_world.specs.{Attached.Attached, Disks.{DiskRun, HasDisk}, PathEnds.injects, Places.{Places, is_config, new_world}}
+use Rattle.pm_world.specs.{Polled.IsPolledHonestly, ReadBack.IsOneByte, Rules.Run, Runs.IsStepOf, Submitted.StandsThere, declared.step.Config.Config}
+use Rattle.pm_world.specs.declared.{step.Step.Step, step.Answer.Answer}
 use Rattle.pm_world.specs.declared.step.Step.TheVariants as step
-use Rattle.pm_world.specs.declared.step.Answer.{Answer}
 use Rattle.pm_world.specs.declared.step.Answer.TheVariants as answer
 
 -- In this run the unit at port n was plugged in, as connection conn, and was left alone from there on.

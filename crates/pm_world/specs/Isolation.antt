@@ -9,19 +9,10 @@
 -- device, its own events, their fold and the events of the port as a whole, and (specs/Delivering.antt,
 -- Alike.antt) its history and the history by its own events.
 use Rattle.std.specs.Prelude.{ℕ, ◌≡◌, ◌<◌, List}
-use Rattle.hba_driver.specs.Events.{AreEvents, TurnsTell, events_over, shared_by}
-use Rattle.hba_driver.specs.HostTurns.{DoesAll, Host, HostTurn}
-use Rattle.hba_laws.specs.Alike.{brought_over, history_by}
-use Rattle.hba_laws.specs.Delivering.{history_after}
-use Rattle.hba_laws.specs.History.{History}
-use Rattle.hba_laws.specs.Isolation.{AreOfDevices, own_over, part_after_all}
-use Rattle.hba_laws.specs.Parts.{part_of}
-use Rattle.pm_world.specs.Places.{Places}
-use Rattle.pm_world.specs.Rules.{Run}
-use Rattle.pm_world.specs.Runs.{AfterEveryRun, over}
-use Rattle.pm_world.specs.Turns.{turn_of}
-use Rattle.pm_world.specs.declared.step.Step.{Step}
-use Rattle.pm_world.specs.declared.step.Answer.{Answer}
+use Rattle.hba_driver.specs.{Events.{AreEvents, TurnsTell, events_over, shared_by}, HostTurns.{DoesAll, Host, HostTurn}}
+use Rattle.hba_laws.specs.{Alike.{brought_over, history_by}, Delivering.history_after, History.History}
+use Rattle.hba_laws.specs.{Isolation.{AreOfDevices, own_over, part_after_all}, Parts.part_of}
+use Rattle.pm_world.specs.{Places.Places, Rules.Run, Runs.{AfterEveryRun, over}, Turns.turn_of, declared.{step.Step.Step, step.Answer.Answer}}
 
 -- what belongs to each device is the fold of its own events among these turns
 abbrev pub AreFoldsOfOwn : (old : Host) (turns : List HostTurn) (new : Host) (does : DoesAll old turns new)

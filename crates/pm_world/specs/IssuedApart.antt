@@ -8,15 +8,8 @@
 -- issued (specs/Served.antt).
 use Rattle.std.specs.Prelude.{ℕ, List, [], ◌∷◌}
 use Rattle.host_memory.specs.Memory.{zeroed}
-use Rattle.hba_driver.specs.declared.mode.Mode.{Mode}
-use Rattle.hba_driver.specs.Delivered.{HasCome, IssuesAreApart, touches_of}
-use Rattle.hba_driver.specs.HostTurns.{Host, HostTurn}
-use Rattle.pm_world.specs.Places.{Places}
-use Rattle.pm_world.specs.Rules.{Run}
-use Rattle.pm_world.specs.Runs.{AfterEveryRun, over}
-use Rattle.pm_world.specs.Turns.{turn_of}
-use Rattle.pm_world.specs.declared.step.Step.{Step}
-use Rattle.pm_world.specs.declared.step.Answer.{Answer}
+use Rattle.hba_driver.specs.{declared.mode.Mode.Mode, Delivered.{HasCome, IssuesAreApart, touches_of}, HostTurns.{Host, HostTurn}}
+use Rattle.pm_world.specs.{Places.Places, Rules.Run, Runs.{AfterEveryRun, over}, Turns.turn_of, declared.{step.Step.Step, step.Answer.Answer}}
 
 -- a host came here over these turns, and what is issued there is apart
 pub record IsApart (mode : Mode) (memory : ℕ) (turns : List HostTurn) (host : Host) : Type 0 where

@@ -2,20 +2,11 @@
 -- X, all that passes it, up and down, is of one connection (Serial ATA 3.x, 16.3, port multiplier:
 -- frame transmission, presence of a device on a port; 16.4.2: PSCR[1], bit X, a device was
 -- exchanged).
-use Rattle.std.specs.Prelude.{ℕ, ◌≡◌, ◌<◌, ◌==◌, if◌then◌else◌, false}
-use Rattle.std.specs.Prelude.{true, List, [], ◌∷◌, ◌++◌, length}
-use Rattle.std.specs.Prelude.{drop}
+use Rattle.std.specs.Prelude.{ℕ, ◌≡◌, ◌<◌, ◌==◌, if◌then◌else◌, false, true, List, [], ◌∷◌, ◌++◌, length, drop}
 use Rattle.fis_view.specs.Frames.{Stamped}
-use Rattle.pm_world.specs.Attached.{Attached}
-use Rattle.pm_world.specs.Cleared.{is_cleared}
-use Rattle.pm_world.specs.Downward.{fell_to}
-use Rattle.pm_world.specs.Places.{Places, is_config, new_world}
-use Rattle.pm_world.specs.Rules.{Run}
-use Rattle.pm_world.specs.Runs.{Telling}
-use Rattle.pm_world.specs.declared.step.Config.{Config}
-use Rattle.pm_world.specs.declared.step.Step.{Step}
+use Rattle.pm_world.specs.{Attached.Attached, Cleared.is_cleared, Downward.fell_to, Places.{Places, is_config, new_world}, Rules.Run, Runs.Telling}
+use Rattle.pm_world.specs.declared.{step.Config.Config, step.Step.Step, step.Answer.Answer}
 use Rattle.pm_world.specs.declared.step.Step.TheVariants as step
-use Rattle.pm_world.specs.declared.step.Answer.{Answer}
 use Rattle.pm_world.specs.declared.step.Answer.TheVariants as answer
 
 -- the FIS of port n that went up: what the host's link has now and did not have before

@@ -5,23 +5,10 @@
 -- IssuedApart.antt, Tickets.antt, Isolation.antt and TrueAnswers.antt.
 use Rattle.std.specs.Prelude.{ℕ, ◌≡◌, ◌≢◌, List, ◌++◌}
 use Rattle.multiplier.specs.Arbiter.{control_port}
-use Rattle.pm_world.specs.IssuedApart.{KeepsApart}
-use Rattle.pm_world.specs.Cleared.{NewDevicesWait}
-use Rattle.pm_world.specs.Delivery.{Delivers}
-use Rattle.pm_world.specs.Downward.{NothingLostDown}
-use Rattle.pm_world.specs.Isolation.{Isolates}
-use Rattle.pm_world.specs.Links.{KeepsLinks}
-use Rattle.pm_world.specs.Places.{Places}
-use Rattle.pm_world.specs.Removals.{TellsRemovals}
-use Rattle.pm_world.specs.Rules.{Run}
-use Rattle.pm_world.specs.Runs.{AfterEveryRun}
-use Rattle.pm_world.specs.Tickets.{KeepsTickets}
-use Rattle.pm_world.specs.Traffic.{sent, taken, all_marked, IsPrefixOf, NothingAfterRemoval, NothingLost}
-use Rattle.pm_world.specs.TrueAnswers.{TellsTruth}
-use Rattle.pm_world.specs.Turns.{AreOfTheirPorts, HostIsFold}
-use Rattle.pm_world.specs.declared.step.Step.{Step}
-use Rattle.pm_world.specs.declared.step.Answer.{Answer}
-use Rattle.pm_world.specs.Units.{UnitsLiveOn, UnitsLivedOn}
+use Rattle.pm_world.specs.{IssuedApart.KeepsApart, Cleared.NewDevicesWait, Delivery.Delivers, Downward.NothingLostDown, Isolation.Isolates}
+use Rattle.pm_world.specs.{Links.KeepsLinks, Places.Places, Removals.TellsRemovals, Rules.Run, Runs.AfterEveryRun, Tickets.KeepsTickets}
+use Rattle.pm_world.specs.{Traffic.{sent, taken, all_marked, IsPrefixOf, NothingAfterRemoval, NothingLost}, TrueAnswers.TellsTruth}
+use Rattle.pm_world.specs.{Turns.{AreOfTheirPorts, HostIsFold}, declared.{step.Step.Step, step.Answer.Answer}, Units.{UnitsLiveOn, UnitsLivedOn}}
 
 -- ---- what was taken
 

@@ -1,27 +1,14 @@
 -- The orders of a host to the control port of its multiplier, and the answers to them, while they are
 -- on their way (Serial ATA 3.x, 16.2: READ PORT MULTIPLIER and WRITE PORT MULTIPLIER, software reset
 -- of the control port). The stage of slot 31 tells them (`hba_driver`, specs/Slot31.antt).
-use Rattle.std.specs.Prelude.{ℕ, ◌≡◌, ◌≢◌, ◌<◌, ◌⊎◌, ◌==◌, ◌&&◌, Bool, true, false, List, [], ◌∷◌, length}
-use Rattle.std.specs.Prelude.{Option}
-use Rattle.std.specs.Prelude.{Some, None, Ok, Result}
-use Rattle.fis_view.specs.Frames.{Stamped}
-use Rattle.fis_view.specs.Seen.{seen}
-use Rattle.fis_view.specs.declared.view.Fis.{Fis}
+use Rattle.std.specs.Prelude.{ℕ, ◌≡◌, ◌≢◌, ◌<◌, ◌⊎◌, ◌==◌, ◌&&◌, Bool, true, false, List, [], ◌∷◌, length, Option, Some, None, Ok, Result}
+use Rattle.fis_view.specs.{Frames.Stamped, Seen.seen, declared.{view.Fis.Fis, view.FisFault.FisFault}}
 use Rattle.fis_view.specs.declared.view.Fis.TheVariants as view
-use Rattle.fis_view.specs.declared.view.FisFault.{FisFault}
-use Rattle.pm_control.specs.Requests.{request_in}
-use Rattle.pm_control.specs.declared.request.Request.TheVariants.{Reset, EndReset}
-use Rattle.multiplier.specs.Arbiter.{control_port}
-use Rattle.multiplier.specs.State.{pm_port}
-use Rattle.hba_driver.specs.Slot31.{Asks, IsAnswer31, IsAt31, IsNotice31, IsSignature31}
-use Rattle.hba_driver.specs.Slot31.{Resets, Signs, Stage31}
-use Rattle.hba_driver.specs.Slot31.{orders_clear}
+use Rattle.pm_control.specs.{Requests.request_in, declared.request.Request.TheVariants.{Reset, EndReset}}
+use Rattle.multiplier.specs.{Arbiter.control_port, State.pm_port}
+use Rattle.hba_driver.specs.Slot31.{Asks, IsAnswer31, IsAt31, IsNotice31, IsSignature31, Resets, Signs, Stage31, orders_clear}
 use Rattle.hba_driver.specs.HostTurns.{Host, Ticks}
-use Rattle.pm_world.specs.Attached.{Attached}
-use Rattle.pm_world.specs.Places.{Places, is_config, new_world}
-use Rattle.pm_world.specs.Rules.{Run}
-use Rattle.pm_world.specs.declared.step.Config.{Config}
-use Rattle.pm_world.specs.declared.step.Step.{Step}
+use Rattle.pm_world.specs.{Attached.Attached, Places.{Places, is_config, new_world}, Rules.Run, declared.{step.Config.Config, step.Step.Step}}
 use Rattle.pm_world.specs.declared.step.Answer.{Answer}
 
 -- ---- on the way down

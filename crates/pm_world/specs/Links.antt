@@ -2,22 +2,15 @@
 -- link, and off that link; and the same way down (Serial ATA 3.x, 16.3, port multiplier: frame
 -- transmission, presence of a device on a port). One definition serves for a link of a world and for
 -- a link between two threads: IsLink of ruled_links.
-use Rattle.std.specs.Prelude.{ℕ, ◌≡◌, ◌≢◌, ◌≤◌, option_to_list, ◌==◌, if◌then◌else◌, Bool, false, true, not}
-use Rattle.std.specs.Prelude.{All, List, [], ◌∷◌, ◌++◌}
-use Rattle.std.specs.Prelude.{length, map, filter, Option, Some, None, slice_get, MatchOption}
-use Rattle.std.specs.List.{flat_map, zip}
+use Rattle.std.specs.Prelude.{ℕ, ◌≡◌, ◌≢◌, ◌≤◌, option_to_list, ◌==◌, if◌then◌else◌, Bool, false, true, not, All, List, [], ◌∷◌, ◌++◌, length, map}
+use Rattle.std.specs.{Prelude.{filter, Option, Some, None, slice_get, MatchOption}, List.{flat_map, zip}}
 use Rattle.fis_view.specs.Frames.{Stamped}
 use Rattle.ruled_links.specs.Links.{IsLink}
-use Rattle.multiplier.specs.Arbiter.{control_port}
-use Rattle.multiplier.specs.State.{PmState, port_at, rising, stamped}
+use Rattle.multiplier.specs.{Arbiter.control_port, State.{PmState, port_at, rising, stamped}}
 use Rattle.pm_ports.specs.Port.{is_gone}
-use Rattle.pm_world.specs.Runs.{AfterEveryRun}
-use Rattle.pm_world.specs.Downward.{is_down_to, is_passed, is_pushed, is_taken_at, on_down_link, times}
-use Rattle.pm_world.specs.Places.{Places, Place, nothing_shown}
-use Rattle.pm_world.specs.Traffic.{held, on_link}
-use Rattle.pm_world.specs.declared.link.Change.{Change}
+use Rattle.pm_world.specs.{Runs.AfterEveryRun, Downward.{is_down_to, is_passed, is_pushed, is_taken_at, on_down_link, times}}
+use Rattle.pm_world.specs.{Places.{Places, Place, nothing_shown}, Traffic.{held, on_link}, declared.{link.Change.Change, step.Answer.Answer}}
 use Rattle.pm_world.specs.declared.link.Change.TheVariants as change
-use Rattle.pm_world.specs.declared.step.Answer.{Answer}
 use Rattle.pm_world.specs.declared.step.Answer.TheVariants as answer
 
 -- ---- what an answer tells

@@ -9,29 +9,16 @@
 -- Cited: what is told of a step, and steps of a run (specs/Runs.antt); what goes down
 -- (specs/Downward.antt); IDENTIFY data that are accepted (specs/Stale.antt). IsCommandOf of
 -- `hba_driver` (specs/Queued.antt) says that a frame which goes out is the command of a request.
-use Rattle.std.specs.Prelude.{ℕ, ◌≡◌, ◌<◌, true, false, List, [], ◌∷◌, length, take, None, Some, Ok}
-use Rattle.std.specs.Prelude.{slice_get}
+use Rattle.std.specs.Prelude.{ℕ, ◌≡◌, ◌<◌, true, false, List, [], ◌∷◌, length, take, None, Some, Ok, slice_get}
 use Rattle.fis_view.specs.Frames.{Stamped}
 use Rattle.hba_fbs.specs.declared.report.TakeReport.{TakeReport}
-use Rattle.hba_driver.specs.declared.request.Request.{Request}
-use Rattle.hba_driver.specs.declared.request.Ticket.{Ticket}
-use Rattle.hba_driver.specs.declared.slot.Phase.TheVariants.{Issued, Waits}
-use Rattle.hba_driver.specs.Drivers.{Entry, rephased}
-use Rattle.hba_driver.specs.Known.{is_request}
-use Rattle.hba_driver.specs.Queued.{IsCommandOf}
-use Rattle.hba_driver.specs.Submits.{new_entry}
-use Rattle.hba_driver.specs.Tended.{IsLiveAt}
+use Rattle.hba_driver.specs.declared.{request.Request.Request, request.Ticket.Ticket, slot.Phase.TheVariants.{Issued, Waits}}
+use Rattle.hba_driver.specs.{Drivers.{Entry, rephased}, Known.is_request, Queued.IsCommandOf, Submits.new_entry, Tended.IsLiveAt}
 use Rattle.multiplier.specs.State.{falling}
-use Rattle.pm_world.specs.Attached.{Attached}
-use Rattle.pm_world.specs.Downward.{on_down_link, pushed_by}
-use Rattle.pm_world.specs.Places.{Places, is_config, new_world}
-use Rattle.pm_world.specs.Rules.{Rule, Run}
-use Rattle.pm_world.specs.Runs.{IsStepOf, over}
-use Rattle.pm_world.specs.Stale.{connection, identified_by, latest}
-use Rattle.pm_world.specs.declared.step.Config.{Config}
-use Rattle.pm_world.specs.declared.step.Step.{Step}
-use Rattle.pm_world.specs.declared.step.Step.TheVariants as step
+use Rattle.pm_world.specs.{Attached.Attached, Downward.{on_down_link, pushed_by}, Places.{Places, is_config, new_world}, Rules.{Rule, Run}}
+use Rattle.pm_world.specs.{Runs.{IsStepOf, over}, Stale.{connection, identified_by, latest}, declared.{step.Config.Config, step.Step.Step}}
 use Rattle.pm_world.specs.declared.step.Answer.{Answer}
+use Rattle.pm_world.specs.declared.step.Step.TheVariants as step
 use Rattle.pm_world.specs.declared.step.Answer.TheVariants as answer
 
 -- In this run a request of device n was submitted under a ticket. Later its command was put on the

@@ -5,20 +5,10 @@
 -- (specs/Disks.antt); the history of a unit (specs/Units.antt). The writes that ended, each with its
 -- place and its bytes, and a medium with them, come from `disk_model` (specs/Ledger.antt).
 use Rattle.std.specs.Prelude.{ℕ, ◌≡◌, ◌++◌, true, List, length, slice_get, IsSomeAnd}
-use Rattle.disk_model.specs.declared.plan.DiskPlan.{DiskPlan}
-use Rattle.disk_model.specs.declared.unit.Unit.TheVariants.{Disk, Scripted}
-use Rattle.disk_model.specs.Fronts.{IsFront}
-use Rattle.disk_model.specs.Histories.{Happening}
+use Rattle.disk_model.specs.{declared.{plan.DiskPlan.DiskPlan, unit.Unit.TheVariants.{Disk, Scripted}}, Fronts.IsFront, Histories.Happening}
 use Rattle.disk_model.specs.Ledger.{Written, ledger, medium_with}
-use Rattle.pm_world.specs.Attached.{Attached, Modelled, Own}
-use Rattle.pm_world.specs.Disks.{HasDisk}
-use Rattle.pm_world.specs.Places.{Places, is_config, new_world}
-use Rattle.pm_world.specs.Rules.{Run}
-use Rattle.pm_world.specs.Runs.{over}
-use Rattle.pm_world.specs.Units.{happens}
-use Rattle.pm_world.specs.declared.step.Config.{Config}
-use Rattle.pm_world.specs.declared.step.Step.{Step}
-use Rattle.pm_world.specs.declared.step.Answer.{Answer}
+use Rattle.pm_world.specs.{Attached.{Attached, Modelled, Own}, Disks.HasDisk, Places.{Places, is_config, new_world}, Rules.Run, Runs.over}
+use Rattle.pm_world.specs.{Units.happens, declared.{step.Config.Config, step.Step.Step, step.Answer.Answer}}
 
 -- the unit is a disk, and its medium is a new one with the bytes of these writes put in
 abbrev pub HasMedium : (sectors : ℕ) → List Written → Attached → Type 0

@@ -4,19 +4,11 @@
 -- Cited: runs of a world and their steps (specs/Rules.antt, Runs.antt). A request that the log names,
 -- as a tick finds it, comes from `hba_driver` (specs/Faults.antt).
 use Rattle.std.specs.Prelude.{ℕ, ◌≡◌, false, true, List, length, Some, Ok}
-use Rattle.hba_driver.specs.declared.request.Outcome.TheVariants.{DeviceError}
-use Rattle.hba_driver.specs.declared.request.Completion.{Completion}
-use Rattle.hba_driver.specs.Drivers.{Entry, entry_at, has_ended}
-use Rattle.hba_driver.specs.Faults.{IsNamedBy}
-use Rattle.hba_driver.specs.HostTurns.{sight_in}
-use Rattle.pm_world.specs.Attached.{Attached}
-use Rattle.pm_world.specs.Places.{Places, is_config, new_world}
-use Rattle.pm_world.specs.Rules.{Rule, Run}
-use Rattle.pm_world.specs.Runs.{IsStepOf}
-use Rattle.pm_world.specs.declared.step.Config.{Config}
-use Rattle.pm_world.specs.declared.step.Step.{Step}
+use Rattle.hba_driver.specs.{declared.{request.Outcome.TheVariants.DeviceError, request.Completion.Completion}, Drivers.{Entry, entry_at, has_ended}}
+use Rattle.hba_driver.specs.{Faults.IsNamedBy, HostTurns.sight_in}
+use Rattle.pm_world.specs.{Attached.Attached, Places.{Places, is_config, new_world}, Rules.{Rule, Run}, Runs.IsStepOf, declared.step.Config.Config}
+use Rattle.pm_world.specs.declared.{step.Step.Step, step.Answer.Answer}
 use Rattle.pm_world.specs.declared.step.Step.TheVariants as step
-use Rattle.pm_world.specs.declared.step.Answer.{Answer}
 use Rattle.pm_world.specs.declared.step.Answer.TheVariants as answer
 
 -- This run has a tick at which the request of the ticket stands in the slot and has not ended. At

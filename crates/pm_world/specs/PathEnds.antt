@@ -1,23 +1,15 @@
 -- The two ends of a disk's link in a world: what a disk and the host did at their ends, and what is
 -- on its way between them, over the multiplier and its links (Serial ATA 3.x, 16.3, port
 -- multiplier: frame transmission, PM Port).
-use Rattle.std.specs.Prelude.{ℕ, ◌≡◌, ◌<◌, ◌==◌, ◌⊎◌, if◌then◌else◌, Bool, true, false, List}
-use Rattle.std.specs.Prelude.{[]}
-use Rattle.std.specs.Prelude.{◌∷◌}
-use Rattle.std.specs.Prelude.{◌++◌, drop, length, map, take, MatchBool, MatchOption, slice_get}
-use Rattle.std.specs.List.{flat_map}
+use Rattle.std.specs.Prelude.{ℕ, ◌≡◌, ◌<◌, ◌==◌, ◌⊎◌, if◌then◌else◌, Bool, true, false, List, [], ◌∷◌, ◌++◌, drop, length, map, take, MatchBool}
+use Rattle.std.specs.{Prelude.{MatchOption, slice_get}, List.flat_map}
 use Rattle.fis_view.specs.Frames.{Stamped, marked}
 use Rattle.multiplier.specs.State.{pm_port, port_at}
 use Rattle.disk_model.specs.Histories.{Happening, Plugged, Received, Sent}
-use Rattle.pm_world.specs.Downward.{falling_to, of_connection, on_down_link}
-use Rattle.pm_world.specs.Places.{Places}
-use Rattle.pm_world.specs.Links.{on_presence}
-use Rattle.pm_world.specs.Traffic.{is_removed, on_host_link, transit}
-use Rattle.pm_world.specs.declared.link.Change.{Change}
+use Rattle.pm_world.specs.{Downward.{falling_to, of_connection, on_down_link}, Places.Places, Links.on_presence}
+use Rattle.pm_world.specs.{Traffic.{is_removed, on_host_link, transit}, declared.{link.Change.Change, step.Step.Step, step.Answer.Answer}}
 use Rattle.pm_world.specs.declared.link.Change.TheVariants as change
-use Rattle.pm_world.specs.declared.step.Step.{Step}
 use Rattle.pm_world.specs.declared.step.Step.TheVariants as step
-use Rattle.pm_world.specs.declared.step.Answer.{Answer}
 use Rattle.pm_world.specs.declared.step.Answer.TheVariants as answer
 
 -- ---- what is on its way

@@ -1,21 +1,14 @@
 -- Where frames stand in a world, as its callers see it (Serial ATA 3.x, 16.3, port multiplier:
 -- device ports, frame transmission, presence of a device on a port).
-use Rattle.std.specs.Prelude.{ℕ, ◌+◌, ◌≡◌, ◌≤◌, ◌<◌, ◌%◌, ◌==◌, ◌&&◌, nat_le, Bool, false, List, [], ◌∷◌}
-use Rattle.std.specs.Prelude.{◌++◌, length, map, Option, Some, None, slice_set, replicate}
-use Rattle.fis_view.specs.Frames.{Stamped}
-use Rattle.fis_view.specs.declared.frame.Stamp.{Stamp}
-use Rattle.multiplier.specs.Arbiter.{control_port}
-use Rattle.multiplier.specs.State.{PmState, opening as opening_multiplier, port_at}
+use Rattle.std.specs.Prelude.{ℕ, ◌+◌, ◌≡◌, ◌≤◌, ◌<◌, ◌%◌, ◌==◌, ◌&&◌, nat_le, Bool, false, List, [], ◌∷◌, ◌++◌, length, map, Option, Some, None}
+use Rattle.std.specs.Prelude.{slice_set, replicate}
+use Rattle.fis_view.specs.{Frames.Stamped, declared.frame.Stamp.Stamp}
+use Rattle.multiplier.specs.{Arbiter.control_port, State.{PmState, opening as opening_multiplier, port_at}}
 use Rattle.host_memory.specs.Memory.{zeroed}
 use Rattle.hba_fbs.specs.Views.{opening_port}
-use Rattle.hba_driver.specs.declared.mode.Mode.{Mode}
-use Rattle.hba_driver.specs.declared.mode.Mode.TheVariants.{Switching}
-use Rattle.hba_driver.specs.Drivers.{new_driver_in}
-use Rattle.hba_driver.specs.HostTurns.{Host}
+use Rattle.hba_driver.specs.{declared.mode.Mode.{Mode, TheVariants.Switching}, Drivers.new_driver_in, HostTurns.Host}
 use Rattle.pm_ports.specs.Port.{PortState}
-use Rattle.pm_world.specs.Attached.{Attached}
-use Rattle.pm_world.specs.declared.link.Change.{Change}
-use Rattle.pm_world.specs.declared.step.Config.{Config}
+use Rattle.pm_world.specs.{Attached.Attached, declared.{link.Change.Change, step.Config.Config}}
 
 -- a link: the frames on it, oldest first, and how many it can hold
 pub record Queue : Type 0 where

@@ -6,39 +6,20 @@
 -- Cited: runs of a world and what is told over them (specs/Rules.antt, Runs.antt); a disk, its run,
 -- and requests that ended honestly (specs/Disks.antt). DoneIsTrue of `hba_driver` (specs/Done.antt)
 -- says that the slot of a request is completed by its device.
-use Rattle.std.specs.Prelude.{ℕ, ◌≡◌, ◌-◌, ◌*◌, ◌<◌, ◌==◌, true, List, [], ◌∷◌, length}
-use Rattle.std.specs.Prelude.{if◌then◌else◌, slice_index, All, Some, Ok, false}
-use Rattle.host_memory.specs.Memory.{Memory, client_start}
-use Rattle.host_memory.specs.Place.{LiesInClient, place}
-use Rattle.host_memory.specs.declared.table.Prd.{Prd}
+use Rattle.std.specs.Prelude.{ℕ, ◌≡◌, ◌-◌, ◌*◌, ◌<◌, ◌==◌, true, List, [], ◌∷◌, length, if◌then◌else◌, slice_index, All, Some, Ok, false}
+use Rattle.host_memory.specs.{Memory.{Memory, client_start}, Place.{LiesInClient, place}, declared.table.Prd.Prd}
 use Rattle.slots.specs.Slots.{has_bit}
-use Rattle.hba_fbs.specs.declared.report.TakeReport.{TakeReport}
-use Rattle.hba_fbs.specs.Taking.{port_of}
-use Rattle.disk_model.specs.declared.plan.DiskPlan.{DiskPlan}
-use Rattle.disk_model.specs.Histories.{Happening}
-use Rattle.hba_laws.specs.Client.{Touches, own}
-use Rattle.hba_laws.specs.History.{filled}
-use Rattle.hba_driver.specs.declared.request.Completion.{Completion}
-use Rattle.hba_driver.specs.declared.request.Outcome.TheVariants.{Done}
-use Rattle.hba_driver.specs.declared.request.Request.{Request}
-use Rattle.hba_driver.specs.declared.request.Ticket.{Ticket}
-use Rattle.hba_driver.specs.declared.request.Work.TheVariants.{Read}
-use Rattle.hba_driver.specs.declared.slot.Phase.TheVariants.{Issued}
-use Rattle.hba_driver.specs.Drivers.{entry_at, rephased}
-use Rattle.hba_driver.specs.Orders.{is_queued}
+use Rattle.hba_fbs.specs.{declared.report.TakeReport.TakeReport, Taking.port_of}
+use Rattle.disk_model.specs.{declared.plan.DiskPlan.DiskPlan, Histories.Happening}
+use Rattle.hba_laws.specs.{Client.{Touches, own}, History.filled}
+use Rattle.hba_driver.specs.declared.{request.Completion.Completion, request.Outcome.TheVariants.Done, request.Request.Request, request.Ticket.Ticket}
+use Rattle.hba_driver.specs.{declared.{request.Work.TheVariants.Read, slot.Phase.TheVariants.Issued}, Drivers.{entry_at, rephased}, Orders.is_queued}
 use Rattle.hba_driver.specs.Submits.{new_entry}
-use Rattle.pm_world.specs.Attached.{Attached}
-use Rattle.pm_world.specs.Places.{Places, is_config, new_world}
-use Rattle.pm_world.specs.Rules.{Rule, Run}
-use Rattle.pm_world.specs.Runs.{IsStepOf, Telling, over}
-use Rattle.pm_world.specs.HostTouches.{AreTouched}
-use Rattle.pm_world.specs.Turns.{turn_of}
-use Rattle.pm_world.specs.declared.step.Config.{Config}
-use Rattle.pm_world.specs.declared.step.Step.{Step}
-use Rattle.pm_world.specs.declared.step.Step.TheVariants as step
-use Rattle.pm_world.specs.declared.step.Answer.{Answer}
-use Rattle.pm_world.specs.declared.step.Answer.TheVariants as answer
+use Rattle.pm_world.specs.{Attached.Attached, Places.{Places, is_config, new_world}, Rules.{Rule, Run}, Runs.{IsStepOf, Telling, over}}
+use Rattle.pm_world.specs.{HostTouches.AreTouched, Turns.turn_of, declared.{step.Config.Config, step.Step.Step, step.Answer.Answer}}
 use Rattle.pm_world.specs.Disks.{DiskRun, EndedSince, FlushedSince, HasDisk}
+use Rattle.pm_world.specs.declared.step.Step.TheVariants as step
+use Rattle.pm_world.specs.declared.step.Answer.TheVariants as answer
 
 -- ---- where it was reported
 

@@ -4,30 +4,14 @@
 --
 -- Cited: requests that ended honestly since they were submitted (specs/Disks.antt, HonestEnds.antt). Which
 -- writes have a byte of a medium comes from `disk_model` (specs/Last.antt).
-use Rattle.std.specs.Prelude.{ℕ, ◌≡◌, ◌+◌, ◌-◌, ◌*◌, ◌<◌, ◌++◌, suc, true, drop, List, length, slice_get}
-use Rattle.std.specs.Prelude.{slice_index}
-use Rattle.std.specs.Prelude.{IsSomeAnd, Option, Some}
-use Rattle.host_memory.specs.Memory.{Memory, client_start}
-use Rattle.host_memory.specs.Place.{place}
-use Rattle.disk_model.specs.declared.plan.DiskPlan.{DiskPlan}
-use Rattle.disk_model.specs.declared.unit.Unit.TheVariants.{Disk, Scripted}
-use Rattle.disk_model.specs.Histories.{Happening}
-use Rattle.disk_model.specs.Last.{NoneCovers}
-use Rattle.disk_model.specs.Ledger.{ledger}
-use Rattle.disk_model.specs.Runs.{IsDiskRun, moment}
-use Rattle.hba_laws.specs.Client.{own}
-use Rattle.hba_laws.specs.History.{filled}
-use Rattle.hba_driver.specs.declared.request.Work.TheVariants.{Read, Write}
-use Rattle.hba_driver.specs.Drivers.{Entry}
-use Rattle.pm_world.specs.Attached.{Attached, Modelled, Own}
-use Rattle.pm_world.specs.Disks.{DiskRun, EndedSince, HasDisk, disk_history}
-use Rattle.pm_world.specs.Places.{Places, is_config}
-use Rattle.pm_world.specs.Rules.{Run}
-use Rattle.pm_world.specs.Runs.{over}
-use Rattle.pm_world.specs.Units.{happens}
-use Rattle.pm_world.specs.declared.step.Answer.{Answer}
-use Rattle.pm_world.specs.declared.step.Step.{Step}
-use Rattle.pm_world.specs.declared.step.Config.{Config}
+use Rattle.std.specs.Prelude.{ℕ, ◌≡◌, ◌+◌, ◌-◌, ◌*◌, ◌<◌, ◌++◌, suc, true, drop, List, length, slice_get, slice_index, IsSomeAnd, Option, Some}
+use Rattle.host_memory.specs.{Memory.{Memory, client_start}, Place.place}
+use Rattle.disk_model.specs.{declared.{plan.DiskPlan.DiskPlan, unit.Unit.TheVariants.{Disk, Scripted}}, Histories.Happening, Last.NoneCovers}
+use Rattle.disk_model.specs.{Ledger.ledger, Runs.{IsDiskRun, moment}}
+use Rattle.hba_laws.specs.{Client.own, History.filled}
+use Rattle.hba_driver.specs.{declared.request.Work.TheVariants.{Read, Write}, Drivers.Entry}
+use Rattle.pm_world.specs.{Attached.{Attached, Modelled, Own}, Disks.{DiskRun, EndedSince, HasDisk, disk_history}, Places.{Places, is_config}}
+use Rattle.pm_world.specs.{Rules.Run, Runs.over, Units.happens, declared.{step.Answer.Answer, step.Step.Step, step.Config.Config}}
 
 -- what happened first of all this
 pub record IsPart (part whole : List Happening) : Type 0 where

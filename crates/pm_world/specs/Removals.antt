@@ -1,19 +1,11 @@
 -- Which removals are recorded, and when the host has seen one, told by answers alone (Serial ATA 3.x,
 -- 16.3, port multiplier: presence of a device on a port). The multiplier records the changes of each
 -- port in the order in which they came, and the host takes frames in the order in which they went up.
-use Rattle.std.specs.Prelude.{ℕ, ◌≡◌, ◌≢◌, ◌<◌, ◌≤◌, max, Bool, true, false, List, [], ◌∷◌, ◌++◌}
-use Rattle.std.specs.Prelude.{take}
-use Rattle.std.specs.List.{flat_map}
-use Rattle.multiplier.specs.Arbiter.{control_port}
-use Rattle.multiplier.specs.State.{port_at}
-use Rattle.pm_world.specs.Downward.{times}
-use Rattle.pm_world.specs.Links.{changed_by, is_recorded}
-use Rattle.pm_world.specs.Places.{Places}
-use Rattle.pm_world.specs.Runs.{AfterEveryRun}
-use Rattle.pm_world.specs.Traffic.{is_took, taken}
-use Rattle.pm_world.specs.declared.link.Change.{Change}
+use Rattle.std.specs.{Prelude.{ℕ, ◌≡◌, ◌≢◌, ◌<◌, ◌≤◌, max, Bool, true, false, List, [], ◌∷◌, ◌++◌, take}, List.flat_map}
+use Rattle.multiplier.specs.{Arbiter.control_port, State.port_at}
+use Rattle.pm_world.specs.{Downward.times, Links.{changed_by, is_recorded}, Places.Places, Runs.AfterEveryRun, Traffic.{is_took, taken}}
+use Rattle.pm_world.specs.declared.{link.Change.Change, step.Answer.Answer}
 use Rattle.pm_world.specs.declared.link.Change.TheVariants as change
-use Rattle.pm_world.specs.declared.step.Answer.{Answer}
 use Rattle.pm_world.specs.declared.step.Answer.TheVariants as answer
 
 -- the highest connection that went, 0 if none did

@@ -4,18 +4,11 @@
 --
 -- Cited: runs and what holds at each step of them (specs/Rules.antt, Runs.antt); a port that waits
 -- for an order that clears it (specs/Stale.antt).
-use Rattle.std.specs.Prelude.{ℕ, ◌≡◌, ◌<◌, true, false, List, length}
-use Rattle.std.specs.List.{list_any}
+use Rattle.std.specs.{Prelude.{ℕ, ◌≡◌, ◌<◌, true, false, List, length}, List.list_any}
 use Rattle.hba_driver.specs.Steady.{IsFlushTick}
-use Rattle.pm_world.specs.Attached.{Attached}
-use Rattle.pm_world.specs.Places.{Places, is_config, new_world}
-use Rattle.pm_world.specs.Rules.{Run}
-use Rattle.pm_world.specs.declared.step.Config.{Config}
-use Rattle.pm_world.specs.declared.step.Step.{Step}
-use Rattle.pm_world.specs.declared.step.Answer.{Answer}
+use Rattle.pm_world.specs.{Attached.Attached, Places.{Places, is_config, new_world}, Rules.Run, declared.{step.Config.Config, step.Step.Step}}
+use Rattle.pm_world.specs.{declared.step.Answer.Answer, Runs.AtEach, Stale.{Waits, is_from}}
 use Rattle.pm_world.specs.declared.step.Answer.TheVariants as answer
-use Rattle.pm_world.specs.Runs.{AtEach}
-use Rattle.pm_world.specs.Stale.{Waits, is_from}
 
 -- ---- the port
 

@@ -4,41 +4,28 @@
 -- The refusals of a step are tested first, in their order. Then the step is Idle if it reads from an
 -- empty link or from a unit that is not plugged in. Then it is Blocked if the place it writes to is
 -- full. Only then may it run out of memory, or find that its source has nothing.
-use Rattle.std.specs.Prelude.{ℕ, ◌+◌, ◌≡◌, ◌≢◌, ◌<◌, ◌==◌, ◌&&◌, length, not, Bool, true, false}
-use Rattle.std.specs.Prelude.{IsTrue, if◌then◌else◌, List, [], ◌∷◌, Option, Some, None}
-use Rattle.std.specs.Prelude.{is_none, MatchOption, MatchBool, Result, Ok, Err, IsSomeAnd, slice_get}
-use Rattle.std.specs.Prelude.{take, nat_lt, ◌||◌}
-use Rattle.std.specs.Option.{option_map_or}
-use Rattle.std.specs.declared.alloc.AllocError.{AllocError}
+use Rattle.std.specs.Prelude.{ℕ, ◌+◌, ◌≡◌, ◌≢◌, ◌<◌, ◌==◌, ◌&&◌, length, not, Bool, true, false, IsTrue, if◌then◌else◌, List, [], ◌∷◌, Option, Some}
+use Rattle.std.specs.Prelude.{None, is_none, MatchOption, MatchBool, Result, Ok, Err, IsSomeAnd, slice_get, take, nat_lt, ◌||◌}
+use Rattle.std.specs.{Option.option_map_or, declared.alloc.AllocError.AllocError}
 use Rattle.fis_view.specs.Frames.{Stamped, is_frame}
 use Rattle.host_memory.specs.Memory.{client_start}
 use Rattle.disk_model.specs.Histories.{Plugged, Received}
-use Rattle.pm_ports.specs.Port.{came_refusal as port_came_refusal}
-use Rattle.pm_ports.specs.Port.{gone_refusal as port_gone_refusal}
-use Rattle.pm_ports.specs.declared.port.Offered.{Offered}
-use Rattle.pm_ports.specs.declared.port.Offered.TheVariants.{Held, Dropped}
+use Rattle.pm_ports.specs.Port.{came_refusal as port_came_refusal, gone_refusal as port_gone_refusal}
+use Rattle.pm_ports.specs.declared.port.Offered.{Offered, TheVariants.{Held, Dropped}}
 use Rattle.multiplier.specs.Arbiter.{control_port}
-use Rattle.multiplier.specs.Rules.{DropsOnly, FromDeviceRule, FromHostRule, NextDownRule, NextUpRule}
-use Rattle.multiplier.specs.Rules.{with_device as connected, without_device}
+use Rattle.multiplier.specs.Rules.{DropsOnly, FromDeviceRule, FromHostRule, NextDownRule, NextUpRule, with_device as connected, without_device}
 use Rattle.multiplier.specs.State.{PmState, next_place, port_at}
 use Rattle.multiplier.specs.declared.multiplier.PmRefusal.TheVariants as pm_refusal
 use Rattle.hba_fbs.specs.Sending.{MayRest, is_sent, outgoing}
-use Rattle.hba_driver.specs.HostTurns.{Host, Polls, Pushes, Puts, Submits, Ticks, Tooks, sight_in}
-use Rattle.hba_driver.specs.Requests.{in_use}
-use Rattle.hba_driver.specs.Submits.{completion_of, end_of, submit_refusal}
-use Rattle.hba_driver.specs.Ticks.{acts}
-use Rattle.hba_driver.specs.declared.request.Request.{Request}
+use Rattle.hba_driver.specs.{HostTurns.{Host, Polls, Pushes, Puts, Submits, Ticks, Tooks, sight_in}, Requests.in_use}
+use Rattle.hba_driver.specs.{Submits.{completion_of, end_of, submit_refusal}, Ticks.acts, declared.request.Request.Request}
 use Rattle.pm_world.specs.Attached.{GoesOnAttached, SendsAttached, IsSilentAttached, WantsRoom, PlugWantsRoom}
-use Rattle.pm_world.specs.Places.{Places, Place, Queue, IsFull, AreFull, IsTold, pushed, posted}
-use Rattle.pm_world.specs.Places.{after_sending, with_device, with_multiplier, with_upward}
-use Rattle.pm_world.specs.Places.{with_downward, with_host}
-use Rattle.pm_world.specs.declared.link.Change.{Change}
-use Rattle.pm_world.specs.declared.link.Change.TheVariants as change
-use Rattle.pm_world.specs.declared.step.Step.{Step}
-use Rattle.pm_world.specs.declared.step.Step.TheVariants as step
-use Rattle.pm_world.specs.declared.step.Answer.{Answer}
-use Rattle.pm_world.specs.declared.step.Answer.TheVariants as answer
+use Rattle.pm_world.specs.Places.{Places, Place, Queue, IsFull, AreFull, IsTold, pushed, posted, after_sending, with_device, with_multiplier}
+use Rattle.pm_world.specs.{Places.{with_upward, with_downward, with_host}, declared.{link.Change.Change, step.Step.Step, step.Answer.Answer}}
 use Rattle.pm_world.specs.declared.step.StepError.{StepError}
+use Rattle.pm_world.specs.declared.link.Change.TheVariants as change
+use Rattle.pm_world.specs.declared.step.Step.TheVariants as step
+use Rattle.pm_world.specs.declared.step.Answer.TheVariants as answer
 use Rattle.pm_world.specs.declared.step.StepError.TheVariants as error
 
 -- what a step gives

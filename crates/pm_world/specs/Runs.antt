@@ -1,12 +1,8 @@
 -- What is said over a whole run, step by step, and of the runs that lead to a world.
 use Rattle.std.specs.Prelude.{◌≡◌, true, List, [], ◌∷◌, ◌++◌, length, Ok}
 use Rattle.hba_driver.specs.declared.mode.Mode.{Mode}
-use Rattle.pm_world.specs.Attached.{Attached}
-use Rattle.pm_world.specs.Places.{Places, is_config, new_world_in}
-use Rattle.pm_world.specs.Rules.{Rule, Run}
-use Rattle.pm_world.specs.declared.step.Config.{Config}
-use Rattle.pm_world.specs.declared.step.Step.{Step}
-use Rattle.pm_world.specs.declared.step.Answer.{Answer}
+use Rattle.pm_world.specs.{Attached.Attached, Places.{Places, is_config, new_world_in}, Rules.{Rule, Run}, declared.step.Config.Config}
+use Rattle.pm_world.specs.declared.{step.Step.Step, step.Answer.Answer}
 
 -- what is told of one step with its answer, by the worlds before and after it
 abbrev pub Telling : Type 0 → Type 0

@@ -2,29 +2,16 @@
 -- IDENTIFY data that the host accepted for its port were sent (Serial ATA 3.x, 16.3, port multiplier:
 -- presence of a device on a port; ACS-3, IDENTIFY DEVICE). So no request reaches another device than
 -- the one that was identified.
-use Rattle.std.specs.Prelude.{ℕ, ◌≡◌, ◌<◌, ◌==◌, ◌&&◌, if◌then◌else◌, Bool, false, true, List, []}
-use Rattle.std.specs.Prelude.{◌∷◌, length, take, Option, Some, None, slice_get}
+use Rattle.std.specs.Prelude.{ℕ, ◌≡◌, ◌<◌, ◌==◌, ◌&&◌, if◌then◌else◌, Bool, false, true, List, [], ◌∷◌, length, take, Option, Some, None, slice_get}
 use Rattle.std.specs.List.{list_any}
 use Rattle.fis_view.specs.Frames.{Stamped}
-use Rattle.hba_driver.specs.HostTurns.{sight_in}
-use Rattle.hba_driver.specs.Known.{is_identity, is_request}
-use Rattle.hba_driver.specs.Laws.{flushes}
-use Rattle.hba_driver.specs.Ticks.{effects}
+use Rattle.hba_driver.specs.{HostTurns.sight_in, Known.{is_identity, is_request}, Laws.flushes, Ticks.effects}
 use Rattle.pm_control.specs.Requests.{request_in}
-use Rattle.multiplier.specs.Arbiter.{control_port}
-use Rattle.multiplier.specs.State.{pm_port}
-use Rattle.pm_registers.specs.Bits.{shares}
-use Rattle.pm_registers.specs.Port.{bit_x, is_open}
+use Rattle.multiplier.specs.{Arbiter.control_port, State.pm_port}
+use Rattle.pm_registers.specs.{Bits.shares, Port.{bit_x, is_open}}
 use Rattle.pm_registers.specs.RegisterMap as map
-use Rattle.pm_world.specs.Attached.{Attached}
-use Rattle.pm_world.specs.Cleared.{clears_x}
-use Rattle.pm_world.specs.Downward.{on_down_link, pushed_by}
-use Rattle.pm_world.specs.Places.{Place, Places, is_config, new_world}
-use Rattle.pm_world.specs.Rules.{Run}
-use Rattle.pm_world.specs.Runs.{Telling}
-use Rattle.pm_world.specs.declared.step.Config.{Config}
-use Rattle.pm_world.specs.declared.step.Step.{Step}
-use Rattle.pm_world.specs.declared.step.Answer.{Answer}
+use Rattle.pm_world.specs.{Attached.Attached, Cleared.clears_x, Downward.{on_down_link, pushed_by}, Places.{Place, Places, is_config, new_world}}
+use Rattle.pm_world.specs.{Rules.Run, Runs.Telling, declared.{step.Config.Config, step.Step.Step, step.Answer.Answer}}
 use Rattle.pm_world.specs.declared.step.Answer.TheVariants as answer
 
 -- ---- IDENTIFY data

@@ -6,32 +6,14 @@
 -- touches (specs/HostTouches.antt); requests that ended honestly (specs/HonestEnds.antt, Disks.antt); which bytes a
 -- read and a write both have (specs/ReadBack.antt).
 use Rattle.std.specs.Prelude.{ℕ, ◌≡◌, ◌+◌, ◌-◌, ◌*◌, ◌<◌, suc, true, drop, List, length, slice_index, Some}
-use Rattle.host_memory.specs.Memory.{Memory, client_start}
-use Rattle.host_memory.specs.Place.{LiesInClient, place}
-use Rattle.host_memory.specs.declared.table.Prd.{Prd}
-use Rattle.disk_model.specs.declared.plan.DiskPlan.{DiskPlan}
-use Rattle.disk_model.specs.Histories.{Happening}
-use Rattle.disk_model.specs.Last.{NoneCovers}
-use Rattle.hba_laws.specs.Client.{Touches, own}
-use Rattle.hba_laws.specs.History.{filled}
-use Rattle.hba_driver.specs.declared.request.Completion.{Completion}
-use Rattle.hba_driver.specs.declared.request.Ticket.{Ticket}
-use Rattle.hba_driver.specs.declared.request.Work.TheVariants.{Read, Write}
-use Rattle.hba_driver.specs.Drivers.{Entry}
-use Rattle.hba_driver.specs.HostTurns.{HostTurn}
-use Rattle.hba_driver.specs.Orders.{is_queued}
-use Rattle.hba_driver.specs.Submits.{new_entry}
-use Rattle.pm_world.specs.Attached.{Attached}
-use Rattle.pm_world.specs.Places.{Places, is_config, new_world}
-use Rattle.pm_world.specs.Rules.{Run}
-use Rattle.pm_world.specs.declared.step.Config.{Config}
-use Rattle.pm_world.specs.declared.step.Step.{Step}
-use Rattle.pm_world.specs.declared.step.Answer.{Answer}
-use Rattle.pm_world.specs.Disks.{DiskRun, EndedSince, HasDisk, disk_history}
-use Rattle.pm_world.specs.HonestEnds.{StandsAt}
-use Rattle.pm_world.specs.Polled.{IsPolledHonestly, IsReportedIn}
-use Rattle.pm_world.specs.ReadBack.{IsOneByte, IsPart}
-use Rattle.pm_world.specs.HostTouches.{AreTouched}
+use Rattle.host_memory.specs.{Memory.{Memory, client_start}, Place.{LiesInClient, place}, declared.table.Prd.Prd}
+use Rattle.disk_model.specs.{declared.plan.DiskPlan.DiskPlan, Histories.Happening, Last.NoneCovers}
+use Rattle.hba_laws.specs.{Client.{Touches, own}, History.filled}
+use Rattle.hba_driver.specs.{declared.{request.Completion.Completion, request.Ticket.Ticket, request.Work.TheVariants.{Read, Write}}, Drivers.Entry}
+use Rattle.hba_driver.specs.{HostTurns.HostTurn, Orders.is_queued, Submits.new_entry}
+use Rattle.pm_world.specs.{Attached.Attached, Places.{Places, is_config, new_world}, Rules.Run, declared.{step.Config.Config, step.Step.Step}}
+use Rattle.pm_world.specs.{declared.step.Answer.Answer, Disks.{DiskRun, EndedSince, HasDisk, disk_history}, HonestEnds.StandsAt}
+use Rattle.pm_world.specs.{Polled.{IsPolledHonestly, IsReportedIn}, ReadBack.{IsOneByte, IsPart}, HostTouches.AreTouched}
 
 -- this byte stands in client memory at the place of byte i of these PRDs
 pub record StandsThere (byte : ℕ) (prds : List Prd) (memory : Memory) (i : ℕ) : Type 0 where

@@ -4,15 +4,9 @@
 --
 -- Cited: the turns of the host in a run (specs/Turns.antt) and the runs that lead to a world
 -- (specs/Runs.antt); TurnsKeep of `hba_driver` (specs/Laws.antt), over the host's turns.
-use Rattle.std.specs.Prelude.{ℕ, ◌≡◌, List, [], ◌∷◌, ◌++◌, length}
-use Rattle.std.specs.List.{flat_map, range_with_len}
-use Rattle.hba_driver.specs.HostTurns.{DoesAll}
-use Rattle.hba_driver.specs.Laws.{AreOnce, TurnsKeep}
-use Rattle.pm_world.specs.Places.{Places, opening_host_in}
-use Rattle.pm_world.specs.Rules.{Run}
-use Rattle.pm_world.specs.Runs.{AfterEveryRun, over}
-use Rattle.pm_world.specs.Turns.{turn_of}
-use Rattle.pm_world.specs.declared.step.Step.{Step}
+use Rattle.std.specs.{Prelude.{ℕ, ◌≡◌, List, [], ◌∷◌, ◌++◌, length}, List.{flat_map, range_with_len}}
+use Rattle.hba_driver.specs.{HostTurns.DoesAll, Laws.{AreOnce, TurnsKeep}}
+use Rattle.pm_world.specs.{Places.{Places, opening_host_in}, Rules.Run, Runs.{AfterEveryRun, over}, Turns.turn_of, declared.step.Step.Step}
 use Rattle.pm_world.specs.declared.step.Answer.{Answer}
 use Rattle.pm_world.specs.declared.step.Answer.TheVariants as answer
 

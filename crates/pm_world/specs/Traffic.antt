@@ -1,15 +1,11 @@
 -- What was sent, what was taken, and what is in between (Serial ATA 3.x, 16.3, port multiplier: frame
 -- transmission, PM Port).
-use Rattle.std.specs.Prelude.{ℕ, ◌≡◌, ◌≢◌, ◌<◌, ◌≤◌, ◌==◌, ◌&&◌, if◌then◌else◌, Bool, false, true, List, []}
-use Rattle.std.specs.Prelude.{◌∷◌, ◌++◌, length}
-use Rattle.std.specs.Prelude.{map, filter, Option, Some, None, slice_get, option_to_list}
-use Rattle.std.specs.List.{flat_map}
+use Rattle.std.specs.Prelude.{ℕ, ◌≡◌, ◌≢◌, ◌<◌, ◌≤◌, ◌==◌, ◌&&◌, if◌then◌else◌, Bool, false, true, List, [], ◌∷◌, ◌++◌, length, map, filter, Option}
+use Rattle.std.specs.{Prelude.{Some, None, slice_get, option_to_list}, List.flat_map}
 use Rattle.fis_view.specs.Frames.{Stamped, marked}
-use Rattle.multiplier.specs.Arbiter.{control_port}
-use Rattle.multiplier.specs.State.{PmState, port_at}
+use Rattle.multiplier.specs.{Arbiter.control_port, State.{PmState, port_at}}
 use Rattle.pm_ports.specs.Port.{is_gone}
-use Rattle.pm_world.specs.Places.{Places, Place}
-use Rattle.pm_world.specs.declared.step.Answer.{Answer}
+use Rattle.pm_world.specs.{Places.{Places, Place}, declared.step.Answer.Answer}
 use Rattle.pm_world.specs.declared.step.Answer.TheVariants as answer
 
 -- the bytes that an answer says were sent on connection c of port n, none or one list

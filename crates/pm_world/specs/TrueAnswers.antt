@@ -6,16 +6,9 @@
 -- Cited: the turns of the host in a run (specs/Turns.antt) and the runs that lead to a world
 -- (specs/Runs.antt); WasCompleted and TurnsAccept of `hba_driver` (specs/Done.antt, Accepted.antt).
 use Rattle.std.specs.Prelude.{ℕ, ◌≡◌, List, [], ◌∷◌, ◌++◌}
-use Rattle.hba_driver.specs.declared.mode.Mode.{Mode}
-use Rattle.hba_driver.specs.declared.request.Outcome.TheVariants.{Done}
-use Rattle.hba_driver.specs.Accepted.{TurnsAccept}
-use Rattle.hba_driver.specs.Done.{WasCompleted}
+use Rattle.hba_driver.specs.{declared.{mode.Mode.Mode, request.Outcome.TheVariants.Done}, Accepted.TurnsAccept, Done.WasCompleted}
 use Rattle.hba_driver.specs.HostTurns.{DoesAll, Host, HostTurn}
-use Rattle.pm_world.specs.Places.{Places, opening_host_in}
-use Rattle.pm_world.specs.Rules.{Run}
-use Rattle.pm_world.specs.Runs.{AfterEveryRun, over}
-use Rattle.pm_world.specs.Turns.{turn_of}
-use Rattle.pm_world.specs.declared.step.Step.{Step}
+use Rattle.pm_world.specs.{Places.{Places, opening_host_in}, Rules.Run, Runs.{AfterEveryRun, over}, Turns.turn_of, declared.step.Step.Step}
 use Rattle.pm_world.specs.declared.step.Answer.{Answer}
 use Rattle.pm_world.specs.declared.step.Answer.TheVariants as answer
 

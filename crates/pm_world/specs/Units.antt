@@ -1,17 +1,10 @@
 -- What a unit went through in a run, and that it lives on from it (Serial ATA 3.x, 16.3, port
 -- multiplier). What a device may do is cited from `disk_model` (specs/Histories.antt and Units.antt).
-use Rattle.std.specs.Prelude.{ℕ, ◌≡◌, ◌==◌, if◌then◌else◌, false, List, [], ◌∷◌, ◌++◌, Some, None}
-use Rattle.std.specs.Prelude.{map, take, slice_get, IsSomeAnd, MatchOption}
-use Rattle.disk_model.specs.Histories.{Happening, Received, Sent, Plugged, Loaded, Plan}
-use Rattle.disk_model.specs.Units.{MaySend}
-use Rattle.pm_world.specs.Attached.{Attached, plan_of, StandsFor}
-use Rattle.pm_world.specs.Downward.{on_down_link}
-use Rattle.pm_world.specs.Places.{Places}
-use Rattle.pm_world.specs.Rules.{Run}
-use Rattle.pm_world.specs.Runs.{AfterEveryRun, Telling, over}
-use Rattle.pm_world.specs.declared.step.Step.{Step}
+use Rattle.std.specs.Prelude.{ℕ, ◌≡◌, ◌==◌, if◌then◌else◌, false, List, [], ◌∷◌, ◌++◌, Some, None, map, take, slice_get, IsSomeAnd, MatchOption}
+use Rattle.disk_model.specs.{Histories.{Happening, Received, Sent, Plugged, Loaded, Plan}, Units.MaySend}
+use Rattle.pm_world.specs.{Attached.{Attached, plan_of, StandsFor}, Downward.on_down_link, Places.Places, Rules.Run}
+use Rattle.pm_world.specs.{Runs.{AfterEveryRun, Telling, over}, declared.{step.Step.Step, step.Answer.Answer}}
 use Rattle.pm_world.specs.declared.step.Step.TheVariants as step
-use Rattle.pm_world.specs.declared.step.Answer.{Answer}
 use Rattle.pm_world.specs.declared.step.Answer.TheVariants as answer
 
 -- What a step with this answer means to the unit at port n: it was plugged in, it took a FIS that was

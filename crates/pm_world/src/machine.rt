@@ -93,6 +93,7 @@ impl<D: PortDevice + Drop> Machine<D> {
             IfOk result (λ answer. AreLawful self.old steps (answer ∷ []) self.new) }
         ensures refused { OnErr result (self.new ≡ self.old) }
     {
+        // Read, so that what its type says of it is known here.
         let _ = &self.seats;
         self.act(alloc, step)
     }
@@ -137,6 +138,7 @@ impl<D: PortDevice + Drop> Machine<D> {
             IfErr result (λ e. Stops self.old steps.now e.0 e.1 told self.new
             × AreLawful self.old (take e.0 steps.now) told self.new) }
     {
+        // Read, so that what its type says of it is known here.
         let _ = &self.seats;
         let Some(first) = steps.first() else {
             return Ok(());

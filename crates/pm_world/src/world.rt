@@ -75,6 +75,7 @@ impl<D: PortDevice + Drop> World<D> {
     pub fn keeps_rules(&self)
         ensures { IsReached self.now }
     {
+        // Read, so that what its type says of it is known here.
         let _ = &self.machine;
     }
 

@@ -2,55 +2,38 @@
 -- and to its reset where they went there.
 use Rattle.std.proofs.Common.{◌≡◌, ◌≢◌, ℕ, ◌<◌, ◌||◌, Bool, true, false, nat_lt, List, length, refl, sym, ap, subst, ◌∙◌, inl, inr, arith, Option}
 use Rattle.std.proofs.Common.{Some, None}
-use Rattle.std.specs.Prelude.{◌⊎◌, if◌then◌else◌, is_some, ◌%◌, ◌/◌, ◌==◌}
-use Rattle.std.specs.Option.{option_map, option_or}
-use Rattle.std.proofs.lemmas.Bool.{cases_eq, false≢true, le-ltb, true≢false}
-use Rattle.std.proofs.lemmas.Bool.Decides.{nat_tests}
-use Rattle.fis_view.specs.Built.{IsBuilt, h2d_given}
-use Rattle.fis_view.specs.Frames.{IsFrame, Stamped, marked}
-use Rattle.fis_view.specs.Table.{H2d, field}
+use Rattle.std.specs.{Prelude.{◌⊎◌, if◌then◌else◌, is_some, ◌%◌, ◌/◌, ◌==◌}, Option.{option_map, option_or}}
+use Rattle.std.proofs.lemmas.{Bool.{cases_eq, false≢true, le-ltb, true≢false}, Bool.Decides.nat_tests}
+use Rattle.fis_view.specs.{Built.{IsBuilt, h2d_given}, Frames.{IsFrame, Stamped, marked}, Table.{H2d, field}, declared.build.H2dFields.H2dFields}
 use Rattle.fis_view.specs.Table as name
-use Rattle.fis_view.specs.declared.build.H2dFields.{H2dFields}
 use Rattle.hba_commands.proofs.Door.{built_long}
 use Rattle.slots.specs.Slots.{has_bit}
-use Rattle.hba_fbs.specs.Sending.{Data, Gives, Order as Goes, Outgoing, outgoing}
-use Rattle.hba_fbs.specs.Taking.{ignores, is_running, port_of}
+use Rattle.hba_fbs.specs.{Sending.{Data, Gives, Order as Goes, Outgoing, outgoing}, Taking.{ignores, is_running, port_of}}
 use Rattle.hba_fbs.specs.Views.{DeviceView, stopped_view, view_of}
 use Rattle.disk_model.specs.declared.request.Request.TheVariants as asked
-use Rattle.disk_model.specs.Anew.{IsRequest}
-use Rattle.disk_model.specs.Requests.{command_request, names_error_log, request_of}
+use Rattle.disk_model.specs.{Anew.IsRequest, Requests.{command_request, names_error_log, request_of}}
 use Rattle.disk_simulation.proofs.Door.{marks_ask_nothing}
 use Rattle.hba_laws.specs.Client.{Touches}
 use Rattle.hba_laws.proofs.Door.{some_inj}
-use Rattle.hba_driver.specs.declared.mode.Mode.TheVariants.{Switching}
-use Rattle.hba_driver.specs.declared.path.Recovery.{Recovery}
-use Rattle.hba_driver.specs.declared.path.Recovery.TheVariants.{Log, Reset}
-use Rattle.hba_driver.specs.declared.path.Stage.TheVariants.{ReadLog}
-use Rattle.hba_driver.specs.declared.plan.Device.TheVariants.{Ready, Recovering}
-use Rattle.hba_driver.specs.declared.plan.Plan.{Plan}
-use Rattle.hba_driver.specs.declared.slot.Phase.{Phase}
-use Rattle.hba_driver.specs.declared.slot.Phase.TheVariants.{Aside, Ended}
+use Rattle.hba_driver.specs.declared.{mode.Mode.TheVariants.Switching, path.Recovery.{Recovery, TheVariants.{Log, Reset}}}
+use Rattle.hba_driver.specs.declared.{path.Stage.TheVariants.ReadLog, plan.Device.TheVariants.{Ready, Recovering}, plan.Plan.Plan}
+use Rattle.hba_driver.specs.declared.slot.Phase.{Phase, TheVariants.{Aside, Ended}}
 use Rattle.hba_driver.specs.Drivers.{Driver, Entry, device_at, has_ended_in, is_aside_in, is_issued_in, waits_in}
 use Rattle.hba_driver.specs.Effects.{ActsAll, clearing, effects_of}
-use Rattle.hba_driver.specs.HostTurns.{Does, Host, HostTurn, Polled, Pushed, Put, Submitted, Ticked, Took, sight_in}
-use Rattle.hba_driver.specs.Orders.{control, log_fields}
+use Rattle.hba_driver.specs.{HostTurns.{Does, Host, HostTurn, Polled, Pushed, Put, Submitted, Ticked, Took, sight_in}, Orders.{control, log_fields}}
 use Rattle.hba_driver.specs.Sights.{file_shown}
 use Rattle.hba_driver.specs.Slot30.{Asks, Cleared, Clears, Faulty, FindsNone, IsAt30, IsCleared, IsLogged, IsNext30, IsOn30, IsUnflushed, IsUnsought}
-use Rattle.hba_driver.specs.Slot30.{MayCome30, Off, On, Sets}
-use Rattle.hba_driver.specs.Slot30.{Stage30, TakesOn30, TicksOn30, Turns30, fields30, is_faulty, sent30}
+use Rattle.hba_driver.specs.Slot30.{MayCome30, Off, On, Sets, Stage30, TakesOn30, TicksOn30, Turns30, fields30, is_faulty, sent30}
 use Rattle.hba_driver.specs.Steady.{IsCalmTick, IsClearTick, IsFine, IsFlushTick, detects}
 use Rattle.hba_driver.specs.Tended.{Awaits, Fine, Identifies, IsLiveAt, IsTended, IsTendedBy, Logs, Releases, Spoilt, TendsOn}
 use Rattle.hba_driver.specs.Ticks.{acted, after_tick, cleared_plan, done_ended, due, effects_due, from_reset, plan_after, recovering, seen, turn}
 use Rattle.hba_driver.specs.Turns.{control_news, control_seen, control_turn, early_due, fault_due, opening_due, plain_turn, restart_due, turn_of}
 use Rattle.hba_driver.specs.Between.{MayClear, MayEnd}
-use Rattle.hba_driver.proofs.Door.{calm_or_flush, cleared_faulty, clearing_own_view, clearing_view, faulty_shown}
-use Rattle.hba_driver.proofs.Door.{may_end, pushes_on, set_other, sight_is, skipped_as, stays_on}
-use Rattle.hba_driver.proofs.Door.{stays_unsought, takes_lead, tick_acts, ticks_lead, turn_tended}
-use Rattle.disk_recovery.proofs.honest.FisLemmas.{fields_read, request_by}
-use Rattle.disk_recovery.proofs.honest.PushLemmas.{frame_by}
-use Rattle.disk_recovery.proofs.aside.BesideLemmas.{IsUnticked, plan_same}
-use Rattle.disk_recovery.specs.Stages.{GoesByReset}
+use Rattle.hba_driver.proofs.Door.{calm_or_flush, cleared_faulty, clearing_own_view, clearing_view, faulty_shown, may_end, pushes_on, set_other}
+use Rattle.hba_driver.proofs.Door.{sight_is, skipped_as, stays_on, stays_unsought, takes_lead, tick_acts, ticks_lead, turn_tended}
+use Rattle.disk_recovery.proofs.{honest.{FisLemmas.{fields_read, request_by}, PushLemmas.frame_by}, aside.BesideLemmas.{IsUnticked, plan_same}}
 use Rattle.disk_recovery.proofs.aside.ApartLines.{request30}
+use Rattle.disk_recovery.specs.Stages.{GoesByReset}
 
 -- ---- from stage to stage
 
@@ -313,7 +296,6 @@ leads_to n stage next (Took frame report) none is = elim (cases_eq (port_of fram
   | inl own ↦ inr (inr (is.0 own))
   | inr other ↦ inl (is.1 other)
 ]
-leads_to n stage next (Pushed None) none is = inl is
 leads_to n stage next (Pushed (Some frame)) none is = elim (cases_eq frame.stamp.port n) [
   | inl own ↦ inr (inl (ap is_some (is.0 own).are, (is.0 own).after))
   | inr other ↦ inl (is.1 other)
@@ -459,13 +441,7 @@ module _ (n : ℕ) (past : Touches) (old : Host) (acts : Bool) (new : Host) (low
 -- a device that goes by its reset does so on
 pub resets : (n : ℕ) (past : Touches) (old : Host) (turn : HostTurn) (new : Host) (stage : Stage30) → n < 15 → IsOn30 past old → Does old turn new
     → MayBe30 n stage old turn → IsUnsought n old → IsAt30 n stage old → (t : Turns30 n stage turn new) → GoesByReset n stage old → GoesByReset n t.next new
-resets n past old (Took frame report) new stage low on does may off at t goes =
-    rests_on n old (Took frame report) new tt does stage t.next at t.is goes
 resets n past old (Ticked acts) new stage low on does may off at t goes = ticks_go n past old acts new low on does may off stage t.next at t.at t.is goes
-resets n past old (Submitted dev request ticket) new stage low on does may off at t goes =
-    rests_on n old (Submitted dev request ticket) new tt does stage t.next at t.is goes
-resets n past old (Polled completion) new stage low on does may off at t goes =
-    rests_on n old (Polled completion) new tt does stage t.next at t.is goes
 resets n past old other new stage low on does may off at t goes = rests_on n old other new tt does stage t.next at t.is goes
 
 -- ---- what slot 30 holds asks the disk for that

@@ -1,33 +1,19 @@
 -- For `ends_go_on`. From where the fault of a disk that failed was cleared up to where its log is asked for, the port shows neither BSY nor
 -- DRQ of it.
-use Rattle.std.proofs.Common.{◌≡◌, ◌≢◌, ℕ, ◌^◌, ◌<◌, ◌⊎◌, Bool, true, false, List, [], ◌∷◌, min, refl, sym, ap, subst, ◌∙◌, inl, inr, arith, Option}
-use Rattle.std.proofs.Common.{Some, None}
-use Rattle.std.specs.Prelude.{◌==◌, if◌then◌else◌, bit_and, is_some}
-use Rattle.std.specs.Int.{bit_at}
-use Rattle.std.proofs.lemmas.Bool.{cases_eq}
-use Rattle.std.proofs.lemmas.Nat.Bits.{bit_at-lt, bit_at_and}
-use Rattle.hba_fbs.specs.declared.register.Register.TheVariants.{Ci}
-use Rattle.hba_fbs.specs.declared.state.DeviceState.{DeviceState}
-use Rattle.hba_fbs.specs.Issuing.{aimed, view_issued}
-use Rattle.hba_fbs.specs.Sending.{outgoing}
-use Rattle.hba_fbs.specs.Status.{is_busy, wants_data}
-use Rattle.hba_fbs.specs.Taking.{ignores, port_of}
-use Rattle.hba_fbs.specs.Views.{DeviceView, stopped_view, view_of}
-use Rattle.hba_fbs.specs.Writing.{view_after}
-use Rattle.hba_laws.specs.Client.{Touches}
+use Rattle.std.proofs.Common.{◌≡◌, ◌≢◌, ℕ, ◌^◌, ◌<◌, ◌⊎◌, Bool, true, false, List, [], ◌∷◌, min, refl, sym, ap, subst, ◌∙◌, inl, inr, arith, Some, None}
+use Rattle.std.specs.{Prelude.{◌==◌, if◌then◌else◌, bit_and}, Int.bit_at}
+use Rattle.std.proofs.lemmas.{Bool.cases_eq, Nat.Bits.{bit_at-lt, bit_at_and}}
+use Rattle.hba_fbs.specs.{declared.{register.Register.TheVariants.Ci, state.DeviceState.DeviceState}, Issuing.{aimed, view_issued}, Sending.outgoing}
+use Rattle.hba_fbs.specs.{Status.{is_busy, wants_data}, Taking.{ignores, port_of}, Views.{DeviceView, stopped_view, view_of}, Writing.view_after}
+use Rattle.hba_laws.specs.{Client.Touches, Hosts.{HostEvent, Runs}}
 use Rattle.hba_laws.specs.Hosts as event
-use Rattle.hba_laws.specs.Hosts.{HostEvent, Runs}
 use Rattle.disk_simulation.specs.Elsewhere.{IsElsewhere, LeavesDevice}
 use Rattle.disk_simulation.proofs.Door.{others_leave_device}
-use Rattle.hba_driver.specs.Events.{events_over, shared_by}
-use Rattle.hba_driver.specs.HostTurns.{Does, DoesAll, Host, HostTurn, Polled, Pushed, Put, Submitted, Ticked, Took}
-use Rattle.hba_driver.specs.Served.{RunServes}
-use Rattle.hba_driver.specs.Slot30.{Asks, Cleared, Clears, Faulty, IsAt30, IsNext30, IsOn30, LogSent, Off, On, Sets, Stage30, TicksOn30, Turns30, is_faulty}
+use Rattle.hba_driver.specs.{Events.{events_over, shared_by}, HostTurns.{Does, DoesAll, Host, HostTurn, Pushed, Ticked, Took}, Served.RunServes}
+use Rattle.hba_driver.specs.Slot30.{Asks, Cleared, Clears, Faulty, IsAt30, IsNext30, IsOn30, On, Stage30, TicksOn30, Turns30, is_faulty}
 use Rattle.hba_driver.specs.Steady.{IsCalmTick, IsFlushTick, Issues}
 use Rattle.hba_driver.proofs.Door.{turns_serve}
-use Rattle.disk_recovery.specs.Between.{AreAway}
-use Rattle.disk_recovery.specs.Ends.{IsBesideTurn}
-use Rattle.disk_recovery.specs.Stages.{GoesByLog, IsIdle}
+use Rattle.disk_recovery.specs.{Between.AreAway, Ends.IsBesideTurn, Stages.{GoesByLog, IsIdle}}
 use Rattle.disk_recovery.proofs.aside.ApartDriver.{calm_tick, cleared_view, pushed_none, pushed_other}
 use Rattle.disk_recovery.proofs.aside.BesideLemmas.{EventsAway, IsUnticked, events_away}
 
@@ -150,18 +136,12 @@ module _ (n : ℕ) (past : Touches) (old : Host) (acts : Bool) (new : Host) (bel
   ticks_idle Asks next at now is goes = still_idle Asks next refl at goes
   ticks_idle On next at now (inl is) goes = to_stage next On is tt
   ticks_idle On next at now (inr is) goes = to_stage next Clears is tt
-  ticks_idle LogSent next at now is goes = to_stage next LogSent is tt
-  ticks_idle Sets next at now is goes = to_stage next Sets is tt
-  ticks_idle Clears next at now is goes = to_stage next Clears is tt
-  ticks_idle Off next at now is goes = to_stage next Off is tt
+  ticks_idle other next at now is goes = to_stage next other is tt
 
 -- a device whose log is about to be asked for stays idle
 pub idles : (n : ℕ) (past : Touches) (old : Host) (turn : HostTurn) (new : Host) (stage : Stage30) → n < 15 → IsOn30 past old → Does old turn new
     → IsBesideTurn n old turn → IsAt30 n stage old → (t : Turns30 n stage turn new) → GoesByLog n stage old → GoesByLog n t.next new
 idles n past old (Ticked acts) new stage below on does beside at t goes = ticks_idle n past old acts new below on does beside stage t.next at t.at t.is goes
-idles n past old (Took frame report) new stage below on does beside at t goes =
-    subst (λ (s : Stage30). GoesByLog n s new) (sym (stage_beside n stage t.next old (Took frame report) tt beside t.is))
-    (goes_view n old new stage (ap (λ (w : DeviceView). w.state) (view_beside n old (Took frame report) new tt does beside)) goes)
 idles n past old other new stage below on does beside at t goes =
     subst (λ (s : Stage30). GoesByLog n s new) (sym (stage_beside n stage t.next old other tt beside t.is))
     (goes_view n old new stage (ap (λ (w : DeviceView). w.state) (view_beside n old other new tt does beside)) goes)

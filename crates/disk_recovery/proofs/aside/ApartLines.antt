@@ -1,16 +1,14 @@
 -- For `ends_go_on`. How slot 30 of a device that is set aside and the line of its link fit together, and go on
 -- together.
 use Rattle.std.proofs.Common.{◌≡◌, ℕ, true, false, List, [], ◌∷◌, ◌++◌, refl, sym, ap, subst, ◌∙◌, inl, inr, Some, None}
-use Rattle.fis_view.specs.declared.build.H2dFields.{H2dFields}
-use Rattle.fis_view.specs.Seen.{seen}
+use Rattle.fis_view.specs.{declared.build.H2dFields.H2dFields, Seen.seen}
 use Rattle.hba_fbs.specs.Posting.{signs}
 use Rattle.hba_driver.specs.HostTurns.{Host}
 use Rattle.hba_driver.specs.Slot30.{Asks, Cleared, Clears, Faulty, LogSent, MayCome30, Off, On, Sets, Stage30, TakesOn30, TicksOn30, fields30, sent30}
-use Rattle.disk_model.specs.declared.request.Request.{Request}
+use Rattle.disk_model.specs.{declared.request.Request.Request, Anew.IsRequest, Ledger.{Ledger, LogOf, ShowsPage, Signs, Wanted}}
 use Rattle.disk_model.specs.declared.request.Request.TheVariants as asked
-use Rattle.disk_model.specs.Anew.{IsRequest}
-use Rattle.disk_model.specs.Ledger.{Ledger, LogOf, ShowsPage, Signs, Wanted}
-use Rattle.disk_simulation.specs.Line.{Asked, Both, BothBegin, ComesTo, Failed, HasSpoken, Held, IsBoth, Line, LinesGoOn, Loose, OnLine, Releasing, Resting}
+use Rattle.disk_simulation.specs.Line.{Asked, Both, BothBegin, ComesTo, Failed, HasSpoken, Held, IsBoth, Line, LinesGoOn, Loose, OnLine, Releasing}
+use Rattle.disk_simulation.specs.Line.{Resting}
 use Rattle.disk_recovery.specs.Stages.{Fits, FitsAsked, FitsFailed, FitsHeld, FitsLoose, FitsOff, GoesByLog, GoesByReset, Leans}
 
 -- The line may stand at the first of these, and then it stands at the other too.

@@ -1,29 +1,21 @@
 -- For `ends_go_on`. A device that is set aside stays so over each turn of the host and each step of the disk, or both
 -- begin anew as the disk takes a FIS.
 use Rattle.std.proofs.Common.{◌≡◌, ℕ, ◌<◌, arith, false, List, [], ◌∷◌, ◌++◌, refl, sym, subst, ◌∙◌, inl, Some}
-use Rattle.fis_view.specs.Frames.{IsFrame, Stamped, marked}
-use Rattle.fis_view.specs.Seen.{seen}
-use Rattle.hba_fbs.specs.declared.report.TakeReport.{TakeReport}
-use Rattle.hba_fbs.specs.Posting.{signs}
-use Rattle.hba_fbs.specs.Taking.{port_of}
+use Rattle.fis_view.specs.{Frames.{IsFrame, Stamped, marked}, Seen.seen}
+use Rattle.hba_fbs.specs.{declared.report.TakeReport.TakeReport, Posting.signs, Taking.port_of}
 use Rattle.hba_laws.specs.Client.{Touches}
-use Rattle.disk_model.specs.declared.plan.DiskPlan.{DiskPlan}
-use Rattle.disk_model.specs.Anew.{IsRequest}
-use Rattle.disk_model.specs.Histories.{Happening, Received, Sent}
-use Rattle.disk_model.specs.Ledger.{IsSize, Ledger, ShowsPage, Signs, Wanted, ledger}
-use Rattle.disk_model.specs.Runs.{IsDiskRun}
+use Rattle.disk_model.specs.{declared.plan.DiskPlan.DiskPlan, Anew.IsRequest, Histories.{Happening, Received, Sent}}
+use Rattle.disk_model.specs.{Ledger.{IsSize, Ledger, ShowsPage, Signs, Wanted, ledger}, Runs.IsDiskRun}
 use Rattle.disk_simulation.specs.Line.{Asked, BothBegin, Failed, GoesUp, HasSpoken, IsTaken, Line, LinesGoOn, Loose, OnLine}
 use Rattle.disk_simulation.proofs.Door.{lines_go_on, marks_ask_nothing}
 use Rattle.hba_driver.specs.HostTurns.{Does, DoesAll, Host, HostTurn, Pushed, Ticked, Took}
-use Rattle.hba_driver.specs.Slot30.{Cleared, Faulty, Goes30, IsAt30, IsNext30, IsOn30, IsUnsought, LogSent, Off, On, Stage30, TicksOn30}
-use Rattle.hba_driver.specs.Slot30.{Turns30, sent30}
+use Rattle.hba_driver.specs.Slot30.{Cleared, Faulty, Goes30, IsAt30, IsNext30, IsOn30, IsUnsought, LogSent, Off, On, Stage30, TicksOn30, Turns30}
+use Rattle.hba_driver.specs.Slot30.{sent30}
 use Rattle.hba_driver.proofs.Door.{turns_serve}
-use Rattle.disk_recovery.specs.Ends.{Apart, AreFloors, EndsAfter, IsBesideTurn, IsRunning, IsSetAside}
-use Rattle.disk_recovery.specs.Stages.{Fits, Leans}
-use Rattle.disk_recovery.proofs.aside.ApartDriver.{MayBe30, leads, requests, resets, still_off}
-use Rattle.disk_recovery.proofs.aside.ApartIdle.{idles}
-use Rattle.disk_recovery.proofs.aside.ApartLines.{Comes30, IsFit, IsGiven, Line30, LogRead, ResetDone, comes_on, given_on, may_come, request30, takes_on}
-use Rattle.disk_recovery.proofs.aside.ApartLines.{ticks_on}
+use Rattle.disk_recovery.specs.{Ends.{Apart, AreFloors, EndsAfter, IsBesideTurn, IsRunning, IsSetAside}, Stages.{Fits, Leans}}
+use Rattle.disk_recovery.proofs.aside.{ApartDriver.{MayBe30, leads, requests, resets, still_off}, ApartIdle.idles}
+use Rattle.disk_recovery.proofs.aside.ApartLines.{Comes30, IsFit, IsGiven, Line30, LogRead, ResetDone, comes_on, given_on, may_come, request30}
+use Rattle.disk_recovery.proofs.aside.ApartLines.{takes_on, ticks_on}
 
 -- ---- what goes on
 

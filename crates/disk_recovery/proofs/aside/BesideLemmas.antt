@@ -1,36 +1,22 @@
 -- For `ends_go_on`. What a turn beside the link leaves of a device: one that recovers from nothing, what is awaited of
 -- it, and its task file.
-use Rattle.std.proofs.Common.{◌≡◌, ℕ, zero, suc, ◌^◌, ◌<◌, ◌⊎◌, Bool, true, false, List, [], ◌∷◌, ◌++◌, sym, ◌∙◌, ap, subst, inl, inr, Option, Some}
-use Rattle.std.proofs.Common.{None}
+use Rattle.std.proofs.Common.{◌≡◌, ℕ, zero, suc, ◌^◌, ◌<◌, ◌⊎◌, Bool, true, false, List, [], ◌∷◌, ◌++◌, sym, ◌∙◌, ap, subst, inl, inr, Option, Some, None}
 use Rattle.host_memory.specs.Memory.{Memory}
 use Rattle.hba_commands.specs.declared.command.Command as issued_command
-use Rattle.hba_fbs.specs.declared.register.Register.TheVariants.{Ci}
-use Rattle.hba_fbs.specs.Issuing.{asked}
-use Rattle.hba_fbs.specs.Views.{view_of}
-use Rattle.hba_laws.specs.Client.{Touches, own}
-use Rattle.hba_laws.specs.Delivering.{issued_below, touched, touches_after}
-use Rattle.hba_laws.specs.History.{History, is_at, unless, waiting_in}
+use Rattle.hba_fbs.specs.{declared.register.Register.TheVariants.Ci, Issuing.asked, Views.view_of}
+use Rattle.hba_laws.specs.{Client.{Touches, own}, Delivering.{issued_below, touched, touches_after}, History.{History, is_at, unless, waiting_in}}
+use Rattle.hba_laws.specs.{Hosts.{HostEvent, Runs}, Between.{history_below, with_issued}}
 use Rattle.hba_laws.specs.Hosts as event
-use Rattle.hba_laws.specs.Hosts.{HostEvent, Runs}
-use Rattle.hba_laws.specs.Between.{history_below, with_issued}
 use Rattle.hba_laws.proofs.Door.{own_app, own_below_is}
-use Rattle.disk_simulation.specs.Elsewhere.{IsElsewhere, LeavesDevice}
-use Rattle.disk_simulation.specs.Files.{IsFineFile}
+use Rattle.disk_simulation.specs.{Elsewhere.{IsElsewhere, LeavesDevice}, Files.IsFineFile}
 use Rattle.disk_simulation.proofs.Door.{files_are_left, others_leave_device}
-use Rattle.hba_driver.specs.declared.path.TaskFile.{TaskFile}
-use Rattle.hba_driver.specs.declared.plan.Plan.{Plan}
-use Rattle.hba_driver.specs.Drivers.{Driver, device_at}
+use Rattle.hba_driver.specs.{declared.{path.TaskFile.TaskFile, plan.Plan.Plan}, Drivers.{Driver, device_at}}
 use Rattle.hba_driver.specs.Events.{IsSoundHost, events_over, shared_by}
-use Rattle.hba_driver.specs.HostTurns.{Does, DoesAll, Host, HostTurn, Polled, Pushed, Submitted, Ticked, Took, sight_in}
-use Rattle.hba_driver.specs.Served.{AreBounded}
-use Rattle.hba_driver.specs.Sights.{file_shown}
-use Rattle.hba_driver.specs.Steady.{IsCalmTick, IsFine, IsSteadyPlan, IsSteadyTurn, Issues, slot_in}
-use Rattle.hba_driver.specs.Ticks.{after_tick, done_ended, seen, turn}
-use Rattle.hba_driver.specs.Between.{PlanKeeps, Signs}
-use Rattle.hba_driver.proofs.Door.{act_keeps, acted_plan, keeps_then, of_turn, poll_plan, signed_by}
-use Rattle.hba_driver.proofs.Door.{tick_beside, turn_keeps}
-use Rattle.disk_recovery.specs.Kept.{IsCalmTurn}
-use Rattle.disk_recovery.specs.Between.{AreAway}
+use Rattle.hba_driver.specs.{HostTurns.{Does, DoesAll, Host, HostTurn, Polled, Pushed, Submitted, Ticked, Took, sight_in}, Served.AreBounded}
+use Rattle.hba_driver.specs.{Sights.file_shown, Steady.{IsCalmTick, IsFine, IsSteadyPlan, IsSteadyTurn, Issues, slot_in}}
+use Rattle.hba_driver.specs.{Ticks.{after_tick, done_ended, seen, turn}, Between.{PlanKeeps, Signs}}
+use Rattle.hba_driver.proofs.Door.{act_keeps, acted_plan, keeps_then, of_turn, poll_plan, signed_by, tick_beside, turn_keeps}
+use Rattle.disk_recovery.specs.{Kept.IsCalmTurn, Between.AreAway}
 use Rattle.disk_recovery.proofs.honest.AwayLemmas.{beside_away}
 
 -- ---- the plan
@@ -66,15 +52,9 @@ fine_as n p q same fine = subst (λ (x : Plan). IsFine (device_at x n)) (sym sam
 -- a device that recovers from nothing goes on to
 pub fine_stays : (n : ℕ) (old : Host) (turn : HostTurn) (new : Host) → Does old turn new → IsSteadyTurn n old turn → IsSteadyPlan n old.driver.plan
     → IsFine (device_at new.driver.plan n)
-fine_stays n old (Took frame report) new does steady h =
-    fine_as n old.driver.plan new.driver.plan (plan_same old (Took frame report) new does tt) h.fine
 fine_stays n old (Ticked acted) new does steady h =
     fine_as n (after_tick (sight_in old) (file_shown new.port) old.driver).plan new.driver.plan (ap (λ (d : Driver). d.plan) does.driver)
     (tick_plan n old (file_shown new.port) steady h).steady.fine
-fine_stays n old (Submitted dev request ticket) new does steady h =
-    fine_as n old.driver.plan new.driver.plan (plan_same old (Submitted dev request ticket) new does tt) h.fine
-fine_stays n old (Polled completion) new does steady h =
-    fine_as n old.driver.plan new.driver.plan (plan_same old (Polled completion) new does tt) h.fine
 fine_stays n old other new does steady h = fine_as n old.driver.plan new.driver.plan (plan_same old other new does tt) h.fine
 
 -- ---- the events of a calm turn

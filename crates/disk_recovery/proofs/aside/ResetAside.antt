@@ -7,27 +7,16 @@ use Rattle.hba_fbs.specs.Views.{view_of}
 use Rattle.disk_model.specs.Histories.{Happening}
 use Rattle.hba_laws.specs.Client.{Touches}
 use Rattle.hba_driver.specs.declared.mode.Mode.TheVariants.{Switching}
-use Rattle.hba_driver.specs.declared.path.Stage.{Stage}
-use Rattle.hba_driver.specs.declared.path.Stage.TheVariants.{AssertReset, AwaitReset, Identify, ReadLog, ReleaseReset}
-use Rattle.hba_driver.specs.declared.plan.Plan.{Plan}
-use Rattle.hba_driver.specs.Drivers.{Driver}
-use Rattle.hba_driver.specs.Effects.{ActsAll, effects_of, stage_effects}
-use Rattle.hba_driver.specs.HostTurns.{Does, DoesAll, Host, Ticked, sight_in}
-use Rattle.hba_driver.specs.Orders.{control}
-use Rattle.hba_driver.specs.Paths.{stage_fields}
-use Rattle.hba_driver.specs.Resetting.{IsSetDriven}
-use Rattle.hba_driver.specs.Sights.{file_shown}
-use Rattle.hba_driver.specs.Slot30.{IsAt30, IsOn30, Sets}
+use Rattle.hba_driver.specs.declared.{path.Stage.{Stage, TheVariants.{AssertReset, AwaitReset, Identify, ReadLog, ReleaseReset}}, plan.Plan.Plan}
+use Rattle.hba_driver.specs.{Drivers.Driver, Effects.{ActsAll, effects_of, stage_effects}, HostTurns.{Does, DoesAll, Host, Ticked, sight_in}}
+use Rattle.hba_driver.specs.{Orders.control, Paths.stage_fields, Resetting.IsSetDriven, Sights.file_shown, Slot30.{IsAt30, IsOn30, Sets}}
 use Rattle.hba_driver.specs.Steady.{IsCalmAct}
 use Rattle.hba_driver.specs.Tended.{Awaits, Fine, Identifies, IsAtStage, IsReleasing, IsResetTurn, IsTendedBy, Logs, Releases, Spoilt, TendsOn}
-use Rattle.hba_driver.specs.Ticks.{done_ended, due, effects_due, seen}
-use Rattle.hba_driver.specs.Between.{Due, IsUp, Issues30, MayStep, Runs, beside}
-use Rattle.hba_driver.proofs.Door.{at_stage, due_seen, each_reset_is_driven, free_slot}
-use Rattle.hba_driver.proofs.Door.{not_below, not_busy, runs_turn, seen_served, sound_beside, stage_is}
-use Rattle.hba_driver.proofs.Door.{step30, tick_acts, tick_is, turn_tended, unworked, up_of}
-use Rattle.disk_recovery.specs.Together.{IsServedOn, ResetsAt}
+use Rattle.hba_driver.specs.{Ticks.{done_ended, due, effects_due, seen}, Between.{Due, IsUp, Issues30, MayStep, Runs, beside}}
+use Rattle.hba_driver.proofs.Door.{at_stage, due_seen, each_reset_is_driven, free_slot, not_below, not_busy, runs_turn, seen_served, sound_beside}
+use Rattle.hba_driver.proofs.Door.{stage_is, step30, tick_acts, tick_is, turn_tended, unworked, up_of}
+use Rattle.disk_recovery.specs.{Together.{IsServedOn, ResetsAt}, Resets.ResetSetsAside}
 use Rattle.disk_recovery.proofs.together.TogetherParts.{calm_turns_go_on}
-use Rattle.disk_recovery.specs.Resets.{ResetSetsAside}
 use Rattle.disk_simulation.specs.Same.{SlotCommand}
 
 assert_given : (n : ℕ) → stage_fields n AssertReset ≡ Some (control n 4)

@@ -3,40 +3,24 @@
 use Rattle.std.proofs.Common.{◌≡◌, ℕ, ◌<◌, ◌≤◌, ◌⊎◌, true, false, List, [], ◌∷◌, ◌++◌, refl, sym, ◌∙◌, ap, subst, inl, inr, None, length, arith}
 use Rattle.std.proofs.lemmas.List.{append-nil}
 use Rattle.hba_fbs.specs.Views.{DeviceView, view_of}
-use Rattle.disk_model.specs.Anew.{OwesOnly}
-use Rattle.disk_model.specs.Histories.{Happening, Plugged, Received, Sent}
+use Rattle.disk_model.specs.{Anew.OwesOnly, Histories.{Happening, Plugged, Received, Sent}}
 use Rattle.disk_model.specs.Ledger.{Ledger, ShowsPage, Signs, Wanted, ledger, ledger_after}
 use Rattle.disk_model.proofs.Door.{begins_anew}
-use Rattle.hba_laws.specs.Client.{Touches, own}
-use Rattle.hba_laws.specs.History.{History}
+use Rattle.hba_laws.specs.{Client.{Touches, own}, History.History}
 use Rattle.hba_laws.specs.Hosts as event
-use Rattle.disk_simulation.specs.Anew.{IsHostedOn}
+use Rattle.disk_simulation.specs.{Anew.IsHostedOn, Hosted.IsHosted, Line.BothBegin, Same.SlotCommand}
 use Rattle.disk_simulation.specs.Anew as anew
-use Rattle.disk_simulation.specs.Hosted.{IsHosted}
 use Rattle.disk_simulation.specs.Hosted as since_new
-use Rattle.disk_simulation.specs.Line.{BothBegin}
 use Rattle.disk_simulation.proofs.Door.{both_have_begun, none_is, opens_signing, watches_on}
-use Rattle.hba_driver.specs.declared.path.Recovery.{Recovery}
-use Rattle.hba_driver.specs.declared.path.Recovery.TheVariants.{Log, Reset}
-use Rattle.hba_driver.specs.declared.path.Stage.TheVariants.{AwaitReset, ReadLog, ReleaseReset}
-use Rattle.hba_driver.specs.declared.plan.Device.{Device}
-use Rattle.hba_driver.specs.declared.plan.Device.TheVariants.{Ready, Recovering}
-use Rattle.hba_driver.specs.Drivers.{device_at}
-use Rattle.hba_driver.specs.Events.{shared_by}
-use Rattle.hba_driver.specs.HostTurns.{Host}
+use Rattle.hba_driver.specs.declared.{path.Recovery.{Recovery, TheVariants.{Log, Reset}}, path.Stage.TheVariants.{AwaitReset, ReadLog, ReleaseReset}}
+use Rattle.hba_driver.specs.{declared.plan.Device.{Device, TheVariants.{Ready, Recovering}}, Drivers.device_at, Events.shared_by, HostTurns.Host}
 use Rattle.hba_driver.specs.Slot30.{IsApart30, IsAt30, IsOn30, IsUnsought, LogSent, Off, ReadsLog, Resets}
 use Rattle.hba_driver.specs.Tended.{IsAtStage, IsBegun, IsReleasing, IsUnreset}
 use Rattle.hba_driver.proofs.Door.{stage_is, steady_tends}
-use Rattle.disk_recovery.proofs.together.TogetherBegins.{asked_of, steady_not}
-use Rattle.disk_recovery.specs.Apart.{ServesFrom}
-use Rattle.disk_recovery.specs.Kept.{IsServedHonestly}
-use Rattle.disk_recovery.specs.Steady.{HasSigned}
-use Rattle.disk_recovery.specs.Together.{IsServedOn}
-use Rattle.disk_recovery.proofs.apart.ApartBegins.{log_begins, reset_begins}
-use Rattle.disk_recovery.proofs.unasked.UnaskedLemmas.{stays_unasked}
+use Rattle.disk_recovery.proofs.{together.TogetherBegins.{asked_of, steady_not}, apart.ApartBegins.{log_begins, reset_begins}}
+use Rattle.disk_recovery.proofs.{unasked.UnaskedLemmas.stays_unasked, both_ends.WorkedLemmas.{log_worked, reset_worked, steady_worked}}
+use Rattle.disk_recovery.specs.{Apart.ServesFrom, Kept.IsServedHonestly, Steady.HasSigned, Together.IsServedOn}
 use Rattle.disk_recovery.specs.Ends.{AreFloors, AreReached, FlushBegins, IsTogether, Resetting, Steady, Together, no_floors}
-use Rattle.disk_recovery.proofs.both_ends.WorkedLemmas.{log_worked, reset_worked, steady_worked}
-use Rattle.disk_simulation.specs.Same.{SlotCommand}
 
 -- ---- a flush
 

@@ -1,56 +1,33 @@
 -- For `ends_go_on`. A disk and the host that serves it stay together over a turn beside the link, or the tick that
 -- issues a software reset of the disk sets it aside.
 use Rattle.std.proofs.Common.{◌≡◌, ℕ, ◌<◌, true, false, List, [], ◌∷◌, ◌++◌, refl, sym, ◌∙◌, ap, subst, inl, inr, arith, Option, Some, None}
-use Rattle.std.proofs.lemmas.Bool.{cases_Bool}
-use Rattle.std.proofs.lemmas.List.{append-nil}
+use Rattle.std.proofs.lemmas.{Bool.cases_Bool, List.append-nil}
 use Rattle.fis_view.specs.Frames.{Stamped}
 use Rattle.hba_fbs.specs.Views.{view_of}
-use Rattle.disk_model.specs.declared.plan.DiskPlan.{DiskPlan}
-use Rattle.disk_model.specs.Anew.{OwesOnly}
-use Rattle.disk_model.specs.Histories.{Happening}
+use Rattle.disk_model.specs.{declared.plan.DiskPlan.DiskPlan, Anew.OwesOnly, Histories.Happening}
 use Rattle.disk_model.specs.Ledger.{Ledger, Reply, ShowsPage, Signs, Wanted, ledger}
-use Rattle.hba_laws.specs.Client.{Touches, own}
-use Rattle.hba_laws.specs.Delivering.{touches_after}
-use Rattle.hba_laws.specs.History.{History, waiting_in}
-use Rattle.disk_simulation.specs.Line.{EachReply, IsNoSignature, IsUnsigned, IsWatchedWell, Loose, OnLine}
-use Rattle.disk_simulation.specs.Outcomes.{HasFineFile}
-use Rattle.disk_simulation.specs.Together.{AtMostAccepts, InTalk, IsOwnReply, IsWaited, Pages, Queues, Replies, Shows}
-use Rattle.disk_simulation.specs.Watched.{IsWatched}
-use Rattle.disk_simulation.proofs.Door.{files_are_left, hosted_on_is_kept, lines_begin}
-use Rattle.hba_driver.specs.declared.path.Path.{Path}
-use Rattle.hba_driver.specs.declared.path.Recovery.{Recovery}
-use Rattle.hba_driver.specs.declared.path.Recovery.TheVariants.{Log, Reset}
-use Rattle.hba_driver.specs.declared.path.Stage.TheVariants.{AssertReset, AwaitReset, Identify, ReadLog, ReleaseReset}
-use Rattle.hba_driver.specs.declared.plan.Device.{Device}
-use Rattle.hba_driver.specs.declared.plan.Device.TheVariants.{Ready, Recovering, Starting}
-use Rattle.hba_driver.specs.declared.plan.Plan.{Plan}
-use Rattle.hba_driver.specs.Drivers.{device_at}
-use Rattle.hba_driver.specs.Events.{events_over, shared_by}
-use Rattle.hba_driver.specs.HostTurns.{Does, DoesAll, Host, HostTurn, Polled, Pushed, Put, Submitted, Ticked, Took}
-use Rattle.hba_driver.specs.Served.{IsStep}
-use Rattle.hba_driver.specs.Slot30.{IsOn30, Sets}
-use Rattle.hba_driver.specs.Steady.{IsFine, IsSteadyPlan, IsSteadyTurn}
-use Rattle.hba_driver.specs.Tended.{Awaits, Fine, Identifies, IsAskedOn, IsAsking, IsAtStage, IsReleasing, IsResetTurn, IsTendedBy}
-use Rattle.hba_driver.specs.Tended.{Logs, Releases, Spoilt, TendsOn}
-use Rattle.hba_driver.specs.Between.{From}
-use Rattle.hba_driver.proofs.Door.{at_stage, issued_live, recovering_ready, stage_is, turn_tended, turns_serve}
-use Rattle.hba_driver.proofs.Door.{unworked}
-use Rattle.disk_recovery.specs.Kept.{IsCalmTurn, given_to}
-use Rattle.disk_recovery.specs.Steady.{HasSigned}
-use Rattle.disk_recovery.specs.Together.{GivesOnAnew, IsServedOn, ResetsAt, ServesOnAnew}
-use Rattle.disk_recovery.specs.Unasked.{IsUnasked}
-use Rattle.disk_recovery.proofs.together.TogetherParts.{calm_turns_go_on}
-use Rattle.disk_recovery.proofs.together.TogetherPushes.{pushes_go_on_on}
-use Rattle.disk_recovery.proofs.honest.TurnLemmas.{after}
-use Rattle.disk_recovery.proofs.unasked.UnaskedLemmas.{stays_unasked}
-use Rattle.disk_recovery.specs.Ends.{Apart, EndsAfter, IsBesideTurn, IsOnTime, IsRunning, IsSetAside, IsTogether, Resetting, Steady, Together}
-use Rattle.disk_recovery.proofs.aside.BesideLemmas.{EventsAway, events_away, file_away, fine_stays, plan_same, waits_away}
-use Rattle.disk_recovery.proofs.both_ends.GivenLemmas.{none_to_other}
-use Rattle.disk_recovery.proofs.aside.ResetAside.{reset_sets_aside}
-use Rattle.disk_recovery.proofs.both_ends.WorkedLemmas.{IsWorked, same_worked}
-use Rattle.disk_recovery.proofs.both_ends.Unfaulted.{IsTurnUnfaulted, opened_stays, tick_goes, turn_unfaulted}
-use Rattle.disk_recovery.proofs.both_ends.FloorLemmas.{reached_on}
+use Rattle.hba_laws.specs.{Client.{Touches, own}, Delivering.touches_after, History.{History, waiting_in}}
+use Rattle.disk_simulation.specs.{Line.{EachReply, IsNoSignature, IsUnsigned, IsWatchedWell, Loose, OnLine}, Outcomes.HasFineFile}
+use Rattle.disk_simulation.specs.{Together.{AtMostAccepts, InTalk, IsOwnReply, IsWaited, Pages, Queues, Replies, Shows}, Watched.IsWatched}
 use Rattle.disk_simulation.specs.Same.{SlotCommand}
+use Rattle.disk_simulation.proofs.Door.{files_are_left, hosted_on_is_kept, lines_begin}
+use Rattle.hba_driver.specs.declared.{path.Path.Path, path.Recovery.{Recovery, TheVariants.{Log, Reset}}}
+use Rattle.hba_driver.specs.declared.path.Stage.TheVariants.{AssertReset, AwaitReset, Identify, ReadLog, ReleaseReset}
+use Rattle.hba_driver.specs.{declared.{plan.Device.{Device, TheVariants.{Ready, Recovering, Starting}}, plan.Plan.Plan}, Drivers.device_at}
+use Rattle.hba_driver.specs.{Events.{events_over, shared_by}, HostTurns.{Does, DoesAll, Host, HostTurn, Pushed, Ticked, Took}, Served.IsStep}
+use Rattle.hba_driver.specs.{Slot30.{IsOn30, Sets}, Steady.{IsFine, IsSteadyPlan, IsSteadyTurn}}
+use Rattle.hba_driver.specs.Tended.{Awaits, Fine, Identifies, IsAskedOn, IsAsking, IsAtStage, IsReleasing, IsResetTurn, IsTendedBy, Logs, Releases}
+use Rattle.hba_driver.specs.{Tended.{Spoilt, TendsOn}, Between.From}
+use Rattle.hba_driver.proofs.Door.{at_stage, issued_live, recovering_ready, stage_is, turn_tended, turns_serve, unworked}
+use Rattle.disk_recovery.specs.{Kept.{IsCalmTurn, given_to}, Steady.HasSigned, Together.{GivesOnAnew, IsServedOn, ResetsAt, ServesOnAnew}}
+use Rattle.disk_recovery.specs.Unasked.{IsUnasked}
+use Rattle.disk_recovery.specs.Ends.{Apart, EndsAfter, IsBesideTurn, IsOnTime, IsRunning, IsSetAside, IsTogether, Resetting, Steady, Together}
+use Rattle.disk_recovery.proofs.{together.{TogetherParts.calm_turns_go_on, TogetherPushes.pushes_go_on_on}, honest.TurnLemmas.after}
+use Rattle.disk_recovery.proofs.unasked.UnaskedLemmas.{stays_unasked}
+use Rattle.disk_recovery.proofs.aside.BesideLemmas.{EventsAway, events_away, file_away, fine_stays, plan_same, waits_away}
+use Rattle.disk_recovery.proofs.{both_ends.GivenLemmas.none_to_other, aside.ResetAside.reset_sets_aside}
+use Rattle.disk_recovery.proofs.both_ends.{WorkedLemmas.{IsWorked, same_worked}, Unfaulted.{IsTurnUnfaulted, opened_stays, tick_goes, turn_unfaulted}}
+use Rattle.disk_recovery.proofs.both_ends.FloorLemmas.{reached_on}
 
 -- ---- where the signature alone is to come
 
@@ -299,7 +276,6 @@ reset_apart : (n : ℕ) (old : Host) (turn : HostTurn) (new : Host) (run : DoesA
 reset_apart n old (Ticked acted) new run disk down up floors touches below t on done issues line =
     let set = reset_sets_aside n t.base old acted new t.given t.commands touches below done issues on t.served t.well in
     record { stage = Sets; line = Loose; at = set.0; off = set.1; fits = tt; leans = tt; on = line }
-reset_apart n old (Took frame report) new run disk down up floors touches below t on done issues line = absurd issues
 reset_apart n old other new run disk down up floors touches below t on done issues line = absurd issues
 
 module _ (n : ℕ) (plan : DiskPlan) (sectors : ℕ) (old : Host) (turn : HostTurn) (new : Host) (run : DoesAll old (turn ∷ []) new)
@@ -357,9 +333,5 @@ module _ (n : ℕ) (plan : DiskPlan) (sectors : ℕ) (old : Host) (new : Host) (
   together_beside (Ticked acted) run beside =
       calm_ends_together n plan sectors old (Ticked acted) new run disk down up floors touches below running t
       (tick_goes n old running.on.going t.served.sound t.well beside) tt
-  together_beside (Submitted dev request ticket) run beside =
-      calm_ends_together n plan sectors old (Submitted dev request ticket) new run disk down up floors touches below running t tt tt
-  together_beside (Polled completion) run beside =
-      calm_ends_together n plan sectors old (Polled completion) new run disk down up floors touches below running t tt tt
-  together_beside (Put at bytes) run beside =
-      calm_ends_together n plan sectors old (Put at bytes) new run disk down up floors touches below running t tt tt
+  together_beside other run beside =
+      calm_ends_together n plan sectors old other new run disk down up floors touches below running t tt tt

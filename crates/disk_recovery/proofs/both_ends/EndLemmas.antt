@@ -2,22 +2,16 @@
 -- the host and each step of the disk.
 use Rattle.std.proofs.Common.{◌≡◌, ℕ, ◌<◌, List, [], ◌∷◌, ◌++◌, append_assoc, ap, ◌∙◌, Some}
 use Rattle.fis_view.specs.Frames.{IsFrame, Stamped, marked}
-use Rattle.hba_fbs.specs.Taking.{port_of}
-use Rattle.hba_fbs.specs.declared.report.TakeReport.{TakeReport}
-use Rattle.disk_model.specs.declared.plan.DiskPlan.{DiskPlan}
-use Rattle.disk_model.specs.Histories.{Happening, Received, Sent}
-use Rattle.disk_model.specs.Ledger.{ledger}
+use Rattle.hba_fbs.specs.{Taking.port_of, declared.report.TakeReport.TakeReport}
+use Rattle.disk_model.specs.{declared.plan.DiskPlan.DiskPlan, Histories.{Happening, Received, Sent}, Ledger.ledger}
 use Rattle.hba_laws.specs.Client.{Touches}
 use Rattle.disk_simulation.proofs.Door.{watches_on}
 use Rattle.hba_driver.specs.HostTurns.{DoesAll, Host, HostTurn, Pushed, Took}
 use Rattle.disk_recovery.specs.Ends.{Apart, AreEnds, AreFloors, DisksLeaveEnds, EndsAfter, EndsGoOn, IsBesideTurn, IsRunning, IsTogether, Together}
 use Rattle.disk_recovery.specs.Ends.{TurnsLeaveEnds}
 use Rattle.disk_recovery.proofs.aside.ApartTurns.{ByLog, ByReset, GoesAside, Stays, aside_comes, aside_sends, beside_aside, gives_aside, takes_aside}
-use Rattle.disk_recovery.proofs.both_ends.Beginnings.{log_begins_together, reset_begins_together}
-use Rattle.disk_recovery.proofs.both_ends.BesideTogether.{together_beside}
-use Rattle.disk_recovery.proofs.both_ends.GivesTogether.{together_gives}
-use Rattle.disk_recovery.proofs.both_ends.TakesTogether.{together_takes}
-use Rattle.disk_recovery.proofs.both_ends.FloorLemmas.{floors_more}
+use Rattle.disk_recovery.proofs.both_ends.{Beginnings.{log_begins_together, reset_begins_together}, BesideTogether.together_beside}
+use Rattle.disk_recovery.proofs.both_ends.{GivesTogether.together_gives, TakesTogether.together_takes, FloorLemmas.floors_more}
 
 -- ---- together, at a step of the disk
 

@@ -1,18 +1,12 @@
 -- For `ends_go_on`. How many writes had ended when a request was submitted, over each turn of the host and each step of
 -- the disk.
 use Rattle.std.proofs.Common.{◌≡◌, ℕ, ◌+◌, ◌<◌, ◌≤◌, List, ◌++◌, length, length-append, sym, ap, subst, ◌∙◌, inl, inr, arith}
-use Rattle.disk_model.specs.declared.plan.DiskPlan.{DiskPlan}
-use Rattle.disk_model.specs.Anew.{StayWritten}
-use Rattle.disk_model.specs.Histories.{Happening}
-use Rattle.disk_model.specs.Ledger.{ledger}
+use Rattle.disk_model.specs.{declared.plan.DiskPlan.DiskPlan, Anew.StayWritten, Histories.Happening, Ledger.ledger}
 use Rattle.disk_model.proofs.Door.{writes_stay}
-use Rattle.hba_laws.specs.Client.{Touches, own}
-use Rattle.hba_laws.specs.History.{History}
-use Rattle.disk_simulation.specs.Anew.{IsKeptOn}
-use Rattle.disk_simulation.specs.Same.{SlotCommand}
+use Rattle.hba_laws.specs.{Client.{Touches, own}, History.History}
+use Rattle.disk_simulation.specs.{Anew.IsKeptOn, Same.SlotCommand}
 use Rattle.disk_simulation.proofs.Door.{hosted_on_is_kept, watched_is_ahead}
-use Rattle.hba_driver.specs.Events.{shared_by}
-use Rattle.hba_driver.specs.HostTurns.{Host}
+use Rattle.hba_driver.specs.{Events.shared_by, HostTurns.Host}
 use Rattle.disk_recovery.specs.Together.{AreCountedOn}
 use Rattle.disk_recovery.specs.Ends.{Apart, AreEnds, AreFloors, AreReached, FloorsRise, IsRunning, IsTogether, MayRise, Together}
 

@@ -3,16 +3,11 @@
 use Rattle.std.proofs.Common.{◌≡◌, ◌≢◌, ℕ, ◌<◌, List, [], ◌∷◌, sym, ◌∙◌, ap, arith, Some, None}
 use Rattle.std.specs.Prelude.{◌%◌, slice_index}
 use Rattle.fis_view.specs.Frames.{Stamped, marked}
-use Rattle.hba_fbs.specs.Sending.{Data, Gives, Order, Outgoing, data_fis, gathered, outgoing}
-use Rattle.hba_fbs.specs.Tables.{prds_of}
+use Rattle.hba_fbs.specs.{Sending.{Data, Gives, Order, Outgoing, data_fis, gathered, outgoing}, Tables.prds_of}
 use Rattle.disk_model.specs.Histories.{Received}
-use Rattle.hba_laws.specs.Client.{Touches}
-use Rattle.hba_laws.specs.Sound.{IsHost}
-use Rattle.hba_laws.specs.Between.{GoesOut}
+use Rattle.hba_laws.specs.{Client.Touches, Sound.IsHost, Between.GoesOut}
 use Rattle.hba_laws.proofs.Door.{goes_out}
-use Rattle.hba_driver.specs.Events.{IsSoundHost, shared_by}
-use Rattle.hba_driver.specs.HostTurns.{Does, Host, Pushed}
-use Rattle.hba_driver.specs.Served.{IsServed}
+use Rattle.hba_driver.specs.{Events.{IsSoundHost, shared_by}, HostTurns.{Does, Host, Pushed}, Served.IsServed}
 use Rattle.hba_driver.proofs.Door.{sound_shared}
 use Rattle.disk_recovery.specs.Kept.{given_to}
 use Rattle.disk_recovery.proofs.honest.PushLemmas.{HasLast, OutTold, given_elsewhere, given_here, out_last, out_told}

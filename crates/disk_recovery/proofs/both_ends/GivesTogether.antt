@@ -1,32 +1,18 @@
 -- For `ends_go_on`. A disk and the host that serves it stay together as the host gives the disk a FIS: a plain one, and
 -- none while an answer is all that is to come.
 use Rattle.std.proofs.Common.{◌≡◌, ℕ, ◌<◌, List, [], ◌∷◌, ◌++◌, sym, subst, inl, inr, arith, Some}
-use Rattle.std.proofs.lemmas.Bool.{cases_Bool}
-use Rattle.std.proofs.lemmas.List.{append_cancel_left}
-use Rattle.fis_view.specs.Frames.{Stamped, marked}
-use Rattle.fis_view.specs.Seen.{seen}
+use Rattle.std.proofs.lemmas.{Bool.cases_Bool, List.append_cancel_left}
+use Rattle.fis_view.specs.{Frames.{Stamped, marked}, Seen.seen}
 use Rattle.hba_fbs.specs.Views.{view_of}
-use Rattle.disk_model.specs.Anew.{IsCarefulSince}
-use Rattle.disk_model.specs.Ends.{Fits, FitsAll}
-use Rattle.disk_model.specs.Histories.{Happening, Received}
-use Rattle.disk_model.specs.Ledger.{ShowsPage, Signs, ledger}
-use Rattle.hba_laws.specs.Client.{Touches, own}
-use Rattle.hba_laws.specs.Delivering.{touches_after}
-use Rattle.disk_simulation.specs.Outcomes.{HasFineFile}
-use Rattle.disk_simulation.specs.Watched.{GavePlain, IsPlain}
+use Rattle.disk_model.specs.{Anew.IsCarefulSince, Ends.{Fits, FitsAll}, Histories.{Happening, Received}, Ledger.{ShowsPage, Signs, ledger}}
+use Rattle.hba_laws.specs.{Client.{Touches, own}, Delivering.touches_after}
+use Rattle.disk_simulation.specs.{Outcomes.HasFineFile, Watched.{GavePlain, IsPlain}}
 use Rattle.disk_simulation.proofs.Door.{files_are_left, hosted_on_is_kept, not_base, nothing_is_given, watches_on}
-use Rattle.hba_driver.specs.Events.{events_over, shared_by}
-use Rattle.hba_driver.specs.HostTurns.{Does, DoesAll, Host, Pushed}
-use Rattle.disk_recovery.specs.Kept.{given_to}
-use Rattle.disk_recovery.specs.Together.{GivesOnAnew, ServesOnAnew}
-use Rattle.disk_recovery.specs.Unasked.{IsUnasked}
-use Rattle.disk_recovery.proofs.together.TogetherPushes.{pushes_go_on_on}
-use Rattle.disk_recovery.proofs.honest.TurnLemmas.{after}
-use Rattle.disk_recovery.proofs.unasked.UnaskedLemmas.{stays_unasked}
+use Rattle.hba_driver.specs.{Events.{events_over, shared_by}, HostTurns.{Does, DoesAll, Host, Pushed}}
+use Rattle.disk_recovery.specs.{Kept.given_to, Together.{GivesOnAnew, ServesOnAnew}, Unasked.IsUnasked}
 use Rattle.disk_recovery.specs.Ends.{EndsAfter, IsOnTime, IsTogether, Resetting, Steady, Together}
-use Rattle.disk_recovery.proofs.both_ends.GivenLemmas.{given_its}
-use Rattle.disk_recovery.proofs.both_ends.WorkedLemmas.{more_worked}
-use Rattle.disk_recovery.proofs.both_ends.Unfaulted.{opened_stays, turn_unfaulted}
+use Rattle.disk_recovery.proofs.{together.TogetherPushes.pushes_go_on_on, honest.TurnLemmas.after, unasked.UnaskedLemmas.stays_unasked}
+use Rattle.disk_recovery.proofs.both_ends.{GivenLemmas.given_its, WorkedLemmas.more_worked, Unfaulted.{opened_stays, turn_unfaulted}}
 use Rattle.disk_recovery.proofs.both_ends.FloorLemmas.{floors_more, reached_on}
 
 -- what a careful host gives first fits what both ends tell where they begin

@@ -3,51 +3,29 @@
 use Rattle.std.proofs.Common.{◌≡◌, ℕ, ◌<◌, ◌≤◌, ◌⊎◌, true, false, List, [], ◌∷◌, ◌++◌, refl, sym, ◌∙◌, ap, subst, inl, inr, arith, None}
 use Rattle.std.specs.Prelude.{is_some}
 use Rattle.std.proofs.lemmas.Bool.{cases_Bool, true≢false}
-use Rattle.fis_view.specs.Frames.{IsFrame, marked}
-use Rattle.fis_view.specs.Seen.{seen}
-use Rattle.hba_fbs.specs.declared.report.TakeReport.{TakeReport}
-use Rattle.hba_fbs.specs.Posting.{signs}
-use Rattle.hba_fbs.specs.Taking.{Hears, admitted, device_cause, heard_now, ignores, port_of, row_for}
-use Rattle.hba_fbs.specs.Views.{DeviceView, Port, view_of}
-use Rattle.disk_model.specs.declared.plan.DiskPlan.{DiskPlan}
-use Rattle.disk_model.specs.Anew.{IsCarefulSince, OwesOnly}
-use Rattle.disk_model.specs.Ends.{IsRight, reports}
-use Rattle.disk_model.specs.Histories.{Happening, Sent}
+use Rattle.fis_view.specs.{Frames.{IsFrame, marked}, Seen.seen}
+use Rattle.hba_fbs.specs.{declared.report.TakeReport.TakeReport, Posting.signs}
+use Rattle.hba_fbs.specs.{Taking.{Hears, admitted, device_cause, heard_now, ignores, port_of, row_for}, Views.{DeviceView, Port, view_of}}
+use Rattle.disk_model.specs.{declared.plan.DiskPlan.DiskPlan, Anew.{IsCarefulSince, OwesOnly}, Ends.{IsRight, reports}, Histories.{Happening, Sent}}
 use Rattle.disk_model.specs.Ledger.{Signs, ledger}
-use Rattle.hba_laws.specs.Client.{Touches, own}
+use Rattle.hba_laws.specs.{Client.{Touches, own}, Delivering.touches_after}
 use Rattle.hba_laws.specs.Hosts as event
-use Rattle.disk_simulation.specs.Anew.{IsNextRight, IsSignedWell}
-use Rattle.disk_simulation.specs.Files.{FilesStayFine, IsFineFile, IsNextHeard}
-use Rattle.disk_simulation.specs.Heard.{IsTakenWell}
-use Rattle.disk_simulation.specs.Line.{Failed, IsWatchedWell, LinesBegin, Loose}
-use Rattle.disk_simulation.specs.Outcomes.{HasFineFile}
-use Rattle.disk_simulation.specs.Watched.{IsWatched}
-use Rattle.disk_simulation.proofs.Door.{began_unset, error_faults, files_stay_fine, lines_begin, next_of_disk}
-use Rattle.disk_simulation.proofs.Door.{next_or_fails, none_is, not_yet, view_signed, watches_on}
-use Rattle.hba_driver.specs.declared.plan.Device.TheVariants.{Ready}
-use Rattle.hba_driver.specs.Drivers.{Driver, device_at}
-use Rattle.hba_driver.specs.Events.{events_over, shared_by}
-use Rattle.hba_driver.specs.HostTurns.{Does, DoesAll, Host, Took}
-use Rattle.hba_driver.specs.Orders.{control_port}
-use Rattle.hba_driver.specs.Slot30.{Faulty, IsAt30, IsUnsought}
-use Rattle.hba_driver.specs.Steady.{detects}
+use Rattle.disk_simulation.specs.{Anew.{IsNextRight, IsSignedWell}, Files.{FilesStayFine, IsFineFile, IsNextHeard}, Heard.IsTakenWell}
+use Rattle.disk_simulation.specs.{Line.{Failed, IsWatchedWell, LinesBegin, Loose}, Outcomes.HasFineFile, Watched.IsWatched}
+use Rattle.disk_simulation.proofs.Door.{began_unset, error_faults, files_stay_fine, lines_begin, next_of_disk, next_or_fails, none_is, not_yet}
+use Rattle.disk_simulation.proofs.Door.{view_signed, watches_on}
+use Rattle.hba_driver.specs.{declared.plan.Device.TheVariants.Ready, Drivers.{Driver, device_at}, Events.{events_over, shared_by}}
+use Rattle.hba_driver.specs.{HostTurns.{Does, DoesAll, Host, Took}, Orders.control_port, Slot30.{Faulty, IsAt30, IsUnsought}, Steady.detects}
 use Rattle.hba_driver.specs.Tended.{IsAtStage, IsReleasing, IsUnreset}
 use Rattle.hba_driver.proofs.Door.{takes_lead, turns_serve}
 use Rattle.disk_recovery.specs.Together.{ServesOnAnew}
-use Rattle.disk_recovery.proofs.unasked.FaultyLemmas.{faults_set_aside, report_fault}
-use Rattle.disk_recovery.proofs.together.ResetLemmas.{signed_unreset, taken_unreset}
-use Rattle.disk_recovery.proofs.together.TogetherTakes.{ignored_keep_on, signatures_keep_on, takes_keep_on}
-use Rattle.disk_recovery.proofs.honest.TurnLemmas.{after}
+use Rattle.disk_recovery.specs.{Ends.{Apart, EndsAfter, IsOnTime, IsRunning, IsSetAside, IsTogether, Resetting, Steady, Together}, Stages.GoesByReset}
+use Rattle.disk_recovery.proofs.{unasked.FaultyLemmas.{faults_set_aside, report_fault}, together.ResetLemmas.{signed_unreset, taken_unreset}}
+use Rattle.disk_recovery.proofs.{together.TogetherTakes.{ignored_keep_on, signatures_keep_on, takes_keep_on}, honest.TurnLemmas.after}
 use Rattle.disk_recovery.proofs.unasked.UnaskedLemmas.{stays_unasked}
-use Rattle.disk_recovery.specs.Ends.{Apart, EndsAfter, IsOnTime, IsRunning, IsSetAside, IsTogether, Resetting, Steady, Together}
-use Rattle.disk_recovery.specs.Stages.{GoesByReset}
 use Rattle.disk_recovery.proofs.coming.ErrorLemmas.{IsHearing, careful_on, hears_signature, hears_unreset, is_resetting, next_signs, report_heard}
-use Rattle.disk_recovery.proofs.coming.ErrorLemmas.{sought_is_unasked, stale_ignored, together_hears}
-use Rattle.disk_recovery.proofs.coming.StaleLemmas.{by_stale}
-use Rattle.disk_recovery.proofs.both_ends.Unfaulted.{not_stopped}
-use Rattle.disk_recovery.proofs.both_ends.WorkedLemmas.{same_worked}
-use Rattle.disk_recovery.proofs.both_ends.FloorLemmas.{floors_more, reached_on}
-use Rattle.hba_laws.specs.Delivering.{touches_after}
+use Rattle.disk_recovery.proofs.coming.{ErrorLemmas.{sought_is_unasked, stale_ignored, together_hears}, StaleLemmas.by_stale}
+use Rattle.disk_recovery.proofs.both_ends.{Unfaulted.not_stopped, WorkedLemmas.same_worked, FloorLemmas.{floors_more, reached_on}}
 
 -- ---- one thing of before less is on its way
 

@@ -1,44 +1,24 @@
 -- For `ends_go_on`. While no FIS of a device is heard with a fault, no fault of it stands at the host's port, no tick
 -- clears one, and the port opened stays open.
-use Rattle.std.proofs.Common.{◌≡◌, ◌≢◌, ◌&&◌, ℕ, ◌<◌, ◌≤◌, Bool, true, false, not, List, [], ◌∷◌, ◌++◌, refl, sym, ap, subst, ◌∙◌}
-use Rattle.std.proofs.Common.{inl, inr}
-use Rattle.std.proofs.Common.{Option, Some, None, arith}
-use Rattle.std.specs.Prelude.{◌==◌, ◌⊎◌, if◌then◌else◌, is_some}
-use Rattle.std.specs.List.{flat_map}
+use Rattle.std.proofs.Common.{◌≡◌, ◌≢◌, ◌&&◌, ℕ, ◌<◌, ◌≤◌, Bool, true, false, not, List, [], ◌∷◌, ◌++◌, refl, sym, ap, subst, ◌∙◌, inl, inr, Option}
+use Rattle.std.proofs.Common.{Some, None, arith}
+use Rattle.std.specs.{Prelude.{◌==◌, ◌⊎◌, if◌then◌else◌, is_some}, List.flat_map}
 use Rattle.std.proofs.lemmas.Bool.{cases_Bool, cases_eq, false≢true, true≢false}
-use Rattle.fis_view.specs.Frames.{Stamped}
-use Rattle.fis_view.specs.Seen.{seen}
-use Rattle.fis_view.specs.declared.view.Fis.{Fis}
+use Rattle.fis_view.specs.{Frames.Stamped, Seen.seen, declared.view.Fis.Fis}
 use Rattle.host_memory.specs.Memory.{Memory}
-use Rattle.port_errors.specs.Errors.{Errors, cause_of, named_by, shown as errors_shown}
-use Rattle.port_errors.specs.declared.cause.Stop.{Stop}
-use Rattle.hba_fbs.specs.declared.hearing.Heard.{Heard}
-use Rattle.hba_fbs.specs.declared.register.Register.{Register}
-use Rattle.hba_fbs.specs.declared.register.Register.TheVariants.{Ci, Cmd, Fbs}
-use Rattle.hba_fbs.specs.declared.report.TakeReport.{TakeReport}
-use Rattle.hba_fbs.specs.Issuing.{aimed, view_issued}
-use Rattle.hba_fbs.specs.Registers.{falls}
-use Rattle.hba_fbs.specs.Sending.{Gives, Nothing, Outgoing, Unreadable, outgoing}
-use Rattle.hba_fbs.specs.Taking.{Hears, Ignores, admitted, device_cause, heard_now, heard_report, ignores, place_in, port_cause, port_of, row_for, stops_with}
-use Rattle.hba_fbs.specs.Views.{DeviceView, Port, stopped_view, view_of}
-use Rattle.hba_fbs.specs.Writing.{cleared_by, is_device, view_after}
+use Rattle.port_errors.specs.{Errors.{Errors, cause_of, named_by, shown as errors_shown}, declared.cause.Stop.Stop}
+use Rattle.hba_fbs.specs.declared.{hearing.Heard.Heard, register.Register.{Register, TheVariants.{Ci, Cmd, Fbs}}, report.TakeReport.TakeReport}
+use Rattle.hba_fbs.specs.{Issuing.{aimed, view_issued}, Registers.falls, Sending.{Gives, Nothing, Outgoing, Unreadable, outgoing}}
+use Rattle.hba_fbs.specs.Taking.{Hears, Ignores, admitted, device_cause, heard_now, heard_report, ignores, place_in, port_cause, port_of, row_for}
+use Rattle.hba_fbs.specs.{Taking.stops_with, Views.{DeviceView, Port, stopped_view, view_of}, Writing.{cleared_by, is_device, view_after}}
 use Rattle.hba_laws.specs.Hosts as event
-use Rattle.hba_laws.specs.Hosts.{HostEvent, Runs, TakesFrame}
-use Rattle.hba_laws.specs.Isolation.{stops_port}
-use Rattle.hba_driver.specs.declared.mode.Mode.TheVariants.{Switching}
-use Rattle.hba_driver.specs.Effects.{ActsAll, effects_of, order_effects}
-use Rattle.hba_driver.specs.Events.{IsSoundHost, events_of_effects, events_over, shared_by, taken_by, took}
-use Rattle.hba_driver.specs.declared.plan.Plan.{Plan}
-use Rattle.hba_driver.specs.Drivers.{Driver}
-use Rattle.hba_driver.specs.Going.{GoesOn}
-use Rattle.hba_driver.specs.HostTurns.{Does, DoesAll, Host, HostTurn, Polled, Pushed, Put, Submitted, Ticked, Took, Tooks, sight_in}
-use Rattle.hba_driver.specs.Sights.{file_shown}
-use Rattle.hba_driver.specs.Steady.{IsCalmTick, IsClearTick, IsFlushTick}
-use Rattle.hba_driver.specs.Ticks.{effects_due}
-use Rattle.hba_driver.specs.Between.{MayClear, MayEnd}
+use Rattle.hba_laws.specs.{Hosts.{HostEvent, Runs, TakesFrame}, Isolation.stops_port}
+use Rattle.hba_driver.specs.{declared.mode.Mode.TheVariants.Switching, Effects.{ActsAll, effects_of, order_effects}}
+use Rattle.hba_driver.specs.{Events.{IsSoundHost, events_of_effects, events_over, shared_by, taken_by, took}, declared.plan.Plan.Plan, Drivers.Driver}
+use Rattle.hba_driver.specs.{Going.GoesOn, HostTurns.{Does, DoesAll, Host, HostTurn, Polled, Submitted, Ticked, Took, Tooks, sight_in}}
+use Rattle.hba_driver.specs.{Sights.file_shown, Steady.{IsCalmTick, IsClearTick, IsFlushTick}, Ticks.effects_due, Between.{MayClear, MayEnd}}
 use Rattle.disk_recovery.specs.Between.{AreUnfaulted, IsUnfaulted}
-use Rattle.hba_driver.proofs.Door.{calm_or_flush, each_run_tells, may_end, poll_plan, spares_as}
-use Rattle.hba_driver.proofs.Door.{tick_is, turns_are_events}
+use Rattle.hba_driver.proofs.Door.{calm_or_flush, each_run_tells, may_end, poll_plan, spares_as, tick_is, turns_are_events}
 
 same_port : (n : ℕ) (old new : Port) → new ≡ old → IsUnfaulted n old → IsUnfaulted n new
 same_port n old new same is = subst (IsUnfaulted n) (sym same) is
@@ -117,11 +97,7 @@ events_unfaulted n below old (event.Flushed dev ∷ events) new run well is =
 events_unfaulted n below old (event.Gave frame ∷ events) new run well is =
     events_unfaulted n below run.0 events new run.2 well
     (gave_unfaulted n (outgoing old.port old.memory) old.port old.memory frame run.0.port run.1.0 is)
-events_unfaulted n below old (event.Stored structure ∷ events) new run well is =
-    events_unfaulted n below run.0 events new run.2 well (same_port n old.port run.0.port run.1.1 is)
-events_unfaulted n below old (event.Rewrote dev row ∷ events) new run well is =
-    events_unfaulted n below run.0 events new run.2 well (same_port n old.port run.0.port run.1.1 is)
-events_unfaulted n below old (event.Put at bytes ∷ events) new run well is =
+events_unfaulted n below old (other ∷ events) new run well is =
     events_unfaulted n below run.0 events new run.2 well (same_port n old.port run.0.port run.1.1 is)
 
 -- ---- turns
@@ -241,10 +217,6 @@ stays_open : (m k : ℕ) → k ≡ m → 7 ≤ m → 7 ≤ k
 stays_open m k same least = omega (arith, same, least)
 
 pub opened_stays : (old : Host) (turn : HostTurn) (new : Host) → Does old turn new → 7 ≤ old.driver.plan.opened → 7 ≤ new.driver.plan.opened
-opened_stays old (Took frame report) new does least =
-    stays_open old.driver.plan.opened new.driver.plan.opened (ap (λ (d : Driver). d.plan.opened) does.driver) least
-opened_stays old (Pushed frame) new does least =
-    stays_open old.driver.plan.opened new.driver.plan.opened (ap (λ (d : Driver). d.plan.opened) does.driver) least
 opened_stays old (Ticked acted) new does least = elim (tick_is (sight_in old) (file_shown new.port) old.driver) [
   | inl first ↦ absurd (omega (arith, least, first.less))
   | inr going ↦
@@ -255,5 +227,5 @@ opened_stays old (Submitted dev request ticket) new does least =
 opened_stays old (Polled completion) new does least =
     stays_open old.driver.plan.opened new.driver.plan.opened
     (ap (λ (d : Driver). d.plan.opened) does.driver ∙ ap (λ (p : Plan). p.opened) (poll_plan old.driver)) least
-opened_stays old (Put at bytes) new does least =
+opened_stays old other new does least =
     stays_open old.driver.plan.opened new.driver.plan.opened (ap (λ (d : Driver). d.plan.opened) does.driver) least

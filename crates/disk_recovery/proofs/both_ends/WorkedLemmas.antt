@@ -3,14 +3,8 @@
 use Rattle.std.proofs.Common.{◌≡◌, ℕ, List, [], ◌∷◌, ◌++◌, refl, sym, subst, inl, inr}
 use Rattle.disk_model.specs.Histories.{Happening}
 use Rattle.disk_simulation.proofs.Door.{not_base}
-use Rattle.hba_driver.specs.declared.path.Recovery.{Recovery}
-use Rattle.hba_driver.specs.declared.plan.Device.TheVariants.{Recovering}
-use Rattle.hba_driver.specs.declared.plan.Plan.{Plan}
-use Rattle.hba_driver.specs.Drivers.{device_at}
-use Rattle.hba_driver.specs.HostTurns.{Host}
-use Rattle.hba_driver.specs.Slot30.{IsAt30, LogSent, Off}
-use Rattle.hba_driver.specs.Steady.{IsFine, IsSteady}
-use Rattle.hba_driver.specs.Tended.{IsUnworked}
+use Rattle.hba_driver.specs.{declared.{path.Recovery.Recovery, plan.Device.TheVariants.Recovering, plan.Plan.Plan}, Drivers.device_at, HostTurns.Host}
+use Rattle.hba_driver.specs.{Slot30.{IsAt30, LogSent, Off}, Steady.{IsFine, IsSteady}, Tended.IsUnworked}
 
 abbrev pub IsWorked : ℕ → Host → (base given : List Happening) → Type 0
 IsWorked n h base given =

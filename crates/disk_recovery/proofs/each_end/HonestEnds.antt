@@ -5,33 +5,20 @@ use Rattle.std.proofs.lemmas.Bool.{true≢false}
 use Rattle.fis_view.specs.Frames.{IsFrame, marked}
 use Rattle.slots.specs.Slots.{has_bit}
 use Rattle.slots.specs.Work as moved
-use Rattle.hba_fbs.specs.declared.report.TakeReport.{TakeReport}
-use Rattle.hba_fbs.specs.Taking.{ignores, port_of}
-use Rattle.disk_model.specs.declared.plan.DiskPlan.{DiskPlan}
-use Rattle.disk_model.specs.declared.request.Command.{Command}
-use Rattle.disk_model.specs.Histories.{Happening}
-use Rattle.disk_model.specs.Ledger.{ledger}
-use Rattle.hba_laws.specs.Client.{Touches, own}
-use Rattle.hba_laws.specs.History.{Transfer, filled, issued}
+use Rattle.hba_fbs.specs.{declared.report.TakeReport.TakeReport, Taking.{ignores, port_of}}
+use Rattle.disk_model.specs.{declared.{plan.DiskPlan.DiskPlan, request.Command.Command}, Histories.Happening, Ledger.ledger}
+use Rattle.hba_laws.specs.{Client.{Touches, own}, History.{Transfer, filled, issued}}
 use Rattle.hba_laws.specs.Hosts as event
-use Rattle.disk_simulation.specs.Anew.{IsKeptOn}
-use Rattle.disk_simulation.specs.Followed.{IsFollowed}
-use Rattle.disk_simulation.specs.Honest.{BroughtSectors, IsDoneHonestly, IsOnMedium}
+use Rattle.disk_simulation.specs.{Anew.IsKeptOn, Followed.IsFollowed, Honest.{BroughtSectors, IsDoneHonestly, IsOnMedium}, Watched.IsWatched}
+use Rattle.disk_simulation.specs.Same.{SlotCommand}
 use Rattle.disk_simulation.specs.Phases as phase
-use Rattle.disk_simulation.specs.Watched.{IsWatched}
 use Rattle.disk_simulation.proofs.Door.{aside_is_kept, each_done, hosted_on_is_kept, watches_on}
-use Rattle.hba_driver.specs.Drivers.{Entry, entry_at}
-use Rattle.hba_driver.specs.Events.{shared_by}
-use Rattle.hba_driver.specs.HostTurns.{Does, Host, Took}
-use Rattle.hba_driver.specs.Orders.{is_queued}
+use Rattle.hba_driver.specs.{Drivers.{Entry, entry_at}, Events.shared_by, HostTurns.{Does, Host, Took}, Orders.is_queued}
 use Rattle.hba_driver.proofs.Door.{sound_shared}
 use Rattle.disk_recovery.specs.Steady.{command_of}
-use Rattle.disk_recovery.proofs.apart.ApartBegins.{aside_at}
 use Rattle.disk_recovery.specs.Ends.{Apart, AreEnds, EachEndIsHonest, IsOnTime, IsRunning, IsSetAside, IsTogether, Together, since_floor}
-use Rattle.disk_recovery.proofs.coming.ErrorLemmas.{report_ignored, stale_ignored, together_hears}
-use Rattle.disk_recovery.proofs.each_end.ReadLemmas.{ended_followed}
-use Rattle.disk_recovery.proofs.coming.StaleLemmas.{by_stale}
-use Rattle.disk_simulation.specs.Same.{SlotCommand}
+use Rattle.disk_recovery.proofs.{apart.ApartBegins.aside_at, coming.ErrorLemmas.{report_ignored, stale_ignored, together_hears}}
+use Rattle.disk_recovery.proofs.{each_end.ReadLemmas.ended_followed, coming.StaleLemmas.by_stale}
 
 module _ (n : ℕ) (plan : DiskPlan) (sectors : ℕ) (h : Host) (bytes : List ℕ) (report : TakeReport) (new : Host) (disk : List Happening)
     (down up : List (List ℕ)) (floors : ℕ → ℕ) (touches : Touches)

@@ -1,31 +1,20 @@
 -- For `each_end_is_honest`. A read that ended at the host's end of a disk's link, from where both began anew, ended at
 -- the disk.
 use Rattle.std.proofs.Common.{◌≡◌, ◌==◌, ◌&&◌, ℕ, zero, suc, ◌+◌, ◌*◌, Bool, true, false, List, [], ◌∷◌, ◌++◌, append_assoc, drop, length, refl, sym}
-use Rattle.std.proofs.Common.{ap, subst, ◌∙◌}
-use Rattle.std.proofs.Common.{Option, Some, None, Result, Ok}
-use Rattle.std.specs.Prelude.{if◌then◌else◌, slice_get, find, replicate}
-use Rattle.std.specs.List.{list_any}
+use Rattle.std.proofs.Common.{ap, subst, ◌∙◌, Option, Some, None, Result, Ok}
+use Rattle.std.specs.{Prelude.{if◌then◌else◌, slice_get, find, replicate}, List.list_any}
 use Rattle.std.proofs.lemmas.List.{append-nil}
-use Rattle.fis_view.specs.Seen.{seen}
-use Rattle.fis_view.specs.Table.{Bits, BufferId, Error, Offset, Setup, field}
+use Rattle.fis_view.specs.{Seen.seen, Table.{Bits, BufferId, Error, Offset, Setup, field}, declared.{view.Fis.Fis, view.FisFault.FisFault}}
 use Rattle.fis_view.specs.Table as table
-use Rattle.fis_view.specs.declared.view.Fis.{Fis}
 use Rattle.fis_view.specs.declared.view.Fis.TheVariants as view
-use Rattle.fis_view.specs.declared.view.FisFault.{FisFault}
-use Rattle.disk_model.specs.declared.plan.DiskPlan.{DiskPlan}
-use Rattle.disk_model.specs.declared.request.Command.{Command}
-use Rattle.disk_model.specs.declared.request.Request.{Request}
-use Rattle.disk_model.specs.declared.request.Request.TheVariants as asked
-use Rattle.disk_model.specs.Chunks.{put}
-use Rattle.disk_model.specs.Anew.{IsCarefulSince, IsLinkedOn}
-use Rattle.disk_model.specs.Ends.{EndsAgree, with_down, with_up}
+use Rattle.disk_model.specs.{declared.{plan.DiskPlan.DiskPlan, request.Command.Command, request.Request.Request}, Chunks.put}
+use Rattle.disk_model.specs.{Anew.{IsCarefulSince, IsLinkedOn}, Ends.{EndsAgree, with_down, with_up}}
 use Rattle.disk_model.specs.Histories.{Happening, Plugged, Loaded, Received, Sent}
 use Rattle.disk_model.specs.Laws.{ActivatesRight, MovesRight, SetsUpNext, SetsUpRight, StartsOne}
-use Rattle.disk_model.specs.Ledger.{Accepts, IsSize, Ledger, Moving, ReadOut, Refuses, activates, answers, asks, awaits, empty, ends, has_error, is_auto}
-use Rattle.disk_model.specs.Ledger.{ledger, ledger_after, listens}
-use Rattle.disk_model.specs.Ledger.{listens_down, listens_up, mixes, moves, reads_log, refuses, restarts, sends_data, sets_up, starts_moving, takes_data, with_auto}
-use Rattle.disk_model.specs.Requests.{request_of}
-use Rattle.disk_model.specs.Runs.{IsDiskRun}
+use Rattle.disk_model.specs.Ledger.{Accepts, IsSize, Ledger, Moving, ReadOut, Refuses, activates, answers, asks, awaits, empty, ends, has_error}
+use Rattle.disk_model.specs.Ledger.{is_auto, ledger, ledger_after, listens, listens_down, listens_up, mixes, moves, reads_log, refuses, restarts}
+use Rattle.disk_model.specs.{Ledger.{sends_data, sets_up, starts_moving, takes_data, with_auto}, Requests.request_of, Runs.IsDiskRun}
+use Rattle.disk_model.specs.declared.request.Request.TheVariants as asked
 use Rattle.disk_model.proofs.Door.{ends_agree_anew, moves_right, write_of_auto}
 use Rattle.disk_simulation.specs.Followed.{IsFollowed}
 use Rattle.disk_simulation.proofs.Door.{run_to}
@@ -196,8 +185,6 @@ asked_up l (Ok (view.DmaSetup f)) right a =
 asked_up l (Ok (view.DmaActivate f)) right a = asked_activates l l.moving right
 asked_up l (Ok (view.Payload f)) right a = asked_data l l.moving (drop 4 f) a
 asked_up l (Ok (view.SetBits f)) right a = asked_answers l (field Bits Error f) (has_error f) a
-asked_up l (Ok (view.RegD2H f)) right a = a
-asked_up l (Ok (view.PioSetup f)) right a = a
 asked_up l _ right a = a
 
 disk_front : (plan : DiskPlan) (sectors : ℕ) (xs ys : List Happening) → IsDiskRun plan sectors (xs ++ ys) → IsDiskRun plan sectors xs

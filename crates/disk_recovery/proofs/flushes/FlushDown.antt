@@ -3,13 +3,8 @@
 use Rattle.std.proofs.Common.{◌≡◌, ℕ, false, List, [], ◌∷◌, ◌++◌, append_assoc, sym, ap, subst, ◌∙◌}
 use Rattle.std.proofs.lemmas.Bool.{true≢false}
 use Rattle.fis_view.specs.Seen.{seen}
-use Rattle.disk_model.specs.declared.plan.DiskPlan.{DiskPlan}
-use Rattle.disk_model.specs.Anew.{IsCarefulSince, IsLinkedOn}
-use Rattle.disk_model.specs.Ends.{Rests, reports, with_down}
-use Rattle.disk_model.specs.Histories.{Happening, Sent}
-use Rattle.disk_model.specs.Ledger.{IsSize, Ledger, ledger, listens}
-use Rattle.disk_model.specs.Runs.{IsDiskRun}
-use Rattle.disk_model.specs.Between.{AreFit, Ties}
+use Rattle.disk_model.specs.{declared.plan.DiskPlan.DiskPlan, Anew.{IsCarefulSince, IsLinkedOn}, Ends.{Rests, reports, with_down}}
+use Rattle.disk_model.specs.{Histories.{Happening, Sent}, Ledger.{IsSize, Ledger, ledger, listens}, Runs.IsDiskRun, Between.{AreFit, Ties}}
 use Rattle.disk_model.proofs.Door.{errs_right}
 use Rattle.disk_simulation.specs.Watched.{Erred, Fine, IsWatchedTo}
 use Rattle.disk_simulation.proofs.Door.{run_to, same_first}

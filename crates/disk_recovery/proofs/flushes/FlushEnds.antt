@@ -2,40 +2,24 @@
 use Rattle.std.proofs.Common.{◌≡◌, ℕ, ◌+◌, ◌<◌, Bool, true, false, eqb, List, [], ◌∷◌, refl, sym, ap, subst, ◌∙◌, inl, inr, arith, Option, Some, None, Result}
 use Rattle.std.specs.Prelude.{if◌then◌else◌, is_some}
 use Rattle.std.proofs.lemmas.Bool.{cases_Bool, false≢true, true≢false}
-use Rattle.fis_view.specs.Frames.{IsFrame, marked}
-use Rattle.fis_view.specs.Seen.{seen}
-use Rattle.fis_view.specs.declared.view.Fis.{Fis}
-use Rattle.fis_view.specs.declared.view.FisFault.{FisFault}
+use Rattle.fis_view.specs.{Frames.{IsFrame, marked}, Seen.seen, declared.{view.Fis.Fis, view.FisFault.FisFault}}
 use Rattle.slots.specs.Slots.{has_bit, is_pio}
 use Rattle.slots.specs.Work as moved
-use Rattle.hba_fbs.specs.declared.report.TakeReport.{TakeReport}
-use Rattle.hba_fbs.specs.Taking.{ignores, is_running, port_of}
-use Rattle.hba_fbs.specs.Views.{view_of}
-use Rattle.disk_model.specs.declared.plan.DiskPlan.{DiskPlan}
-use Rattle.disk_model.specs.Ends.{Rests, reports}
-use Rattle.disk_model.specs.Histories.{Happening, Sent}
-use Rattle.disk_model.specs.Laws.{AnswersFirst, AnswersRight}
+use Rattle.hba_fbs.specs.{declared.report.TakeReport.TakeReport, Taking.{ignores, is_running, port_of}, Views.view_of}
+use Rattle.disk_model.specs.{declared.plan.DiskPlan.DiskPlan, Ends.{Rests, reports}, Histories.{Happening, Sent}, Laws.{AnswersFirst, AnswersRight}}
 use Rattle.disk_model.specs.Ledger.{answered, ledger, listens, listens_up}
 use Rattle.hba_laws.specs.Client.{Touches, own}
-use Rattle.hba_laws.specs.History.{Answered, Carried, Emptied, History, Issued, Named, PioSetUp, SentControl, SetUp, Transfer, is_at, issued, waiting_in}
+use Rattle.hba_laws.specs.History.{Carried, Emptied, History, Issued, Named, PioSetUp, SentControl, SetUp, Transfer, is_at, issued, waiting_in}
 use Rattle.hba_laws.specs.History as event_of
 use Rattle.hba_laws.specs.Hosts as event
-use Rattle.disk_simulation.specs.Anew.{IsKeptOn, IsNextRight}
-use Rattle.disk_simulation.specs.Followed.{IsFollowed}
-use Rattle.disk_simulation.specs.Together.{is_sent}
-use Rattle.disk_simulation.specs.Watched.{IsWatched}
+use Rattle.disk_simulation.specs.{Anew.{IsKeptOn, IsNextRight}, Followed.IsFollowed, Together.is_sent, Watched.IsWatched}
 use Rattle.disk_simulation.proofs.Door.{hosted_on_is_kept, next_or_fails, watches_on}
-use Rattle.hba_driver.specs.Events.{shared_by}
-use Rattle.hba_driver.specs.HostTurns.{Does, Host, Took}
-use Rattle.hba_driver.specs.Slot30.{is_faulty}
+use Rattle.hba_driver.specs.{Events.shared_by, HostTurns.{Does, Host, Took}, Slot30.is_faulty}
 use Rattle.hba_driver.proofs.Door.{is_alone, skipped_as, sound_shared}
 use Rattle.disk_recovery.specs.Ends.{Apart, AreEnds, IsOnTime, IsRunning, IsSetAside, IsTogether, Together}
 use Rattle.disk_recovery.specs.Flushes.{AreEndsSince, Floor, FlushesAreTaken, flushes_among, flushes_taken, write_floors}
-use Rattle.disk_recovery.proofs.aside.ApartDriver.{faulty_ignored}
-use Rattle.disk_recovery.proofs.coming.ErrorLemmas.{report_ignored, stale_ignored, together_hears}
-use Rattle.disk_recovery.proofs.flushes.FlushDown.{watched_passed}
-use Rattle.disk_recovery.proofs.flushes.FlushHeard.{IsItsAnswer, its_answer}
-use Rattle.disk_recovery.proofs.flushes.FlushLemmas.{answer_rests}
+use Rattle.disk_recovery.proofs.{aside.ApartDriver.faulty_ignored, coming.ErrorLemmas.{report_ignored, stale_ignored, together_hears}}
+use Rattle.disk_recovery.proofs.flushes.{FlushDown.watched_passed, FlushHeard.{IsItsAnswer, its_answer}, FlushLemmas.answer_rests}
 use Rattle.disk_recovery.proofs.coming.StaleLemmas.{by_stale}
 
 -- ---- a command that waits for its answer was transmitted

@@ -3,23 +3,16 @@
 use Rattle.std.proofs.Common.{◌≡◌, ◌≢◌, ◌==◌, ℕ, ◌+◌, ◌*◌, Bool, true, false, List, [], ◌∷◌, ◌++◌, drop, length, refl, sym, ap, subst, ◌∙◌, Option, Some, None, Ok, Result, arith}
 use Rattle.std.specs.Prelude.{◌&&◌, find, if◌then◌else◌}
 use Rattle.std.proofs.lemmas.Bool.{eqb-true, true≢false}
-use Rattle.fis_view.specs.Seen.{seen}
-use Rattle.fis_view.specs.Table.{Bits, SActive, Setup, field}
+use Rattle.fis_view.specs.{Seen.seen, Table.{Bits, SActive, Setup, field}, declared.{view.Fis.Fis, view.FisFault.FisFault}}
 use Rattle.fis_view.specs.Table as table
-use Rattle.fis_view.specs.declared.view.Fis.{Fis}
 use Rattle.fis_view.specs.declared.view.Fis.TheVariants as view
-use Rattle.fis_view.specs.declared.view.FisFault.{FisFault}
 use Rattle.slots.specs.Work.{is_queued}
-use Rattle.disk_model.specs.declared.request.Command.{Command}
-use Rattle.disk_model.specs.declared.request.Request.{Request}
-use Rattle.disk_model.specs.declared.request.Request.TheVariants as asked
-use Rattle.disk_model.specs.Chunks.{put}
-use Rattle.disk_model.specs.Ends.{AreRight, Fits, FitsRequest, IsRight, PageAsked, Rests, with_down, with_up}
-use Rattle.disk_model.specs.Histories.{Happening, Plugged, Loaded, Received, Sent}
+use Rattle.disk_model.specs.{declared.{request.Command.Command, request.Request.Request}, Chunks.put}
+use Rattle.disk_model.specs.{Ends.{AreRight, Fits, FitsRequest, IsRight, PageAsked, Rests, with_down, with_up}, Histories.{Happening, Received, Sent}}
 use Rattle.disk_model.specs.Laws.{ActivatesRight, AnswersFirst, SetsUpRight, ShowsFirst, StartsOne}
-use Rattle.disk_model.specs.Ledger.{Accepts, Finishes, Ledger, Moving, Names, Refuses, Reply, ShowsPage, answered, ends, goes_on, listens, listens_down, listens_up, moves, takes_data}
-use Rattle.disk_model.specs.Requests.{request_of}
-use Rattle.disk_model.specs.Between.{AreFit, alone}
+use Rattle.disk_model.specs.Ledger.{Accepts, Finishes, Ledger, Moving, Names, Refuses, Reply, ShowsPage, answered, ends, goes_on, listens}
+use Rattle.disk_model.specs.{Ledger.{listens_down, listens_up, moves, takes_data}, Requests.request_of, Between.{AreFit, alone}}
+use Rattle.disk_model.specs.declared.request.Request.TheVariants as asked
 use Rattle.disk_model.proofs.Door.{asks_fits, never_empty}
 use Rattle.hba_laws.specs.History.{History, Transfer, is_at, issued, waiting_in}
 use Rattle.hba_laws.proofs.Door.{some_inj}
@@ -40,9 +33,7 @@ flushes_more [] ys = none_first (flushes_taken ys)
 flushes_more (Received bytes ∷ xs) ys =
     ap (λ (m : ℕ). one_if (is_flush (seen bytes)) + m) (flushes_more xs ys)
     ∙ shift (one_if (is_flush (seen bytes))) (flushes_taken xs) (flushes_taken ys)
-flushes_more (Sent bytes ∷ xs) ys = flushes_more xs ys
-flushes_more (Plugged ∷ xs) ys = flushes_more xs ys
-flushes_more (Loaded bytes ∷ xs) ys = flushes_more xs ys
+flushes_more (other ∷ xs) ys = flushes_more xs ys
 
 pub among_more : (xs ys : List (List ℕ)) → flushes_among (xs ++ ys) ≡ flushes_among xs + flushes_among ys
 unfolding flushes_among

@@ -2,24 +2,16 @@
 -- slots, and what of it is issued.
 use Rattle.std.proofs.Common.{◌≡◌, ◌≢◌, ℕ, ◌^◌, ◌<◌, ◌⊎◌, Bool, true, false, List, [], ◌∷◌, ◌++◌, refl, sym, ◌∙◌, ap, subst, inl, inr, arith, Option, Some, None, ◌≤◌, length}
 use Rattle.std.specs.Prelude.{if◌then◌else◌, ◌==◌, is_some}
-use Rattle.std.proofs.lemmas.Bool.{cases_eq, false≢true, ne_eqb, true≢false}
-use Rattle.std.proofs.lemmas.Bool.Decides.{nat_tests}
+use Rattle.std.proofs.lemmas.{Bool.{cases_eq, false≢true, ne_eqb, true≢false}, Bool.Decides.nat_tests}
 use Rattle.slots.specs.Slots.{has_bit}
 use Rattle.hba_commands.specs.declared.command.Command as issued_command
-use Rattle.hba_fbs.specs.declared.register.Register.{Register}
-use Rattle.hba_fbs.specs.declared.register.Register.TheVariants.{Cmd, Ci, Fbs}
-use Rattle.hba_fbs.specs.Issuing.{aimed, asked}
+use Rattle.hba_fbs.specs.{declared.register.Register.{Register, TheVariants.{Cmd, Ci, Fbs}}, Issuing.{aimed, asked}}
 use Rattle.disk_model.specs.Ledger.{Ledger}
-use Rattle.hba_laws.specs.Client.{Touches, own}
-use Rattle.hba_laws.specs.Delivering.{touched, touches_after}
-use Rattle.hba_laws.specs.History.{History, issued}
+use Rattle.hba_laws.specs.{Client.{Touches, own}, Delivering.{touched, touches_after}, History.{History, issued}}
 use Rattle.hba_laws.specs.Hosts.{Does, Flushed, Gave, Host, HostEvent, Runs, Took, Wrote}
 use Rattle.hba_laws.proofs.Door.{own_app}
-use Rattle.disk_simulation.specs.Calm.{IsCalm}
-use Rattle.disk_simulation.specs.Elsewhere.{IsElsewhere, LeavesDevice, WritesElsewhere}
-use Rattle.disk_simulation.specs.Together.{with_command}
+use Rattle.disk_simulation.specs.{Calm.IsCalm, Elsewhere.{IsElsewhere, LeavesDevice, WritesElsewhere}, Together.with_command, Same.SlotCommand}
 use Rattle.disk_simulation.proofs.Door.{others_leave_device}
-use Rattle.disk_simulation.specs.Same.{SlotCommand}
 use Rattle.hba_driver.specs.Steady.{AreBeside, IsBeside, Issues, WritesBeside}
 use Rattle.disk_recovery.specs.Between.{AreAway, CalmEnds, IsNewOrOld}
 use Rattle.hba_driver.proofs.Door.{bit_other, issued_cases}

@@ -1,23 +1,16 @@
 -- For `pushes_keep_honest`. What the command FIS of a request, or of IDENTIFY DEVICE, asks of a disk.
 use Rattle.std.proofs.Common.{◌≡◌, ℕ, ◌*◌, ◌/◌, ◌<◌, ◌≤◌, Bool, true, false, List, refl, ◌∙◌, ap, arith}
-use Rattle.std.specs.Prelude.{if◌then◌else◌, ◌==◌, ◌%◌}
-use Rattle.std.specs.Int.{from_bool}
-use Rattle.std.proofs.lemmas.Bool.{false≢true, true≢false}
-use Rattle.std.proofs.lemmas.Bool.Decides.{nat_tests}
-use Rattle.fis_view.specs.Built.{IsBuilt, cut, h2d_given}
-use Rattle.fis_view.specs.Table.{H2d, places, field}
+use Rattle.std.specs.{Prelude.{if◌then◌else◌, ◌==◌, ◌%◌}, Int.from_bool}
+use Rattle.std.proofs.lemmas.{Bool.{false≢true, true≢false}, Bool.Decides.nat_tests}
+use Rattle.fis_view.specs.{Built.{IsBuilt, cut, h2d_given}, Table.{H2d, places, field}, declared.build.H2dFields.H2dFields}
 use Rattle.fis_view.specs.Table as name
-use Rattle.fis_view.specs.declared.build.H2dFields.{H2dFields}
 use Rattle.slots.specs.Work as moved
 use Rattle.hba_commands.specs.Requests.{kind_of, request_of as fields_request, work_of}
-use Rattle.disk_model.specs.declared.request.Command.{Command}
-use Rattle.disk_model.specs.declared.request.Request.TheVariants.{Reset, Queue, Identify, Flush}
+use Rattle.disk_model.specs.declared.{request.Command.Command, request.Request.TheVariants.{Reset, Queue, Identify, Flush}}
 use Rattle.disk_model.specs.Requests.{command_request, queued_command, request_of, sectors_asked}
-use Rattle.hba_driver.specs.declared.request.Work.{Work}
-use Rattle.hba_driver.specs.declared.request.Work.TheVariants as work
-use Rattle.hba_driver.specs.Drivers.{Entry}
-use Rattle.hba_driver.specs.Orders.{identify_fields, is_queued, request_fields, work_fields}
+use Rattle.hba_driver.specs.{declared.request.Work.Work, Drivers.Entry, Orders.{identify_fields, is_queued, request_fields, work_fields}}
 use Rattle.hba_driver.specs.Served.{HasSize}
+use Rattle.hba_driver.specs.declared.request.Work.TheVariants as work
 use Rattle.disk_recovery.specs.Steady.{command_of, is_write}
 
 -- ---- the fields of a built FIS
@@ -141,8 +134,7 @@ request_control slot e = work_control slot e.head.work e.head.dev e.head.lba e.h
 
 work_moves : (slot : ℕ) (w : Work) (dev lba sectors : ℕ) → moved.is_dma (kind_of (fields_request (work_fields slot w dev lba sectors))) ≡ false
 work_moves slot work.Read dev lba sectors = refl
-work_moves slot work.Write dev lba sectors = refl
-work_moves slot work.Flush dev lba sectors = refl
+work_moves slot other dev lba sectors = refl
 
 pub request_moves : (slot : ℕ) (e : Entry) → moved.is_dma (work_of (fields_request (request_fields slot e.head))).kind ≡ false
 unfolding request_fields work_of

@@ -1,69 +1,40 @@
 -- For `pushes_keep_honest`. What goes out to a disk fits what was told before, and the driver goes on to serve it
 -- honestly.
 use Rattle.std.proofs.Common.{◌≡◌, ◌≢◌, ℕ, suc, ◌<◌, ◌≤◌, ◌⊎◌, Bool, true, false, cond, List, [], ◌∷◌, ◌++◌, length, refl, sym, ◌∙◌, ap, subst, inl, inr, arith, Option, Some, None}
-use Rattle.std.specs.Prelude.{if◌then◌else◌, ◌==◌, ◌%◌, map, not, slice_index, Ok}
-use Rattle.std.specs.Option.{option_map}
-use Rattle.std.proofs.lemmas.Bool.{cases_Bool, cases_eq, eq-eqb, false≢true, ne_eqb, true≢false}
-use Rattle.std.proofs.lemmas.Bool.Decides.{nat_tests}
-use Rattle.std.proofs.lemmas.List.{append-nil}
+use Rattle.std.specs.{Prelude.{if◌then◌else◌, ◌==◌, ◌%◌, map, not, slice_index, Ok}, Option.option_map}
+use Rattle.std.proofs.lemmas.{Bool.{cases_Bool, cases_eq, eq-eqb, false≢true, ne_eqb, true≢false}, Bool.Decides.nat_tests, List.append-nil}
 use Rattle.std.proofs.lemmas.List.FromFn.{length-map-range_with_len}
-use Rattle.fis_view.specs.Frames.{IsFrame, Stamped, marked}
-use Rattle.fis_view.specs.Seen.{seen}
-use Rattle.fis_view.specs.Table.{H2d}
+use Rattle.fis_view.specs.{Frames.{IsFrame, Stamped, marked}, Seen.seen, Table.H2d}
 use Rattle.fis_view.specs.declared.view.Fis.TheVariants as view
 use Rattle.fis_view.proofs.Door.{port_bits, port_field}
 use Rattle.host_memory.specs.Memory.{Memory}
 use Rattle.hba_commands.proofs.Door.{built_long}
 use Rattle.hba_commands.specs.declared.command.Command as issued_command
-use Rattle.slots.specs.Slots.{Issue, holds, is_control, issue_at, match_some, own_issue, slots_of}
-use Rattle.slots.specs.Work.{is_dma, is_queued}
-use Rattle.slots.specs.declared.work.Work.{Work}
+use Rattle.slots.specs.{Slots.{Issue, holds, is_control, issue_at, match_some, own_issue, slots_of, context_of}, Work.{is_dma, is_queued}}
+use Rattle.slots.specs.{declared.work.Work.Work, Data.{payload, payload_len}, declared.table.Context.Context}
 use Rattle.slots.proofs.Door.{lowest_is}
-use Rattle.hba_fbs.specs.Sending.{Data, Gives, Nothing, Order, Outgoing, data_due, data_fis, data_with, gathered, is_due, next_receiver, next_to_send, order_due, outgoing}
-use Rattle.slots.specs.Data.{payload, payload_len}
-use Rattle.slots.specs.declared.table.Context.{Context}
-use Rattle.slots.specs.Slots.{context_of}
-use Rattle.hba_fbs.specs.Tables.{prds_of, sound_command}
-use Rattle.hba_fbs.specs.Taking.{is_running}
-use Rattle.hba_fbs.specs.Views.{Port, last_command, view_of}
-use Rattle.disk_model.specs.declared.request.Request.TheVariants.{Queue}
-use Rattle.disk_model.specs.Ends.{IsCareful}
-use Rattle.disk_model.specs.Histories.{Happening, Received}
-use Rattle.disk_model.specs.Ledger.{ledger}
+use Rattle.hba_fbs.specs.Sending.{Data, Gives, Nothing, Order, Outgoing, data_due, data_fis, data_with, gathered, is_due, next_receiver, next_to_send}
+use Rattle.hba_fbs.specs.{Sending.{order_due, outgoing}, Tables.{prds_of, sound_command}, Taking.is_running, Views.{Port, last_command, view_of}}
+use Rattle.disk_model.specs.{declared.request.Request.TheVariants.Queue, Ends.IsCareful, Histories.{Happening, Received}, Ledger.ledger}
 use Rattle.disk_model.specs.Requests.{request_of}
-use Rattle.hba_laws.specs.Agreement.{work_of_issue, work_of_transfer}
-use Rattle.hba_laws.specs.Client.{By, Touches, own}
-use Rattle.hba_laws.specs.Delivering.{begun_by, event_sent, is_control_issue, touched_by_out}
+use Rattle.hba_laws.specs.{Agreement.{work_of_issue, work_of_transfer}, Client.{By, Touches, own}}
+use Rattle.hba_laws.specs.{Delivering.{begun_by, event_sent, is_control_issue, touched_by_out}, History.{Event, History, Transfer, issued}}
+use Rattle.hba_laws.specs.{Sound.IsHost, Between.{GoesOut, HasContext, IsOwn}}
 use Rattle.hba_laws.specs.History as told_as
-use Rattle.hba_laws.specs.History.{Event, History, Transfer, issued}
 use Rattle.hba_laws.specs.Hosts as event
-use Rattle.hba_laws.specs.Sound.{IsHost}
-use Rattle.hba_laws.specs.Between.{GoesOut, HasContext, IsOwn}
-use Rattle.hba_laws.proofs.Door.{goes_out, is_own, out_none, own_app, own_here, own_one}
-use Rattle.hba_laws.proofs.Door.{some_inj, was_there}
-use Rattle.disk_simulation.specs.Answers.{IsAlone}
-use Rattle.disk_simulation.specs.Elsewhere.{IsForOther, LeavesDevice}
-use Rattle.disk_simulation.specs.Hosted.{IsHosted, asks, gives, sends, stays}
-use Rattle.disk_simulation.specs.Joined.{IsAskedBy}
-use Rattle.disk_simulation.specs.Together.{NoneQueued}
+use Rattle.hba_laws.proofs.Door.{goes_out, is_own, out_none, own_app, own_here, own_one, some_inj, was_there}
+use Rattle.disk_simulation.specs.{Answers.IsAlone, Elsewhere.{IsForOther, LeavesDevice}, Hosted.{IsHosted, asks, gives, sends, stays}}
+use Rattle.disk_simulation.specs.{Joined.IsAskedBy, Together.NoneQueued, Same.SlotCommand}
 use Rattle.disk_simulation.proofs.Door.{begun_none, hosted_is_kept, others_leave_device}
-use Rattle.disk_simulation.specs.Same.{SlotCommand}
 use Rattle.hba_driver.specs.declared.request.Work as driver_work
 use Rattle.hba_driver.specs.declared.request.Work.TheVariants as work
-use Rattle.hba_driver.specs.Drivers.{Driver, Entry, entry_at}
-use Rattle.hba_driver.specs.Events.{shared_by}
-use Rattle.hba_driver.specs.HostTurns.{Does, Host, Pushed}
+use Rattle.hba_driver.specs.{Drivers.{Driver, Entry, entry_at}, Events.shared_by, HostTurns.{Does, Host, Pushed}}
+use Rattle.hba_driver.specs.{Served.{IsBuiltOf, IsFisOf, IsServed, RunServes}, Steady.{IsAskedOf, IsOpenAt}, Between.From}
 use Rattle.hba_driver.specs.Orders as orders
-use Rattle.hba_driver.specs.Served.{IsBuiltOf, IsFisOf, IsServed, RunServes}
-use Rattle.hba_driver.specs.Steady.{IsAskedOf, IsOpenAt}
-use Rattle.hba_driver.specs.Between.{From}
-use Rattle.hba_driver.proofs.Door.{issued_unended, rows_stay, sound_shared, sound_turn, steady_fields}
-use Rattle.hba_driver.proofs.Door.{steps_alone, told_of, turn_steady, turns_serve}
-use Rattle.disk_recovery.specs.Kept.{IsServedHonestly, PushesGoOn, PushesKeep, given_to}
-use Rattle.disk_recovery.specs.Steady.{HasSigned}
-use Rattle.disk_recovery.proofs.honest.FisLemmas.{flush_is, identify_control, identify_is, identify_kind, identify_moves, request_asks, request_control, request_kind, request_moves}
-use Rattle.disk_recovery.proofs.honest.SignLemmas.{signed_given}
-use Rattle.disk_recovery.proofs.honest.TurnLemmas.{after}
+use Rattle.hba_driver.proofs.Door.{issued_unended, rows_stay, sound_shared, sound_turn, steady_fields, steps_alone, told_of, turn_steady, turns_serve}
+use Rattle.disk_recovery.specs.{Kept.{IsServedHonestly, PushesGoOn, PushesKeep, given_to}, Steady.HasSigned}
+use Rattle.disk_recovery.proofs.honest.FisLemmas.{flush_is, identify_control, identify_is, identify_kind, identify_moves, request_asks}
+use Rattle.disk_recovery.proofs.honest.{FisLemmas.{request_control, request_kind, request_moves}, SignLemmas.signed_given, TurnLemmas.after}
 
 pub frame_by : (bytes : List ℕ) → 4 ≤ length bytes → length bytes ≤ 8196 → length bytes % 4 ≡ 0 → IsFrame bytes
 frame_by bytes low high dwords = grind (arith, nat_tests)

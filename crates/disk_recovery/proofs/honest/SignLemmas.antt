@@ -1,22 +1,15 @@
 -- For `pushes_keep_honest`. A disk that signed has signed, whatever it and the host give afterwards.
 use Rattle.std.proofs.Common.{◌≡◌, ◌≢◌, ℕ, ◌+◌, ◌*◌, Bool, true, false, List, [], ◌∷◌, ◌++◌, drop, length, refl, sym, ◌∙◌, ap, subst, Option, Some, None}
-use Rattle.std.specs.Prelude.{if◌then◌else◌, ◌==◌, ◌&&◌, find, Result, Ok}
-use Rattle.std.specs.List.{list_any}
+use Rattle.std.specs.{Prelude.{if◌then◌else◌, ◌==◌, ◌&&◌, find, Result, Ok}, List.list_any}
 use Rattle.std.proofs.lemmas.Bool.{true≢false}
-use Rattle.fis_view.specs.Table.{Bits, BufferId, EStatus, Offset, Pio, SActive, Setup, field}
+use Rattle.fis_view.specs.{Table.{Bits, BufferId, Offset, Setup, field}, Seen.seen, declared.{view.Fis.Fis, view.FisFault.FisFault}}
 use Rattle.fis_view.specs.Table as table
-use Rattle.fis_view.specs.Seen.{seen}
-use Rattle.fis_view.specs.declared.view.Fis.{Fis}
 use Rattle.fis_view.specs.declared.view.Fis.TheVariants as view
-use Rattle.fis_view.specs.declared.view.FisFault.{FisFault}
-use Rattle.disk_model.specs.declared.request.Command.{Command}
-use Rattle.disk_model.specs.declared.request.Request.{Request}
-use Rattle.disk_model.specs.declared.request.Request.TheVariants.{Reset, Queue, Flush, Other}
-use Rattle.disk_model.specs.Chunks.{put}
-use Rattle.disk_model.specs.Ends.{Fits, FitsAll, FitsRequest, IsCareful, reports}
-use Rattle.disk_model.specs.Histories.{Happening, Plugged, Loaded, Received, Sent}
-use Rattle.disk_model.specs.Ledger.{Accepts, Finishes, Ledger, Moving, Refuses, Reply, ShowsPage, Signs, activates, answers, asks, empty, ends, has_error, is_auto, ledger, ledger_after, listens, listens_down, listens_up, mixes, moves, sends_data, sets_up, starts_moving, takes_data, with_auto}
-use Rattle.disk_model.specs.Requests.{request_of}
+use Rattle.disk_model.specs.{declared.{request.Command.Command, request.Request.{Request, TheVariants.{Reset, Queue, Flush, Other}}}, Chunks.put}
+use Rattle.disk_model.specs.{Ends.{Fits, FitsAll, FitsRequest, IsCareful, reports}, Histories.{Happening, Loaded, Received, Sent}}
+use Rattle.disk_model.specs.Ledger.{Accepts, Finishes, Ledger, Moving, Refuses, Reply, ShowsPage, Signs, activates, answers, asks, empty, ends}
+use Rattle.disk_model.specs.Ledger.{has_error, is_auto, ledger, ledger_after, listens, listens_down, listens_up, mixes, moves, sends_data, sets_up}
+use Rattle.disk_model.specs.{Ledger.{starts_moving, takes_data, with_auto}, Requests.request_of}
 use Rattle.hba_laws.specs.History.{History}
 use Rattle.disk_simulation.specs.Together.{AtMostAccepts, InTalk, Pages, Queues, Replies, Shows}
 use Rattle.disk_recovery.specs.Steady.{HasSigned}
@@ -32,9 +25,8 @@ pub fits_last : (l : Ledger) (given : List Happening) (bytes : List ℕ) → Fit
 unfolding FitsAll ledger_after
 fits_last l [] bytes h = h.0
 fits_last l (Received a ∷ given) bytes h = fits_last (listens l (Received a)) given bytes h.1
-fits_last l (Sent a ∷ given) bytes h = fits_last (listens l (Sent a)) given bytes h
-fits_last l (Plugged ∷ given) bytes h = fits_last (listens l Plugged) given bytes h
 fits_last l (Loaded a ∷ given) bytes h = absurd h
+fits_last l (other ∷ given) bytes h = fits_last (listens l other) given bytes h
 
 -- ---- what goes down
 

@@ -1,34 +1,18 @@
 -- For `takes_keep_honest`. A FIS of a disk is taken, and the driver goes on to serve the disk honestly.
 use Rattle.std.proofs.Common.{◌≡◌, ℕ, ◌<◌, List, [], ◌∷◌, ◌++◌, refl, sym, ◌∙◌, ap, subst, inl, inr, arith}
 use Rattle.std.specs.Prelude.{◌⊎◌, Result, Ok, Err}
-use Rattle.fis_view.specs.declared.view.Fis.{Fis}
+use Rattle.fis_view.specs.{declared.{view.Fis.Fis, view.FisFault.FisFault}, Frames.marked, Seen.seen}
 use Rattle.fis_view.specs.declared.view.Fis.TheVariants as view
-use Rattle.fis_view.specs.declared.view.FisFault.{FisFault}
-use Rattle.fis_view.specs.Frames.{marked}
-use Rattle.fis_view.specs.Seen.{seen}
-use Rattle.disk_model.specs.Ends.{IsRight}
-use Rattle.disk_model.specs.Histories.{Happening, Sent}
-use Rattle.disk_model.specs.Ledger.{Ledger, empty, ledger, listens}
-use Rattle.hba_laws.specs.Agreement.{IsHistoryOf}
-use Rattle.hba_laws.specs.Client.{own}
-use Rattle.hba_laws.specs.Delivering.{touched}
-use Rattle.hba_laws.specs.History.{History}
+use Rattle.disk_model.specs.{Ends.IsRight, Histories.{Happening, Sent}, Ledger.{Ledger, empty, ledger, listens}}
+use Rattle.hba_laws.specs.{Agreement.IsHistoryOf, Client.own, Delivering.touched, History.History, Sound.IsHost}
 use Rattle.hba_laws.specs.Hosts as event
-use Rattle.hba_laws.specs.Sound.{IsHost}
 use Rattle.hba_laws.proofs.Door.{own_app, took_none, was_there}
-use Rattle.disk_simulation.specs.Hosted.{IsHosted, IsKept, hears}
-use Rattle.disk_simulation.specs.Together.{told}
+use Rattle.disk_simulation.specs.{Hosted.{IsHosted, IsKept, hears}, Together.told}
 use Rattle.disk_simulation.proofs.Door.{heard_as_told, hosted_is_kept, marks_tell_nothing}
-use Rattle.hba_driver.specs.Drivers.{Driver, entry_at}
-use Rattle.hba_driver.specs.Events.{shared_by}
-use Rattle.hba_driver.specs.HostTurns.{Does, Took}
-use Rattle.hba_driver.specs.Served.{RunServes}
-use Rattle.hba_driver.specs.Steady.{IsAskedOf}
+use Rattle.hba_driver.specs.{Drivers.{Driver, entry_at}, Events.shared_by, HostTurns.{Does, Took}, Served.RunServes, Steady.IsAskedOf}
 use Rattle.hba_driver.proofs.Door.{rows_stay, sound_shared, sound_turn, turn_steady, turns_serve}
-use Rattle.disk_recovery.specs.Kept.{TakesKeep}
-use Rattle.disk_recovery.specs.Steady.{HasSigned}
-use Rattle.disk_recovery.proofs.honest.SignLemmas.{ledger_more, signed_register, signed_sent}
-use Rattle.disk_recovery.proofs.honest.TurnLemmas.{after}
+use Rattle.disk_recovery.specs.{Kept.TakesKeep, Steady.HasSigned}
+use Rattle.disk_recovery.proofs.honest.{SignLemmas.{ledger_more, signed_register, signed_sent}, TurnLemmas.after}
 
 -- a Register FIS of a device, or none
 pub register_or : (r : Result Fis FisFault) → ((f : List ℕ) × (r ≡ Ok (view.RegD2H f))) ⊎ ((f : List ℕ) → r ≡ Ok (view.RegD2H f) → ⊥)

@@ -5,36 +5,22 @@ use Rattle.std.specs.Option.{option_map}
 use Rattle.host_memory.specs.Memory.{zeroed}
 use Rattle.slots.specs.Slots.{Issue, own_issue}
 use Rattle.hba_fbs.specs.Views.{view_of}
-use Rattle.disk_model.specs.declared.request.Command.{Command}
-use Rattle.disk_model.specs.Histories.{Happening, Plugged}
-use Rattle.disk_model.specs.Ledger.{ledger}
-use Rattle.hba_laws.specs.Agreement.{IsHistoryOf, work_of_issue, work_of_transfer}
-use Rattle.hba_laws.specs.Client.{Touches, own}
-use Rattle.hba_laws.specs.Delivering.{history_after, touches_after}
-use Rattle.hba_laws.specs.History.{History, Transfer, issued}
-use Rattle.hba_laws.specs.Hosts.{HostEvent}
+use Rattle.disk_model.specs.{declared.request.Command.Command, Histories.{Happening, Plugged}, Ledger.ledger}
+use Rattle.hba_laws.specs.{Agreement.{IsHistoryOf, work_of_issue, work_of_transfer}, Client.{Touches, own}, Delivering.{history_after, touches_after}}
+use Rattle.hba_laws.specs.{History.{History, Transfer, issued}, Hosts.HostEvent}
 use Rattle.hba_laws.proofs.Door.{histories_are_parts, some_inj}
-use Rattle.disk_simulation.specs.Hosted.{IsHosted, plugged}
+use Rattle.disk_simulation.specs.{Hosted.{IsHosted, plugged}, Same.SlotCommand}
 use Rattle.disk_simulation.proofs.Door.{calm_runs_keep, hosted_is_kept}
-use Rattle.disk_simulation.specs.Same.{SlotCommand}
-use Rattle.hba_driver.specs.declared.mode.Mode.TheVariants.{Switching}
-use Rattle.hba_driver.specs.Drivers.{Driver, Entry, entry_at, rephased}
+use Rattle.hba_driver.specs.{declared.mode.Mode.TheVariants.Switching, Drivers.{Driver, Entry, entry_at, rephased}}
 use Rattle.hba_driver.specs.Events.{IsSoundHost, events_over, opening_host, shared_by}
-use Rattle.hba_driver.specs.HostTurns.{Does, DoesAll, Host, HostTurn, Took, Pushed, Ticked, Submitted, Polled, Put, sight_in}
-use Rattle.hba_driver.specs.Orders.{is_queued}
-use Rattle.hba_driver.specs.Served.{IsServed, RunServes}
-use Rattle.hba_driver.specs.Sights.{file_shown}
-use Rattle.hba_driver.specs.Steady.{HasSignature, IsAskedOf, IsSteady, slot_in}
-use Rattle.hba_driver.specs.Submits.{new_entry, next_slot}
-use Rattle.hba_driver.specs.Ticks.{after_tick}
-use Rattle.hba_driver.specs.Between.{DriverKeeps, From, PollFacts, Signs}
-use Rattle.hba_driver.proofs.Door.{back_of, flush_row, flush_steady, free_other, freed}
-use Rattle.hba_driver.proofs.Door.{hosts_stay_sound, in_slots, issued_unended, keeps_tick, opens_row, opens_steady}
-use Rattle.hba_driver.proofs.Door.{poll_facts, rows_stay, set_cases, sound_turn, tick_beside}
-use Rattle.hba_driver.proofs.Door.{turn_steady, turns_serve, zeroed_right}
+use Rattle.hba_driver.specs.{HostTurns.{Does, DoesAll, Host, HostTurn, Took, Pushed, Ticked, Submitted, Polled, Put, sight_in}, Orders.is_queued}
+use Rattle.hba_driver.specs.{Served.{IsServed, RunServes}, Sights.file_shown, Steady.{HasSignature, IsAskedOf, IsSteady, slot_in}}
+use Rattle.hba_driver.specs.{Submits.{new_entry, next_slot}, Ticks.after_tick, Between.{DriverKeeps, From, PollFacts, Signs}}
+use Rattle.hba_driver.proofs.Door.{back_of, flush_row, flush_steady, free_other, freed, hosts_stay_sound, in_slots, issued_unended, keeps_tick}
+use Rattle.hba_driver.proofs.Door.{opens_row, opens_steady, poll_facts, rows_stay, set_cases, sound_turn, tick_beside, turn_steady, turns_serve}
+use Rattle.hba_driver.proofs.Door.{zeroed_right}
 use Rattle.disk_recovery.specs.Kept.{CalmTurnsKeep, FlushOpens, IsCalmTurn, IsServedHonestly, OpensHonestly, ServesOn}
-use Rattle.disk_recovery.specs.Steady.{AreNamed, IsAskedSigned, IsRowSigned, command_of}
-use Rattle.disk_recovery.specs.Between.{AreAway, CalmEnds, IsNewOrOld}
+use Rattle.disk_recovery.specs.{Steady.{AreNamed, IsAskedSigned, IsRowSigned, command_of}, Between.{AreAway, CalmEnds, IsNewOrOld}}
 use Rattle.disk_recovery.proofs.honest.AwayLemmas.{beside_away, calm_ends}
 
 -- ---- one turn
@@ -57,8 +43,6 @@ kept_entry old t new does s x e here there = by_turn t does
         subst (λ (y : Entry). e ≡ rephased e.head.phase y) (sym it) refl
 
     by_turn : (t : HostTurn) → Does old t new → e ≡ rephased e.head.phase x
-    by_turn (Took frame report) does = same does.driver
-    by_turn (Pushed frame) does = same does.driver
     by_turn (Ticked a) does =
         let b = back_of (entry_at old.driver.entries s) (entry_at (after_tick (sight_in old) (file_shown new.port) old.driver).entries s) (keeps_tick (sight_in old) (file_shown new.port) old.driver s) e
         (ap (λ (d : Driver). entry_at d.entries s) (sym does.driver) ∙ there) in
@@ -74,7 +58,7 @@ kept_entry old t new does s x e here there = by_turn t does
           | inl at ↦ none_some e at.1
           | inr beside ↦ subst (λ (y : Entry). e ≡ rephased e.head.phase y) (some_inj e x (sym beside.1 ∙ here)) refl
         ]
-    by_turn (Put at bytes) does = same does.driver
+    by_turn other does = same does.driver
 
 -- ---- the commands of the slots
 

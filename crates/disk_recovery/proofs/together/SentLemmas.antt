@@ -1,8 +1,6 @@
 -- For `pushes_serve_on`. A command that went out stays so while nothing is issued.
 use Rattle.std.proofs.Common.{◌≡◌, ℕ, Bool, true, false, cond, eqb, [], ◌∷◌, ◌++◌, refl}
-use Rattle.hba_laws.specs.Client.{By, Puts, Stops, Touches, own}
-use Rattle.hba_laws.specs.History.{Event, History, Issued, Sent}
-use Rattle.hba_laws.specs.Between.{NoneIssues, NotIssue}
+use Rattle.hba_laws.specs.{Client.{By, Touches, own}, History.{Event, History, Issued, Sent}, Between.{NoneIssues, NotIssue}}
 use Rattle.disk_simulation.specs.Together.{is_sent}
 
 sent_test : (s : ℕ) (past : History) (b : Bool) → is_sent s past ≡ true → cond b true (is_sent s past) ≡ true
@@ -23,5 +21,4 @@ sent_there n s (By dev e ∷ rest) past none is = by_test (eqb dev n) (sent_ther
     by_test : (b : Bool) → is_sent s (own n (rest ++ past)) ≡ true → is_sent s (cond b (e ∷ own n (rest ++ past)) (own n (rest ++ past))) ≡ true
     by_test true h = sent_event s e (own n (rest ++ past)) none.0 h
     by_test false h = h
-sent_there n s (Stops ∷ rest) past none is = sent_there n s rest past none is
-sent_there n s (Puts at bytes ∷ rest) past none is = sent_there n s rest past none is
+sent_there n s (other ∷ rest) past none is = sent_there n s rest past none is

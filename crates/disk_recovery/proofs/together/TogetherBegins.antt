@@ -3,38 +3,24 @@
 use Rattle.std.proofs.Common.{◌≡◌, ◌≢◌, ℕ, ◌<◌, true, false, List, [], ◌∷◌, ◌++◌, refl, sym, ◌∙◌, ap, subst, inl, inr, arith, Option, Some, None}
 use Rattle.std.specs.Option.{option_map}
 use Rattle.std.proofs.lemmas.Bool.{true≢false}
-use Rattle.slots.specs.Slots.{own_issue}
-use Rattle.slots.specs.declared.table.Context.{Context}
+use Rattle.slots.specs.{Slots.own_issue, declared.table.Context.Context}
 use Rattle.hba_fbs.specs.Views.{view_of}
-use Rattle.disk_model.specs.Histories.{Happening, Plugged}
-use Rattle.disk_model.specs.Ledger.{Reply, ShowsPage, Signs, ledger}
+use Rattle.disk_model.specs.{Histories.{Happening, Plugged}, Ledger.{Reply, ShowsPage, Signs, ledger}}
 use Rattle.disk_model.proofs.Door.{begins_anew}
-use Rattle.hba_laws.specs.Agreement.{IsHistoryOf, work_of_issue, work_of_transfer}
-use Rattle.hba_laws.specs.Client.{Touches, own}
-use Rattle.hba_laws.specs.Delivering.{touches_after}
+use Rattle.hba_laws.specs.{Agreement.{IsHistoryOf, work_of_issue, work_of_transfer}, Client.{Touches, own}, Delivering.touches_after}
 use Rattle.hba_laws.specs.History.{Transfer, issued}
-use Rattle.disk_simulation.specs.Anew.{IsAwaited}
+use Rattle.disk_simulation.specs.{Same.SlotCommand, Between.IsThere}
 use Rattle.disk_simulation.specs.Anew as anew
 use Rattle.disk_simulation.proofs.Door.{hosted_since_new, no_context, opens_after, opens_signing, there_by}
-use Rattle.disk_simulation.specs.Same.{SlotCommand}
-use Rattle.disk_simulation.specs.Between.{IsThere}
-use Rattle.hba_driver.specs.declared.path.Path.{Path}
-use Rattle.hba_driver.specs.declared.path.Recovery.{Recovery}
-use Rattle.hba_driver.specs.declared.path.Recovery.TheVariants.{Log, Reset}
-use Rattle.hba_driver.specs.declared.path.Stage.{Stage}
-use Rattle.hba_driver.specs.declared.path.Stage.TheVariants.{Identify, ReadLog, AwaitReset, ReleaseReset}
-use Rattle.hba_driver.specs.declared.plan.Device.{Device}
-use Rattle.hba_driver.specs.declared.plan.Device.TheVariants.{Ready, Recovering, Starting}
-use Rattle.hba_driver.specs.declared.plan.Plan.{Plan}
-use Rattle.hba_driver.specs.Drivers.{Driver, Entry, device_at, entry_at}
-use Rattle.hba_driver.specs.Events.{IsSoundHost, events_over, shared_by}
-use Rattle.hba_driver.specs.HostTurns.{Does, Host, Ticked}
-use Rattle.hba_driver.specs.Served.{IsServed, RunServes}
-use Rattle.hba_driver.specs.Steady.{IsAskedOf, IsFine, IsSteady, IsSteadyPlan}
-use Rattle.hba_driver.specs.Tended.{Awaits, Fine, Identifies, IsAskedOn, IsAsking, IsAtStage, IsBegun, IsLiveAt, IsReleasing, IsTended, IsTendedBy, Logs, Releases, Spoilt}
-use Rattle.hba_driver.specs.Between.{From}
-use Rattle.hba_driver.proofs.Door.{flush_row, flush_steady, flush_unreset, in_slots, issued_live}
-use Rattle.hba_driver.proofs.Door.{issued_unended, sound_turn, stage_is, steady_tends, turns_serve, unworked}
+use Rattle.hba_driver.specs.declared.{path.Path.Path, path.Recovery.{Recovery, TheVariants.{Log, Reset}}}
+use Rattle.hba_driver.specs.declared.path.Stage.{Stage, TheVariants.{Identify, ReadLog, AwaitReset, ReleaseReset}}
+use Rattle.hba_driver.specs.declared.{plan.Device.{Device, TheVariants.{Ready, Recovering, Starting}}, plan.Plan.Plan}
+use Rattle.hba_driver.specs.{Drivers.{Driver, Entry, device_at, entry_at}, Events.{IsSoundHost, events_over, shared_by}}
+use Rattle.hba_driver.specs.{HostTurns.{Does, Host, Ticked}, Served.{IsServed, RunServes}, Steady.{IsAskedOf, IsFine, IsSteady, IsSteadyPlan}}
+use Rattle.hba_driver.specs.Tended.{Awaits, Fine, Identifies, IsAskedOn, IsAsking, IsAtStage, IsBegun, IsLiveAt, IsReleasing, IsTended, IsTendedBy}
+use Rattle.hba_driver.specs.{Tended.{Logs, Releases, Spoilt}, Between.From}
+use Rattle.hba_driver.proofs.Door.{flush_row, flush_steady, flush_unreset, in_slots, issued_live, issued_unended, sound_turn, stage_is, steady_tends}
+use Rattle.hba_driver.proofs.Door.{turns_serve, unworked}
 use Rattle.disk_recovery.specs.Steady.{HasSigned}
 use Rattle.disk_recovery.specs.Together.{FlushOpensOn, IsServedOn, LogBeginsServed, ResetBeginsServed, ServedSinceFlush, SpoiltIsFree}
 use Rattle.disk_recovery.proofs.honest.TurnLemmas.{after, no_issue, no_transfer, plain}

@@ -5,24 +5,15 @@ use Rattle.std.specs.Option.{option_map}
 use Rattle.slots.specs.Slots.{issue_at, own_issue}
 use Rattle.hba_fbs.specs.Views.{view_of}
 use Rattle.disk_model.specs.Histories.{Happening}
-use Rattle.hba_laws.specs.Agreement.{IsHistoryOf, work_of_transfer}
-use Rattle.hba_laws.specs.Client.{Touches, own}
-use Rattle.hba_laws.specs.History.{Transfer, issued}
+use Rattle.hba_laws.specs.{Agreement.{IsHistoryOf, work_of_transfer}, Client.{Touches, own}, History.{Transfer, issued}}
 use Rattle.hba_laws.proofs.Door.{own_in}
 use Rattle.disk_simulation.proofs.Door.{no_context, there_by}
-use Rattle.disk_simulation.specs.Same.{SlotCommand}
-use Rattle.disk_simulation.specs.Between.{IsThere}
-use Rattle.hba_driver.specs.declared.path.Recovery.TheVariants.{Reset}
-use Rattle.hba_driver.specs.declared.plan.Device.TheVariants.{Ready}
-use Rattle.hba_driver.specs.Drivers.{device_at}
-use Rattle.hba_driver.specs.Events.{shared_by}
-use Rattle.hba_driver.specs.HostTurns.{Host, HostTurn, Ticked}
-use Rattle.hba_driver.specs.Tended.{IsResetTurn, TendsOn}
-use Rattle.hba_driver.specs.Between.{From}
+use Rattle.disk_simulation.specs.{Same.SlotCommand, Between.IsThere}
+use Rattle.hba_driver.specs.{declared.{path.Recovery.TheVariants.Reset, plan.Device.TheVariants.Ready}, Drivers.device_at, Events.shared_by}
+use Rattle.hba_driver.specs.{HostTurns.{Host, HostTurn, Ticked}, Tended.{IsResetTurn, TendsOn}, Between.From}
 use Rattle.hba_driver.proofs.Door.{issued_live, recovering_ready, slot_over}
 use Rattle.disk_recovery.specs.Together.{CalmTurnsGoOn, IsFreeAt, IsServedOn}
-use Rattle.disk_recovery.proofs.together.TogetherBegins.{no_context_at}
-use Rattle.disk_recovery.proofs.together.TogetherTurns.{calm_tends, calm_turn}
+use Rattle.disk_recovery.proofs.together.{TogetherBegins.no_context_at, TogetherTurns.{calm_tends, calm_turn}}
 use Rattle.disk_recovery.proofs.honest.TurnLemmas.{no_issue, no_transfer}
 
 module _ (n : ℕ) (base : List Happening) (old : Host) (given : List Happening) (commands : ℕ → SlotCommand) (touches : Touches) (below : n < 15) (h : IsServedOn n base old given commands touches)

@@ -2,53 +2,30 @@
 -- serve it.
 use Rattle.std.proofs.Common.{◌≡◌, ◌≢◌, ℕ, ◌<◌, ◌≤◌, Bool, true, false, List, [], ◌∷◌, ◌++◌, suc, length, refl, sym, ◌∙◌, ap, subst, inl, inr, arith, Option, Some, None}
 use Rattle.std.specs.Prelude.{if◌then◌else◌, ◌%◌, map, slice_index, Ok}
-use Rattle.std.proofs.lemmas.Bool.{cases_Bool, cases_eq}
-use Rattle.std.proofs.lemmas.Bool.Decides.{nat_tests}
-use Rattle.std.proofs.lemmas.List.{append-nil}
-use Rattle.std.proofs.lemmas.List.FromFn.{length-map-range_with_len}
-use Rattle.fis_view.specs.Frames.{IsFrame, IsPayload, Stamped, marked}
-use Rattle.fis_view.specs.Seen.{seen}
+use Rattle.std.proofs.lemmas.{Bool.{cases_Bool, cases_eq}, Bool.Decides.nat_tests, List.append-nil, List.FromFn.length-map-range_with_len}
+use Rattle.fis_view.specs.{Frames.{IsFrame, IsPayload, Stamped, marked}, Seen.seen}
 use Rattle.fis_view.specs.declared.view.Fis.TheVariants as view
 use Rattle.fis_view.proofs.Door.{payload_seen}
 use Rattle.hba_commands.specs.declared.command.Command as issued_command
-use Rattle.slots.specs.Slots.{holds, is_control, issue_at}
-use Rattle.slots.specs.Work.{is_dma, is_queued}
-use Rattle.slots.specs.declared.work.Work.{Work}
-use Rattle.hba_fbs.specs.Sending.{Data, Gives, Order, Outgoing, data_fis, gathered, outgoing, view_sent}
-use Rattle.hba_fbs.specs.Tables.{prds_of}
+use Rattle.slots.specs.{Slots.{holds, is_control, issue_at}, Work.{is_dma, is_queued}, declared.work.Work.Work}
+use Rattle.hba_fbs.specs.{Sending.{Data, Gives, Order, Outgoing, data_fis, gathered, outgoing, view_sent}, Tables.prds_of}
 use Rattle.hba_fbs.specs.Views.{DeviceView, view_of}
-use Rattle.disk_model.specs.Anew.{IsCarefulSince}
-use Rattle.disk_model.specs.Histories.{Happening, Received}
-use Rattle.disk_model.specs.Ledger.{Moving, ledger}
-use Rattle.hba_laws.specs.Client.{By, Touches, own}
-use Rattle.hba_laws.specs.Delivering.{begun_by, event_sent, is_control_issue, touched_by_out}
+use Rattle.disk_model.specs.{Anew.IsCarefulSince, Histories.{Happening, Received}, Ledger.{Moving, ledger}}
+use Rattle.hba_laws.specs.{Client.{By, Touches, own}, Delivering.{begun_by, event_sent, is_control_issue, touched_by_out}, History.{Event, History}}
+use Rattle.hba_laws.specs.{Sound.IsHost, Between.{GoesOut, HasContext, IsOwn}}
 use Rattle.hba_laws.specs.History as told_as
-use Rattle.hba_laws.specs.History.{Event, History}
 use Rattle.hba_laws.specs.Hosts as event
-use Rattle.hba_laws.specs.Sound.{IsHost}
-use Rattle.hba_laws.specs.Between.{GoesOut, HasContext, IsOwn}
 use Rattle.hba_laws.proofs.Door.{goes_out, is_own, out_none, own_app, own_one, was_there}
-use Rattle.disk_simulation.specs.Anew.{IsHostedOn, IsKeptOn, asks, gives, sends, stays}
-use Rattle.disk_simulation.specs.Elsewhere.{IsForOther, LeavesDevice}
-use Rattle.disk_simulation.specs.Joined.{IsAskedBy}
+use Rattle.disk_simulation.specs.{Anew.{IsHostedOn, IsKeptOn, asks, gives, sends, stays}, Elsewhere.{IsForOther, LeavesDevice}, Joined.IsAskedBy}
+use Rattle.disk_simulation.specs.{Watched.{GavePlain, IsPlain}, Same.SlotCommand}
 use Rattle.disk_simulation.proofs.Door.{begun_none, hosted_on_is_kept, others_leave_device}
-use Rattle.hba_driver.specs.Drivers.{Driver, device_at, entry_at}
-use Rattle.hba_driver.specs.Events.{shared_by}
-use Rattle.hba_driver.specs.HostTurns.{Does, Host, Pushed}
-use Rattle.hba_driver.specs.Served.{RunServes}
-use Rattle.hba_driver.specs.Steady.{IsFine}
+use Rattle.hba_driver.specs.{Drivers.{Driver, device_at, entry_at}, Events.shared_by, HostTurns.{Does, Host, Pushed}, Served.RunServes, Steady.IsFine}
 use Rattle.hba_driver.specs.Tended.{IsAskedOn, IsAtStage, IsBegun, IsReleasing, IsTended}
 use Rattle.hba_driver.proofs.Door.{rows_stay, sound_shared, sound_turn, turns_serve}
-use Rattle.disk_recovery.specs.Kept.{given_to}
-use Rattle.disk_recovery.specs.Steady.{HasSigned}
-use Rattle.disk_simulation.specs.Watched.{GavePlain, IsPlain}
-use Rattle.disk_simulation.specs.Same.{SlotCommand}
-use Rattle.disk_recovery.specs.Together.{IsServedOn, PushesServeOn}
-use Rattle.disk_recovery.proofs.honest.PushLemmas.{HasLast, IsOrderOf, OutData, OutTold, frame_by, given_cases, given_elsewhere, given_here, out_data, out_last, out_told, short_frame}
-use Rattle.disk_recovery.proofs.together.ResetLemmas.{sent_state}
-use Rattle.disk_recovery.proofs.together.SentLemmas.{sent_there}
-use Rattle.disk_recovery.proofs.together.TogetherOrders.{IsOrderOn, base_clear, order_on, plain_marked, signed_since}
-use Rattle.disk_recovery.proofs.honest.TurnLemmas.{after}
+use Rattle.disk_recovery.specs.{Kept.given_to, Steady.HasSigned, Together.{IsServedOn, PushesServeOn}}
+use Rattle.disk_recovery.proofs.honest.PushLemmas.{HasLast, IsOrderOf, OutData, OutTold, frame_by, given_cases, given_elsewhere, given_here, out_data}
+use Rattle.disk_recovery.proofs.{honest.PushLemmas.{out_last, out_told, short_frame}, together.{ResetLemmas.sent_state, SentLemmas.sent_there}}
+use Rattle.disk_recovery.proofs.{together.TogetherOrders.{IsOrderOn, base_clear, order_on, plain_marked, signed_since}, honest.TurnLemmas.after}
 
 -- ---- data that goes out
 

@@ -1,46 +1,25 @@
 -- For `takes_serve_on`. A FIS of a disk is taken, or ignored, and the driver goes on to serve the disk from where both
 -- began anew.
 use Rattle.std.proofs.Common.{refl, ◌≡◌, ℕ, ◌<◌, Bool, true, false, List, [], ◌∷◌, ◌++◌, sym, ◌∙◌, ap, subst, inl, inr, arith, None}
-use Rattle.std.specs.Prelude.{◌⊎◌, Result, Ok, if◌then◌else◌}
+use Rattle.std.specs.Prelude.{◌⊎◌, if◌then◌else◌}
 use Rattle.std.proofs.lemmas.Bool.{true≢false}
-use Rattle.fis_view.specs.Frames.{marked}
-use Rattle.fis_view.specs.Seen.{seen}
+use Rattle.fis_view.specs.{Frames.marked, Seen.seen}
 use Rattle.host_memory.specs.Memory.{Memory}
-use Rattle.hba_fbs.specs.Taking.{admitted, heard_now, port_of}
-use Rattle.hba_fbs.specs.Views.{DeviceView, Port, view_of}
-use Rattle.hba_fbs.specs.declared.report.TakeReport.{TakeReport}
-use Rattle.disk_model.specs.Ends.{IsRight}
-use Rattle.disk_model.specs.Histories.{Happening, Sent}
-use Rattle.disk_model.specs.Ledger.{ledger}
-use Rattle.hba_laws.specs.Agreement.{IsHistoryOf}
-use Rattle.hba_laws.specs.Client.{Touches, own}
-use Rattle.hba_laws.specs.Delivering.{by_device, event_heard, touched}
-use Rattle.hba_laws.specs.History.{History}
+use Rattle.hba_fbs.specs.{Taking.{admitted, heard_now, port_of}, Views.{DeviceView, Port, view_of}, declared.report.TakeReport.TakeReport}
+use Rattle.disk_model.specs.{Ends.IsRight, Histories.{Happening, Sent}, Ledger.ledger}
+use Rattle.hba_laws.specs.{Agreement.IsHistoryOf, Client.{Touches, own}, Delivering.{by_device, event_heard, touched}, History.History, Sound.IsHost}
 use Rattle.hba_laws.specs.Hosts as event
-use Rattle.hba_laws.specs.Sound.{IsHost}
 use Rattle.hba_laws.proofs.Door.{own_app, took_none, was_there}
-use Rattle.disk_simulation.specs.Anew.{IsHostedOn, IsKeptOn, IsSignedWell}
+use Rattle.disk_simulation.specs.{Anew.{IsHostedOn, IsKeptOn}, Together.told, Same.SlotCommand, Between.IsSigned}
 use Rattle.disk_simulation.specs.Anew as anew
-use Rattle.disk_simulation.specs.Together.{told}
-use Rattle.disk_simulation.proofs.Door.{heard_as_told, hosted_on_is_kept, marks_tell_nothing}
-use Rattle.disk_simulation.proofs.Door.{signature_is_none, signed}
-use Rattle.disk_simulation.specs.Same.{SlotCommand}
-use Rattle.disk_simulation.specs.Between.{IsSigned}
-use Rattle.hba_driver.specs.Drivers.{Driver, device_at, entry_at}
-use Rattle.hba_driver.specs.Events.{shared_by}
-use Rattle.hba_driver.specs.HostTurns.{Does, DoesAll, Host, Took}
-use Rattle.hba_driver.specs.Served.{RunServes}
-use Rattle.hba_driver.specs.Sights.{is_ata, last_d2h}
-use Rattle.hba_driver.specs.Steady.{HasSignature, IsFine}
+use Rattle.disk_simulation.proofs.Door.{heard_as_told, hosted_on_is_kept, marks_tell_nothing, signature_is_none, signed}
+use Rattle.hba_driver.specs.{Drivers.{Driver, device_at, entry_at}, Events.shared_by, HostTurns.{Does, DoesAll, Host, Took}, Served.RunServes}
+use Rattle.hba_driver.specs.{Sights.{is_ata, last_d2h}, Steady.{HasSignature, IsFine}}
 use Rattle.hba_driver.specs.Tended.{IsAskedOn, IsAtStage, IsBegun, IsReleasing, IsTended, IsUnreset}
 use Rattle.hba_driver.proofs.Door.{rows_stay, sound_shared, sound_turn, turns_serve}
-use Rattle.disk_recovery.specs.Together.{IgnoredKeepOn, IsServedOn, ServesOnAnew, SignaturesKeepOn, TakesKeepOn}
-use Rattle.disk_recovery.specs.Steady.{HasSigned}
-use Rattle.disk_recovery.proofs.together.ResetLemmas.{signed_unreset, taken_unreset}
-use Rattle.disk_recovery.proofs.together.SentLemmas.{sent_there}
-use Rattle.disk_recovery.proofs.honest.SignLemmas.{signed_register, signed_sent}
-use Rattle.disk_recovery.proofs.honest.TakeLemmas.{register_or, signed_marked}
-use Rattle.disk_recovery.proofs.honest.TurnLemmas.{after}
+use Rattle.disk_recovery.specs.{Together.{IgnoredKeepOn, IsServedOn, ServesOnAnew, SignaturesKeepOn, TakesKeepOn}, Steady.HasSigned}
+use Rattle.disk_recovery.proofs.together.{ResetLemmas.{signed_unreset, taken_unreset}, SentLemmas.sent_there}
+use Rattle.disk_recovery.proofs.honest.{SignLemmas.{signed_register, signed_sent}, TakeLemmas.{register_or, signed_marked}, TurnLemmas.after}
 
 -- ---- what each frame leaves
 

@@ -5,41 +5,21 @@ use Rattle.std.specs.Prelude.{if◌then◌else◌, ◌==◌}
 use Rattle.std.proofs.lemmas.Bool.{ne_eqb}
 use Rattle.host_memory.specs.Memory.{Memory}
 use Rattle.hba_commands.specs.declared.command.Command as issued_command
-use Rattle.hba_fbs.specs.declared.register.Register.{Register}
-use Rattle.hba_fbs.specs.declared.register.Register.TheVariants.{Ci, Clb}
-use Rattle.hba_fbs.specs.declared.registers.Registers.{Registers}
-use Rattle.hba_fbs.specs.Issuing.{aimed, asked, view_issued}
-use Rattle.hba_fbs.specs.Views.{DeviceView, view_of}
-use Rattle.hba_fbs.specs.Writing.{view_after}
-use Rattle.disk_model.specs.Histories.{Happening}
-use Rattle.disk_model.specs.Ledger.{Ledger, ledger}
-use Rattle.hba_laws.specs.Client.{Touches, own}
-use Rattle.hba_laws.specs.Delivering.{history_after, touched, touches_after}
-use Rattle.hba_laws.specs.History.{History}
+use Rattle.hba_fbs.specs.{declared.{register.Register.{Register, TheVariants.Ci}, registers.Registers.Registers}, Issuing.{aimed, asked, view_issued}}
+use Rattle.hba_fbs.specs.{Views.{DeviceView, view_of}, Writing.view_after}
+use Rattle.disk_model.specs.{Histories.Happening, Ledger.{Ledger, ledger}}
+use Rattle.hba_laws.specs.{Client.{Touches, own}, Delivering.{history_after, touched, touches_after}, History.History, Hosts.{HostEvent, Runs}}
+use Rattle.hba_laws.specs.{Sound.AreHosts, Between.{history_below, with_issued}}
 use Rattle.hba_laws.specs.Hosts as event
-use Rattle.hba_laws.specs.Hosts.{HostEvent, Runs}
-use Rattle.hba_laws.specs.Sound.{AreHosts}
-use Rattle.hba_laws.specs.Between.{history_below, with_issued}
 use Rattle.hba_laws.proofs.Door.{histories_are_parts, own_app, own_below_is}
-use Rattle.disk_simulation.specs.Anew.{IsHostedOn}
-use Rattle.disk_simulation.specs.Calm.{AreCalm, IsCalm, IssuesFor, WritesIssues}
-use Rattle.disk_simulation.specs.Elsewhere.{IsElsewhere, LeavesDevice}
-use Rattle.disk_simulation.specs.Together.{is_sent}
+use Rattle.disk_simulation.specs.{Anew.IsHostedOn, Calm.{AreCalm, IsCalm, IssuesFor, WritesIssues}, Elsewhere.{IsElsewhere, LeavesDevice}}
+use Rattle.disk_simulation.specs.{Together.is_sent, Same.SlotCommand}
 use Rattle.disk_simulation.proofs.Door.{calm_leaves_together, hosted_on_is_kept, others_leave_device}
-use Rattle.disk_simulation.specs.Same.{SlotCommand}
-use Rattle.hba_driver.specs.Drivers.{entry_at}
-use Rattle.hba_driver.specs.Events.{events_over, shared_by}
-use Rattle.hba_driver.specs.HostTurns.{DoesAll, Host, HostTurn, Took, Pushed, Ticked, Submitted, Polled, Put}
-use Rattle.hba_driver.specs.Served.{RunServes}
-use Rattle.hba_driver.specs.Steady.{HasSignature, IsSteadyTurn, Issues, slot_in}
-use Rattle.hba_driver.specs.Tended.{IsSteplessTurn, IsTended, TendsOn}
-use Rattle.hba_driver.proofs.Door.{asked_is, rows_stay, sound_turn, stepless_slot, tick_beside, turn_tended}
-use Rattle.hba_driver.proofs.Door.{turns_serve}
-use Rattle.disk_recovery.specs.Kept.{IsCalmTurn}
-use Rattle.disk_recovery.specs.Together.{CalmTurnsKeepOn, IsServedOn, ServesOnAnew}
-use Rattle.disk_recovery.specs.Between.{AreAway, CalmEnds}
-use Rattle.disk_recovery.proofs.honest.AwayLemmas.{beside_away, calm_ends}
-use Rattle.disk_recovery.proofs.honest.TurnLemmas.{after, command_in, named_then, tag_in, told_by}
+use Rattle.hba_driver.specs.{Drivers.entry_at, Events.{events_over, shared_by}, HostTurns.{DoesAll, Host, HostTurn, Took, Pushed, Ticked, Polled}}
+use Rattle.hba_driver.specs.{Served.RunServes, Steady.{HasSignature, IsSteadyTurn, Issues, slot_in}, Tended.{IsSteplessTurn, IsTended, TendsOn}}
+use Rattle.hba_driver.proofs.Door.{asked_is, rows_stay, sound_turn, stepless_slot, tick_beside, turn_tended, turns_serve}
+use Rattle.disk_recovery.specs.{Kept.IsCalmTurn, Together.{CalmTurnsKeepOn, IsServedOn, ServesOnAnew}, Between.{AreAway, CalmEnds}}
+use Rattle.disk_recovery.proofs.honest.{AwayLemmas.{beside_away, calm_ends}, TurnLemmas.{after, command_in, named_then, tag_in, told_by}}
 
 -- ---- calm runs
 
@@ -61,7 +41,6 @@ written_state : (n value : ℕ) (k : Ledger) (old mid : event.Host) (commands ne
 unfolding view_after
 written_state n value k old mid commands next Ci small does is =
     ap (λ (v : DeviceView). v.state.resetting) (does.1.views n small) ∙ issued_state old.port.registers old.memory value (view_of n old.port) (n == aimed old.port.registers old.memory.structure value)
-written_state n value k old mid commands next Clb small does is = absurd is
 written_state n value k old mid commands next other small does is = absurd is
 
 issues_state : (n : ℕ) (k : Ledger) (old mid : event.Host) (commands next : ℕ → SlotCommand) (e : HostEvent) → n < 16 → event.Does old e mid → IssuesFor n k old commands e next → (view_of n mid.port).state.resetting ≡ (view_of n old.port).state.resetting
@@ -178,18 +157,14 @@ calm_turn n base old (Ticked a) new run given commands touches below calm tends 
     (beside_away n (slot_in old) (shared_by old) (shared_by new) (events_over old new (Ticked a ∷ []) run) runs (tick_beside n old a new run h.sound h.served.bounded calm runs))
     tends tended (stepless_slot old a)
     (rows_stay n old (Ticked a) new (omega (arith, below)) d h.sound calm)
-calm_turn n base old (Submitted dev request ticket) new run given commands touches below calm tends tended h =
-    let d = after old (Submitted dev request ticket) new run in
-    goes_on n base old (Submitted dev request ticket) new run given commands touches below h 31 (inl tt, tt) tends tended (λ t. apart_31)
-    (rows_stay n old (Submitted dev request ticket) new (omega (arith, below)) d h.sound tt)
 calm_turn n base old (Polled c) new run given commands touches below calm tends tended h =
     let d = after old (Polled c) new run in
     goes_on n base old (Polled c) new run given commands touches below h 31 tt tends tended (λ t. apart_31)
     (rows_stay n old (Polled c) new (omega (arith, below)) d h.sound tt)
-calm_turn n base old (Put at bytes) new run given commands touches below calm tends tended h =
-    let d = after old (Put at bytes) new run in
-    goes_on n base old (Put at bytes) new run given commands touches below h 31 (inl tt, tt) tends tended (λ t. apart_31)
-    (rows_stay n old (Put at bytes) new (omega (arith, below)) d h.sound tt)
+calm_turn n base old other new run given commands touches below calm tends tended h =
+    let d = after old other new run in
+    goes_on n base old other new run given commands touches below h 31 (inl tt, tt) tends tended (λ t. apart_31)
+    (rows_stay n old other new (omega (arith, below)) d h.sound tt)
 
 -- a turn that is calm for it is so for the driver
 steady_of : (n : ℕ) (old : Host) (turn : HostTurn) → IsCalmTurn n old turn → IsSteadyTurn n old turn

@@ -1,35 +1,20 @@
 -- For `stays_unasked`. A fault of a disk's FIS sets the device aside, and the driver does not look for it.
 use Rattle.std.proofs.Common.{◌≡◌, ℕ, ◌≤◌, ◌⊎◌, Bool, true, false, List, refl, sym, ◌∙◌, ap, subst, inl, inr, arith, Option, Some, None, Result}
 use Rattle.std.specs.Prelude.{◌&&◌, is_none, if◌then◌else◌, is_some, nat_lt}
-use Rattle.std.proofs.lemmas.Bool.{cases_Bool, false≢true, true≢false}
-use Rattle.std.proofs.lemmas.Bool.Decides.{nat_tests}
-use Rattle.fis_view.specs.Frames.{marked}
-use Rattle.fis_view.specs.Seen.{seen}
+use Rattle.std.proofs.lemmas.{Bool.{cases_Bool, false≢true, true≢false}, Bool.Decides.nat_tests}
+use Rattle.fis_view.specs.{Frames.marked, Seen.seen, Table.{D2h, Status, field}, declared.{view.Fis.Fis, view.FisFault.FisFault}}
 use Rattle.fis_view.specs.Table as table
-use Rattle.fis_view.specs.Table.{D2h, Status, field}
 use Rattle.fis_view.specs.declared.view.Fis.TheVariants as view
-use Rattle.fis_view.specs.declared.view.Fis.{Fis}
-use Rattle.fis_view.specs.declared.view.FisFault.{FisFault}
 use Rattle.host_memory.specs.Memory.{Memory}
-use Rattle.slots.specs.Commands.{answer_for}
-use Rattle.slots.specs.Slots.{DeviceSlots, Issue, match_some, own_issue, waiting}
-use Rattle.slots.specs.declared.answer.Answered.TheVariants.{Nobody}
+use Rattle.slots.specs.{Commands.answer_for, Slots.{DeviceSlots, Issue, match_some, own_issue, waiting}, declared.answer.Answered.TheVariants.Nobody}
 use Rattle.hba_fbs.specs.declared.hearing.Happening.TheVariants as happening
-use Rattle.hba_fbs.specs.Hearing.{answer_fault, heard_d2h, heard_fis, heard_register, quietly}
-use Rattle.hba_fbs.specs.Status.{after_reset}
+use Rattle.hba_fbs.specs.{Hearing.{answer_fault, heard_d2h, heard_fis, heard_register, quietly}, Status.after_reset}
 use Rattle.hba_fbs.specs.Taking.{Hears, admitted, device_cause, heard, heard_now, heard_report, ignores, is_ignored, place_in, port_of, row_for}
-use Rattle.hba_fbs.specs.Tables.{is_sound}
-use Rattle.hba_fbs.specs.Views.{DeviceView, Port, view_of}
-use Rattle.hba_fbs.specs.declared.report.TakeReport.{TakeReport}
-use Rattle.hba_fbs.specs.declared.state.DeviceState.{DeviceState}
-use Rattle.disk_model.specs.Ends.{IsRight}
-use Rattle.disk_model.specs.Ledger.{Ledger, ledger}
+use Rattle.hba_fbs.specs.{Tables.is_sound, Views.{DeviceView, Port, view_of}, declared.{report.TakeReport.TakeReport, state.DeviceState.DeviceState}}
+use Rattle.disk_model.specs.{Ends.IsRight, Ledger.{Ledger, ledger}}
 use Rattle.disk_simulation.specs.Files.{IsOfDisk}
 use Rattle.disk_simulation.proofs.Door.{disk_marked, marks_tell_nothing}
-use Rattle.hba_driver.specs.declared.plan.Device.TheVariants.{Absent}
-use Rattle.hba_driver.specs.Drivers.{Driver, device_at}
-use Rattle.hba_driver.specs.Events.{IsSoundHost}
-use Rattle.hba_driver.specs.HostTurns.{Does, Host, Took}
+use Rattle.hba_driver.specs.{declared.plan.Device.TheVariants.Absent, Drivers.{Driver, device_at}, Events.IsSoundHost, HostTurns.{Does, Host, Took}}
 use Rattle.hba_driver.specs.Steady.{detects}
 use Rattle.hba_driver.proofs.Door.{heard_as}
 use Rattle.disk_recovery.specs.Unasked.{FaultsSetAside, OwesSignature}

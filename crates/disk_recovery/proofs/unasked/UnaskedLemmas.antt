@@ -1,54 +1,27 @@
 -- For `stays_unasked`. A device that is taken to be absent owes nothing but its signature.
 use Rattle.std.proofs.Common.{◌≡◌, ℕ, ◌<◌, ◌⊎◌, Bool, true, false, List, [], ◌∷◌, ◌++◌, refl, sym, ◌∙◌, ap, subst, inl, inr, arith, Option, Some, None, Result, Ok}
 use Rattle.std.specs.Prelude.{◌%◌, ◌==◌, find, slice_index, drop}
-use Rattle.std.proofs.lemmas.Bool.{cases_eq}
-use Rattle.std.proofs.lemmas.List.{append-nil}
-use Rattle.fis_view.specs.Frames.{Stamped}
-use Rattle.fis_view.specs.Seen.{seen}
-use Rattle.fis_view.specs.Table.{Bits, BufferId, D2h, SActive, Setup, Status, field}
-use Rattle.fis_view.specs.declared.view.Fis.{Fis}
-use Rattle.fis_view.specs.declared.view.Fis.TheVariants as view
+use Rattle.std.proofs.lemmas.{Bool.cases_eq, List.append-nil}
+use Rattle.fis_view.specs.{Frames.Stamped, Seen.seen, Table.{Bits, BufferId, D2h, SActive, Setup, Status, field}, declared.view.Fis.Fis}
 use Rattle.fis_view.specs.declared.view.FisFault.{FisFault}
-use Rattle.slots.specs.Slots.{Issue, own_issue}
-use Rattle.slots.specs.declared.table.Context.{Context}
+use Rattle.fis_view.specs.declared.view.Fis.TheVariants as view
+use Rattle.slots.specs.{Slots.{Issue, own_issue}, declared.table.Context.Context}
 use Rattle.hba_commands.specs.declared.command.Command as issued_command
-use Rattle.hba_fbs.specs.Sending.{Data, Gives, Order, Outgoing, data_fis, gathered, outgoing}
-use Rattle.hba_fbs.specs.Tables.{prds_of}
-use Rattle.hba_fbs.specs.Views.{view_of}
-use Rattle.disk_model.specs.declared.request.Command.{Command}
-use Rattle.disk_model.specs.Anew.{IsClear, OwesOnly}
-use Rattle.disk_model.specs.Ends.{IsRight, PageAsked}
-use Rattle.disk_model.specs.Histories.{Happening, Plugged, Sent}
-use Rattle.disk_model.specs.Laws.{ActivatesRight, AnswersFirst, SetsUpRight, ShowsFirst, StartsOne}
+use Rattle.hba_fbs.specs.{Sending.{Data, Gives, Order, Outgoing, data_fis, gathered, outgoing}, Tables.prds_of, Views.view_of}
+use Rattle.disk_model.specs.{declared.request.Command.Command, Anew.{IsClear, OwesOnly}, Ends.{IsRight, PageAsked}}
+use Rattle.disk_model.specs.{Histories.{Happening, Plugged, Sent}, Laws.{ActivatesRight, AnswersFirst, SetsUpRight, ShowsFirst, StartsOne}}
 use Rattle.disk_model.specs.Ledger.{Ledger, Moving, Names, Reply, Signs, empty, ledger, listens_up}
 use Rattle.disk_model.proofs.Door.{begins_anew}
-use Rattle.hba_laws.specs.Agreement.{IsHistoryOf}
-use Rattle.hba_laws.specs.Client.{Touches, own}
-use Rattle.hba_laws.specs.History.{Transfer, issued}
-use Rattle.hba_laws.specs.Sound.{IsHost}
-use Rattle.hba_laws.specs.Between.{GoesOut}
+use Rattle.hba_laws.specs.{Agreement.IsHistoryOf, Client.{Touches, own}, History.{Transfer, issued}, Sound.IsHost, Between.GoesOut}
 use Rattle.hba_laws.proofs.Door.{goes_out, the, the_transfer}
 use Rattle.disk_simulation.specs.Files.{IsOfDisk}
-use Rattle.hba_driver.specs.declared.path.Path.{Path}
-use Rattle.hba_driver.specs.declared.path.Recovery.{Recovery}
-use Rattle.hba_driver.specs.declared.path.Recovery.TheVariants.{Log, Reset}
-use Rattle.hba_driver.specs.declared.path.Stage.{Stage}
-use Rattle.hba_driver.specs.declared.plan.Device.{Device}
-use Rattle.hba_driver.specs.declared.plan.Device.TheVariants.{Absent, Ready, Recovering, Starting}
-use Rattle.hba_driver.specs.declared.plan.Plan.{Plan}
-use Rattle.hba_driver.specs.Drivers.{Driver, device_at}
-use Rattle.hba_driver.specs.Events.{shared_by}
-use Rattle.hba_driver.specs.HostTurns.{Host, HostTurn, Ticked}
-use Rattle.hba_driver.specs.Served.{IsServed}
-use Rattle.hba_driver.specs.Slot30.{Resets}
-use Rattle.hba_driver.specs.Steady.{IsSteadyTurn}
-use Rattle.hba_driver.specs.Tended.{Awaits, Fine, Identifies, IsTended, IsTendedBy, Logs, Releases, Spoilt}
-use Rattle.hba_driver.specs.Between.{From}
+use Rattle.hba_driver.specs.declared.{path.Path.Path, path.Recovery.{Recovery, TheVariants.{Log, Reset}}, path.Stage.Stage}
+use Rattle.hba_driver.specs.declared.{plan.Device.{Device, TheVariants.{Absent, Ready, Recovering, Starting}}, plan.Plan.Plan}
+use Rattle.hba_driver.specs.{Drivers.{Driver, device_at}, Events.shared_by, HostTurns.{Host, HostTurn, Ticked}, Served.IsServed, Slot30.Resets}
+use Rattle.hba_driver.specs.{Steady.IsSteadyTurn, Tended.{Awaits, Fine, Identifies, IsTended, IsTendedBy, Logs, Releases, Spoilt}, Between.From}
 use Rattle.hba_driver.proofs.Door.{issued_live, sound_shared, turn_was}
-use Rattle.disk_recovery.specs.Kept.{IsCalmTurn, given_to}
-use Rattle.disk_recovery.proofs.honest.PushLemmas.{HasLast, OutData, OutTold, given_elsewhere, out_data, out_last, out_told}
-use Rattle.disk_recovery.proofs.honest.SignLemmas.{ledger_more}
-use Rattle.disk_recovery.specs.Unasked.{EachStaysUnasked, IsUnasked, OwesSignature}
+use Rattle.disk_recovery.specs.{Kept.{IsCalmTurn, given_to}, Unasked.{EachStaysUnasked, IsUnasked, OwesSignature}}
+use Rattle.disk_recovery.proofs.honest.{PushLemmas.{HasLast, OutData, OutTold, given_elsewhere, out_data, out_last, out_told}, SignLemmas.ledger_more}
 
 -- ---- what may come of it
 

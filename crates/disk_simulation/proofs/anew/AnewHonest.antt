@@ -3,56 +3,33 @@
 use Rattle.std.proofs.Common.{◌≡◌, ◌==◌, ℕ, ◌-◌, ◌<◌, Bool, true, false, List, [], ◌∷◌, ◌++◌, drop, length, refl, sym, ap, subst, ◌∙◌, Option, Some, None, Ok, Err, Result, arith}
 use Rattle.std.specs.Prelude.{slice_get, if◌then◌else◌, is_some}
 use Rattle.std.proofs.lemmas.Bool.{true≢false}
-use Rattle.fis_view.specs.Frames.{IsFrame, marked}
-use Rattle.fis_view.specs.Table.{Bits, D2h, Pio, SActive, Setup, Status, field}
-use Rattle.fis_view.specs.Table as table
-use Rattle.fis_view.specs.Seen.{seen}
-use Rattle.fis_view.specs.declared.view.Fis.{Fis}
-use Rattle.fis_view.specs.declared.view.Fis.TheVariants as view
+use Rattle.fis_view.specs.{Frames.{IsFrame, marked}, Table.{Bits, D2h, Pio, SActive, Setup, Status, field}, Seen.seen, declared.view.Fis.Fis}
 use Rattle.fis_view.specs.declared.view.FisFault.{FisFault}
+use Rattle.fis_view.specs.Table as table
+use Rattle.fis_view.specs.declared.view.Fis.TheVariants as view
 use Rattle.fis_view.proofs.Door.{is_marked}
 use Rattle.port_errors.specs.declared.cause.DeviceCause.TheVariants as cause
-use Rattle.slots.specs.Commands.{completed}
-use Rattle.slots.specs.Data.{may_activate}
-use Rattle.slots.specs.Setup.{dma_context, out_setup, pio_fault, pio_issue, setup_fault}
-use Rattle.slots.specs.Slots.{DeviceSlots, has_bit, is_pio, match_some, own_issue, sent_pio}
-use Rattle.slots.specs.Work.{is_queued}
-use Rattle.slots.specs.declared.answer.Answered.TheVariants as answer
-use Rattle.slots.specs.declared.answer.SetupError.{SetupError}
+use Rattle.slots.specs.{Commands.completed, Data.may_activate, Setup.{dma_context, out_setup, pio_fault, pio_issue, setup_fault}}
+use Rattle.slots.specs.{Slots.{DeviceSlots, has_bit, is_pio, match_some, own_issue, sent_pio}, Work.is_queued, declared.answer.SetupError.SetupError}
 use Rattle.slots.specs.declared.table.Context.{Context}
+use Rattle.slots.specs.declared.answer.Answered.TheVariants as answer
 use Rattle.hba_fbs.specs.declared.hearing.Happening as hearing
 use Rattle.hba_fbs.specs.declared.hearing.Happening.TheVariants as happening
-use Rattle.hba_fbs.specs.declared.hearing.Heard.{Heard}
-use Rattle.hba_fbs.specs.declared.report.TakeReport.{TakeReport}
-use Rattle.hba_fbs.specs.declared.state.DeviceState.{DeviceState}
-use Rattle.hba_fbs.specs.declared.status.Block.{Block}
+use Rattle.hba_fbs.specs.declared.{hearing.Heard.Heard, report.TakeReport.TakeReport, state.DeviceState.DeviceState, status.Block.Block}
 use Rattle.hba_fbs.specs.Hearing.{block_of, faulty, heard_data, heard_fis, heard_out, heard_register, is_admitted, named, quietly, set_up, tag_of}
-use Rattle.hba_fbs.specs.Status.{is_busy, is_error, with_bits, with_file}
-use Rattle.hba_fbs.specs.Taking.{admitted, heard, heard_now, ignores, port_of}
-use Rattle.hba_fbs.specs.Tables.{is_sound}
+use Rattle.hba_fbs.specs.{Status.{is_busy, is_error, with_bits, with_file}, Taking.{admitted, heard, heard_now, ignores, port_of}, Tables.is_sound}
 use Rattle.hba_fbs.specs.Views.{DeviceView, view_of}
-use Rattle.disk_model.specs.Anew.{StayWritten}
-use Rattle.disk_model.specs.Ends.{EndsAgree, reports}
-use Rattle.disk_model.specs.Histories.{Happening, Plugged}
-use Rattle.disk_model.specs.Ledger.{Ledger, Written, ledger}
+use Rattle.disk_model.specs.{Anew.StayWritten, Ends.{EndsAgree, reports}, Histories.{Happening, Plugged}, Ledger.{Ledger, Written, ledger}}
 use Rattle.disk_model.proofs.Door.{ends_agree_anew, later_tells_of_all, linked_since_new, writes_stay}
 use Rattle.hba_laws.specs.Delivering.{completes_now, event_heard, event_of, event_taken}
+use Rattle.hba_laws.specs.{History.{Event, History, Named, Transfer, completes, is_at, issued, waiting_in}, Hosts.{Host, TakesFrame}, Sound.IsHost}
 use Rattle.hba_laws.specs.History as event
-use Rattle.hba_laws.specs.History.{Event, History, Named, Transfer, completes, is_at, issued, waiting_in}
-use Rattle.hba_laws.specs.Hosts.{Host, TakesFrame}
-use Rattle.hba_laws.specs.Sound.{IsHost}
 use Rattle.hba_laws.proofs.Door.{done_is_completed}
-use Rattle.disk_simulation.specs.Anew.{HonestStays, NextIsRightAnew, ReportsHonestlyAnew}
-use Rattle.disk_simulation.specs.Honest.{IsOnMedium}
-use Rattle.disk_simulation.specs.Joined.{IsJoined, ReportsHonestly}
-use Rattle.disk_simulation.proofs.honest.HonestLemmas.{done_where, next_where}
-use Rattle.disk_simulation.proofs.joined.JoinLemmas.{NamesNoTag, quiet_data, quiet_register}
-use Rattle.disk_simulation.proofs.joined.MarkedLemmas.{IsMarkedBits, bits_of_marked}
-use Rattle.disk_simulation.proofs.joined.SizeLemmas.{comes_short}
-use Rattle.disk_simulation.proofs.together.TogetherLemmas.{no_answer, no_end, not_pio}
+use Rattle.disk_simulation.specs.{Anew.{HonestStays, NextIsRightAnew, ReportsHonestlyAnew}, Honest.IsOnMedium, Joined.{IsJoined, ReportsHonestly}}
 use Rattle.disk_simulation.specs.Same.{SlotCommand}
-use Rattle.disk_simulation.proofs.events.DataLemmas.{get_more}
-use Rattle.disk_simulation.proofs.joined.HeardLemmas.{error_is}
+use Rattle.disk_simulation.proofs.{honest.HonestLemmas.{done_where, next_where}, joined.JoinLemmas.{NamesNoTag, quiet_data, quiet_register}}
+use Rattle.disk_simulation.proofs.joined.{MarkedLemmas.{IsMarkedBits, bits_of_marked}, SizeLemmas.comes_short}
+use Rattle.disk_simulation.proofs.{together.TogetherLemmas.{no_answer, no_end, not_pio}, events.DataLemmas.get_more, joined.HeardLemmas.error_is}
 
 -- ## What comes
 

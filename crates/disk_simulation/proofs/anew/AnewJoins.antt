@@ -1,43 +1,25 @@
 -- For `hosts_begin_anew`. A host whose port refuses nothing of a disk is careful from where both began anew, and joined
 -- with the disk's ledger.
 use Rattle.std.proofs.Common.{◌≡◌, ℕ, ◌<◌, true, List, [], ◌∷◌, ◌++◌, append_assoc, refl, sym, ap, subst, ◌∙◌, inr, Option, Some, None, arith}
-use Rattle.std.specs.Prelude.{is_some}
-use Rattle.std.specs.Option.{option_map}
-use Rattle.std.proofs.lemmas.Bool.{true≢false}
-use Rattle.std.proofs.lemmas.List.{append-nil}
-use Rattle.fis_view.specs.Frames.{IsFrame, Stamped, marked}
-use Rattle.fis_view.specs.Seen.{seen}
-use Rattle.slots.specs.Slots.{Issue, own_issue}
-use Rattle.slots.specs.Work.{is_queued}
-use Rattle.slots.specs.declared.table.Context.{Context}
-use Rattle.slots.specs.declared.work.Work.{Work}
-use Rattle.hba_fbs.specs.Taking.{port_of}
-use Rattle.hba_fbs.specs.Views.{DeviceView, view_of}
-use Rattle.disk_model.specs.Anew.{IsCarefulSince, IsClear, OwesOnly}
-use Rattle.disk_model.specs.Ends.{FitsAll}
-use Rattle.disk_model.specs.Histories.{Happening, Plugged, Loaded, Received, Sent}
-use Rattle.disk_model.specs.Ledger.{Ledger, ShowsPage, Signs, Wanted, empty, ledger, ledger_after, listens}
-use Rattle.disk_model.specs.Between.{FitsOne}
+use Rattle.std.specs.{Prelude.is_some, Option.option_map}
+use Rattle.std.proofs.lemmas.{Bool.true≢false, List.append-nil}
+use Rattle.fis_view.specs.{Frames.{IsFrame, Stamped, marked}, Seen.seen}
+use Rattle.slots.specs.{Slots.{Issue, own_issue}, Work.is_queued, declared.{table.Context.Context, work.Work.Work}}
+use Rattle.hba_fbs.specs.{Taking.port_of, Views.{DeviceView, view_of}}
+use Rattle.disk_model.specs.{Anew.{IsCarefulSince, IsClear, OwesOnly}, Ends.FitsAll, Histories.{Happening, Plugged, Loaded, Received, Sent}}
+use Rattle.disk_model.specs.{Ledger.{Ledger, ShowsPage, Signs, Wanted, empty, ledger, ledger_after, listens}, Between.FitsOne}
 use Rattle.disk_model.proofs.Door.{after_more, begins_anew, ledger_push}
-use Rattle.hba_laws.specs.Agreement.{ContextAgrees, IsHistoryOf, work_of_issue, work_of_transfer}
+use Rattle.hba_laws.specs.{Agreement.{ContextAgrees, IsHistoryOf, work_of_issue, work_of_transfer}, History.{History, Transfer, issued}, Hosts.Host}
 use Rattle.hba_laws.specs.History as event
-use Rattle.hba_laws.specs.History.{History, Transfer, issued}
-use Rattle.hba_laws.specs.Hosts.{Host}
-use Rattle.disk_simulation.specs.Anew.{HostedOnIsKept, HostedSinceNew, IsAwaited, IsHostedOn, IsKeptOn, IsOpening, KeepsSlots, OpensAfter, OpensTheSame}
+use Rattle.disk_simulation.specs.Anew.{HostedOnIsKept, HostedSinceNew, IsAwaited, IsHostedOn, IsKeptOn, IsOpening, OpensAfter}
+use Rattle.disk_simulation.specs.Joined.{IsJoined, JoinsGiven, SentAgrees}
+use Rattle.disk_simulation.specs.{Together.{AtMostOne, IsWaitedUnset, NoneQueued, Replies, Shows, is_sent, told}, Marked.IsHeardAlike}
+use Rattle.disk_simulation.specs.{Same.SlotCommand, Between.IsThere}
 use Rattle.disk_simulation.specs.Anew as anew
 use Rattle.disk_simulation.specs.Hosted as since_new
-use Rattle.disk_simulation.specs.Joined.{IsJoined, JoinsGiven, SentAgrees}
-use Rattle.disk_simulation.specs.Together.{AtMostOne, IsWaitedUnset, NoneQueued, Replies, Shows, is_sent, told}
-use Rattle.disk_simulation.specs.Marked.{IsHeardAlike}
-use Rattle.disk_simulation.proofs.joined.HeardLemmas.{there_by}
-use Rattle.disk_simulation.proofs.joined.IssueJoins.{joins_issues, keeps_joined}
-use Rattle.disk_simulation.proofs.joined.JoinLemmas.{joins_frames}
-use Rattle.disk_simulation.proofs.joined.MarkedLemmas.{marks_tell_nothing}
-use Rattle.disk_simulation.proofs.joined.OrderJoins.{joins_commands, joins_data, joins_others}
-use Rattle.disk_simulation.proofs.anew.SignsLemmas.{joins_signs}
-use Rattle.disk_simulation.proofs.together.TogetherLemmas.{opens_the_same}
-use Rattle.disk_simulation.specs.Same.{SlotCommand}
-use Rattle.disk_simulation.specs.Between.{IsThere}
+use Rattle.disk_simulation.proofs.joined.{HeardLemmas.there_by, IssueJoins.{joins_issues, keeps_joined}, JoinLemmas.joins_frames}
+use Rattle.disk_simulation.proofs.joined.{MarkedLemmas.marks_tell_nothing, OrderJoins.{joins_commands, joins_data, joins_others}}
+use Rattle.disk_simulation.proofs.{anew.SignsLemmas.joins_signs, together.TogetherLemmas.opens_the_same}
 
 -- ## Where they begin
 
@@ -76,17 +58,15 @@ careful_base base = record { since = []; is = sym (append-nil base); fits = tt }
 fits_last : (l : Ledger) (e : Happening) → FitsOne l e → FitsAll l (e ∷ [])
 unfolding FitsAll
 fits_last l (Received bytes) fits = (fits, tt)
-fits_last l (Sent bytes) fits = tt
-fits_last l Plugged fits = tt
 fits_last l (Loaded bytes) fits = absurd fits
+fits_last l other fits = tt
 
 fits_more : (l : Ledger) (given : List Happening) (e : Happening) → FitsAll l given → FitsOne (ledger_after l given) e → FitsAll l (given ++ e ∷ [])
 unfolding FitsAll ledger_after
 fits_more l [] e all one = fits_last l e one
 fits_more l (Received bytes ∷ given) e all one = (all.0, fits_more (listens l (Received bytes)) given e all.1 one)
-fits_more l (Sent bytes ∷ given) e all one = fits_more (listens l (Sent bytes)) given e all one
-fits_more l (Plugged ∷ given) e all one = fits_more (listens l Plugged) given e all one
 fits_more l (Loaded bytes ∷ given) e all one = absurd all
+fits_more l (other ∷ given) e all one = fits_more (listens l other) given e all one
 
 pub careful_more : (base given : List Happening) (e : Happening) → IsCarefulSince base given → FitsOne (ledger given) e
     → IsCarefulSince base (given ++ e ∷ [])

@@ -1,12 +1,8 @@
 -- For `hosts_are_careful`. A host whose port refuses nothing of a disk since its plugging is careful, and joined with
 -- the disk's ledger.
 use Rattle.std.proofs.Common.{[], ◌∷◌, List, sym, subst}
-use Rattle.disk_model.specs.Anew.{IsCarefulSince}
-use Rattle.disk_model.specs.Ends.{FitsAll, IsCareful}
-use Rattle.disk_model.specs.Histories.{Happening, Plugged}
-use Rattle.disk_model.specs.Ledger.{ledger_after}
-use Rattle.disk_simulation.specs.Anew.{IsKeptOn}
-use Rattle.disk_simulation.specs.Hosted.{HostedIsKept}
+use Rattle.disk_model.specs.{Anew.IsCarefulSince, Ends.{FitsAll, IsCareful}, Histories.{Happening, Plugged}, Ledger.ledger_after}
+use Rattle.disk_simulation.specs.{Anew.IsKeptOn, Hosted.HostedIsKept}
 use Rattle.disk_simulation.proofs.anew.AnewJoins.{hosted_on_is_kept, hosted_since_new}
 pub use Rattle.disk_simulation.proofs.anew.AnewJoins.{no_context}
 

@@ -1,20 +1,13 @@
 -- For `reports_are_honest_later`. What is done of a disk that was plugged in again.
 use Rattle.std.proofs.Common.{◌≡◌, ℕ, ◌+◌, ◌≤◌, List, [], ◌∷◌, ◌++◌, length, length-append, sym, ap, subst, ◌∙◌, arith}
-use Rattle.fis_view.specs.Table.{Bits, SActive, field}
-use Rattle.fis_view.specs.Seen.{seen}
-use Rattle.disk_model.specs.Anew.{IsLinkedOn}
-use Rattle.disk_model.specs.Ends.{AreEntered, EndsAgree, IsBits, IsRight}
-use Rattle.disk_model.specs.Histories.{Happening, Plugged}
-use Rattle.disk_model.specs.Later.{IsReadThere, TellsOfAll}
-use Rattle.disk_model.specs.Ledger.{Ledger, Names, Written, ledger}
+use Rattle.fis_view.specs.{Table.{Bits, SActive, field}, Seen.seen}
+use Rattle.disk_model.specs.{Anew.IsLinkedOn, Ends.{AreEntered, EndsAgree, IsBits, IsRight}, Histories.{Happening, Plugged}}
+use Rattle.disk_model.specs.{Later.{IsReadThere, TellsOfAll}, Ledger.{Ledger, Names, Written, ledger}}
 use Rattle.disk_model.proofs.Door.{ends_agree_anew, later_is_linked, later_tells_of_all}
 use Rattle.hba_laws.specs.History.{History, filled}
-use Rattle.disk_simulation.specs.Anew.{IsNextRight}
-use Rattle.disk_simulation.specs.Answers.{ByRead, ByWrite, HasEnded}
-use Rattle.disk_simulation.specs.Later.{NextIsRightLater, ReportsHonestlyLater, later_by}
+use Rattle.disk_simulation.specs.{Anew.IsNextRight, Answers.{ByRead, ByWrite, HasEnded}, Later.{NextIsRightLater, ReportsHonestlyLater, later_by}}
 use Rattle.disk_simulation.specs.Same.{SlotCommand, Stand}
-use Rattle.disk_simulation.proofs.anew.AnewHonest.{IsOfBits, next_anew, of_bits}
-use Rattle.disk_simulation.proofs.events.AnswerLemmas.{StandsFirst, named_first, names_keep}
+use Rattle.disk_simulation.proofs.{anew.AnewHonest.{IsOfBits, next_anew, of_bits}, events.AnswerLemmas.{StandsFirst, named_first, names_keep}}
 use Rattle.disk_simulation.proofs.honest.HonestLemmas.{IsNamed, done_by, named_by, names_of, next_where}
 
 pub next_later : NextIsRightLater

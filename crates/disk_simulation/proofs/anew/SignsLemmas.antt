@@ -2,38 +2,24 @@
 use Rattle.std.proofs.Common.{◌≡◌, ◌==◌, ◌&&◌, ◌||◌, eqb, ℕ, ◌%◌, Bool, true, false, List, [], ◌∷◌, drop, refl, sym, ap, subst, ◌∙◌, None, Ok, Result}
 use Rattle.std.specs.Prelude.{not, is_some, if◌then◌else◌}
 use Rattle.std.proofs.lemmas.Bool.{and_parts, or_parts, true≢false}
-use Rattle.fis_view.specs.Table.{D2h, Status, Error, field}
+use Rattle.fis_view.specs.{Table.{D2h, Status, Error, field}, Seen.seen, declared.{view.Fis.Fis, view.FisFault.FisFault}}
 use Rattle.fis_view.specs.Table as table
-use Rattle.fis_view.specs.Seen.{seen}
-use Rattle.fis_view.specs.declared.view.Fis.{Fis}
 use Rattle.fis_view.specs.declared.view.Fis.TheVariants as view
-use Rattle.fis_view.specs.declared.view.FisFault.{FisFault}
 use Rattle.slots.specs.Slots.{own_issue}
 use Rattle.hba_fbs.specs.declared.hearing.Happening.TheVariants as happening
-use Rattle.hba_fbs.specs.declared.hearing.Heard.{Heard}
-use Rattle.hba_fbs.specs.declared.report.TakeReport.{TakeReport}
-use Rattle.hba_fbs.specs.Hearing.{heard_d2h, heard_fis, quietly, signing}
-use Rattle.hba_fbs.specs.Posting.{is_signature, signs}
-use Rattle.hba_fbs.specs.Status.{after_reset, is_quiet}
-use Rattle.hba_fbs.specs.Tables.{is_sound}
+use Rattle.hba_fbs.specs.{declared.{hearing.Heard.Heard, report.TakeReport.TakeReport}, Hearing.{heard_d2h, heard_fis, quietly, signing}}
+use Rattle.hba_fbs.specs.{Posting.{is_signature, signs}, Status.{after_reset, is_quiet}, Tables.is_sound}
 use Rattle.hba_fbs.specs.Taking.{admitted, heard, heard_now, ignores, is_ignored, is_running, passes_over, port_of, view_after_hearing}
 use Rattle.hba_fbs.specs.Views.{DeviceView, view_of}
-use Rattle.disk_model.specs.Ends.{IsRight}
-use Rattle.disk_model.specs.Laws.{AnswersFirst}
+use Rattle.disk_model.specs.{Ends.IsRight, Laws.AnswersFirst}
 use Rattle.disk_model.specs.Ledger.{Accepts, Finishes, Ledger, Refuses, Reply, ShowsPage, Signs, answered, listens_up}
-use Rattle.hba_laws.specs.Agreement.{IsTold}
-use Rattle.hba_laws.specs.Client.{own}
-use Rattle.hba_laws.specs.Delivering.{by_device, event_heard, touched}
-use Rattle.hba_laws.specs.History.{History}
+use Rattle.hba_laws.specs.{Agreement.IsTold, Client.own, Delivering.{by_device, event_heard, touched}, History.History}
 use Rattle.hba_laws.specs.Hosts.{Host, TakesFrame, Took}
-use Rattle.disk_simulation.specs.Anew.{IsSignedWell, SignatureIsNone}
-use Rattle.disk_simulation.specs.Joined.{IsJoined}
-use Rattle.disk_simulation.specs.Together.{AtMostAccepts, InTalk, Pages, Queues, Replies, Same, Shows}
-use Rattle.disk_simulation.proofs.events.AnswerLemmas.{IsBeside, free_beside, life_beside}
-use Rattle.disk_simulation.proofs.joined.HeardLemmas.{heard_if, list_of, own_list}
-use Rattle.disk_simulation.proofs.joined.JoinLemmas.{asked_same}
-use Rattle.disk_simulation.specs.Same.{SlotCommand}
+use Rattle.disk_simulation.specs.{Anew.{IsSignedWell, SignatureIsNone}, Joined.IsJoined}
+use Rattle.disk_simulation.specs.{Together.{AtMostAccepts, InTalk, Pages, Queues, Replies, Same, Shows}, Same.SlotCommand}
 use Rattle.disk_simulation.specs.Between.{IsSigned, reset_by}
+use Rattle.disk_simulation.proofs.{events.AnswerLemmas.{IsBeside, free_beside, life_beside}, joined.HeardLemmas.{heard_if, list_of, own_list}}
+use Rattle.disk_simulation.proofs.joined.JoinLemmas.{asked_same}
 
 -- ## The frame
 

@@ -1,20 +1,15 @@
 -- For `answers_keep_the_same` and `names_are_of_what_ended`. What answers, and commands that are not queued, leave of
 -- each queued command.
 use Rattle.std.proofs.Common.{◌≡◌, ◌==◌, eqb, ℕ, Bool, true, false, List, [], ◌∷◌, ◌++◌, ◌≤◌, length, refl, sym, ap, subst, ◌∙◌, inl, inr, Option, None}
-use Rattle.std.specs.Prelude.{◌^◌, ◌≢◌, if◌then◌else◌, slice_get, find, drop}
-use Rattle.std.specs.Int.{bit_at}
-use Rattle.std.specs.List.{list_any}
-use Rattle.std.proofs.lemmas.Bool.{cases_Bool, eq-eqb, eqb-true, or_parts, true≢false}
-use Rattle.std.proofs.lemmas.Nat.Bits.{bit_at-pow_other, bit_at-pow_same}
+use Rattle.std.specs.{Prelude.{◌^◌, ◌≢◌, if◌then◌else◌, slice_get, find, drop}, Int.bit_at, List.list_any}
+use Rattle.std.proofs.lemmas.{Bool.{cases_Bool, eq-eqb, eqb-true, or_parts, true≢false}, Nat.Bits.{bit_at-pow_other, bit_at-pow_same}}
 use Rattle.slots.specs.Slots.{has_bit}
-use Rattle.disk_model.specs.declared.request.Command.{Command}
-use Rattle.disk_model.specs.declared.request.Request.{Request}
+use Rattle.disk_model.specs.{declared.{request.Command.Command, request.Request.Request}, Ends.{FitsRequest, IsFree, MovesOther, has}}
+use Rattle.disk_model.specs.{Ledger.{Ledger, Moving, Names, ReadOut, Written, answered, answers, asks, sends_data}, Between.alone}
 use Rattle.disk_model.specs.declared.request.Request.TheVariants as asked
-use Rattle.disk_model.specs.Ends.{FitsRequest, IsFree, MovesOther, has}
-use Rattle.disk_model.specs.Ledger.{Ledger, Moving, Names, ReadOut, Written, answered, answers, asks, sends_data}
-use Rattle.disk_model.specs.Between.{alone}
 use Rattle.disk_model.proofs.Door.{asks_fits, has_left}
-use Rattle.hba_laws.specs.History.{Answered, Carried, History, Named, PioSetUp, Sent, filled, filled_from, is_at, is_set_up, next_number, none_filled, waiting_in}
+use Rattle.hba_laws.specs.History.{Answered, Carried, History, Named, PioSetUp, Sent, filled, filled_from, is_at, is_set_up, next_number, none_filled}
+use Rattle.hba_laws.specs.History.{waiting_in}
 use Rattle.disk_simulation.specs.Same.{InLife, IsEndedBy, Moves, Open, ReadEnded, SlotCommand, StandsOnce, Unsent, Unset, WriteEnded}
 use Rattle.disk_simulation.specs.Answers.{AnswersKeep, ByRead, ByWrite, HasEnded, IsAlone, IsIdle, NamesKeep, OthersKeep}
 use Rattle.disk_simulation.proofs.events.SameLemmas.{moving_as, same_life}

@@ -1,20 +1,14 @@
 -- For `data_keeps_the_same`. What Data of the command that moves leaves of each queued command.
 use Rattle.std.proofs.Common.{◌≡◌, ◌==◌, eqb, ℕ, zero, suc, ◌+◌, ◌*◌, Bool, true, false, List, [], ◌∷◌, ◌++◌, append_assoc, length, length-append, ◌≤◌, refl, sym, ap, subst, ◌∙◌, inl, inr, Option, Some, None, arith}
-use Rattle.std.specs.Prelude.{not, if◌then◌else◌, slice_get, find, filter}
-use Rattle.std.specs.List.{list_any}
+use Rattle.std.specs.{Prelude.{not, if◌then◌else◌, slice_get, find, filter}, List.list_any}
 use Rattle.std.proofs.lemmas.Bool.{cases_Bool, eq-eqb, eqb-true, or_from}
-use Rattle.disk_model.specs.declared.request.Command.{Command}
-use Rattle.disk_model.specs.Chunks.{put}
-use Rattle.disk_model.specs.Ends.{IsFree, MovesOther, has}
-use Rattle.disk_model.specs.Laws.{bytes_named}
-use Rattle.disk_model.specs.Ledger.{Ledger, Moving, ReadOut, Written, ends, sends_data, takes_data}
-use Rattle.disk_model.specs.Between.{after_bytes, is_all, with_bytes}
+use Rattle.disk_model.specs.{declared.request.Command.Command, Chunks.put, Ends.{IsFree, MovesOther, has}, Laws.bytes_named}
+use Rattle.disk_model.specs.{Ledger.{Ledger, Moving, ReadOut, Written, ends, sends_data, takes_data}, Between.{after_bytes, is_all, with_bytes}}
 use Rattle.disk_model.proofs.Door.{but_free, data_down, goes_by, has_more, length-put}
 use Rattle.hba_laws.specs.History.{Carried, History, filled, filled_from, is_at, is_set_up, next_number, waiting_in}
-use Rattle.disk_simulation.specs.Same.{InLife, IsEndedBy, IsLastOf, IsMovingAt, Moves, Open, ReadEnded, SlotCommand, Stand, StandsOnce, Unsent, Unset, WriteEnded}
-use Rattle.disk_simulation.proofs.events.MoveLemmas.{IsMoved, not_own, other_life, own_life, unset_other}
-use Rattle.disk_simulation.proofs.events.SameLemmas.{data_fills}
-use Rattle.disk_simulation.specs.Steps.{DataDown, DataUp}
+use Rattle.disk_simulation.specs.Same.{InLife, IsEndedBy, IsLastOf, IsMovingAt, Moves, Open, ReadEnded, SlotCommand, Stand, StandsOnce, Unsent, Unset}
+use Rattle.disk_simulation.specs.{Same.WriteEnded, Steps.{DataDown, DataUp}}
+use Rattle.disk_simulation.proofs.events.{MoveLemmas.{IsMoved, not_own, other_life, own_life, unset_other}, SameLemmas.data_fills}
 
 -- ## Lists
 

@@ -2,13 +2,10 @@
 -- command.
 use Rattle.std.proofs.Common.{◌≡◌, eqb, ℕ, ◌+◌, ◌*◌, ◌≤◌, Bool, true, false, [], ◌∷◌, ◌++◌, refl, sym, ap, subst, ◌∙◌, inl, inr, Option, Some, None}
 use Rattle.std.proofs.lemmas.Bool.{cases_Bool, eq-eqb, eqb-true}
-use Rattle.disk_model.specs.declared.request.Command.{Command}
-use Rattle.disk_model.specs.Ends.{MovesOther, has}
-use Rattle.disk_model.specs.Laws.{bytes_named}
-use Rattle.disk_model.specs.Ledger.{Ledger, Moving, activates, sets_up}
+use Rattle.disk_model.specs.{declared.request.Command.Command, Ends.{MovesOther, has}, Laws.bytes_named, Ledger.{Ledger, Moving, activates, sets_up}}
 use Rattle.hba_laws.specs.History.{History, SetUp, filled, is_at, is_set_up, waiting_in}
-use Rattle.disk_simulation.specs.Same.{InLife, IsLastOf, IsMovingAt, IsMovingSince, Moves, Open, ReadEnded, SlotCommand, Stand, Unsent, Unset, WriteEnded}
-use Rattle.disk_simulation.specs.Steps.{ActivatesKeep, SetupsGoOn}
+use Rattle.disk_simulation.specs.Same.{InLife, IsLastOf, IsMovingAt, IsMovingSince, Moves, Open, ReadEnded, SlotCommand, Stand, Unsent, Unset}
+use Rattle.disk_simulation.specs.{Same.WriteEnded, Steps.{ActivatesKeep, SetupsGoOn}}
 
 -- ## Whose data moves
 

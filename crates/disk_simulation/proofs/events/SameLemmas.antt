@@ -1,22 +1,17 @@
 -- For `issues_and_commands_keep_the_same`, `setups_keep_the_same` and `data_fills_what_moves`. What each kind of event
 -- leaves of a queued command, by the ledger of the FISes and by the history of the device's events.
 use Rattle.std.proofs.Common.{◌≡◌, ◌&&◌, ◌==◌, ◌⊎◌, eqb, ℕ, ◌+◌, ◌-◌, ◌*◌, ◌≤◌, Bool, true, false, List, [], ◌∷◌, ◌++◌, length, refl, sym, ap, subst, ◌∙◌, inl, inr, Option, Some, None, arith}
-use Rattle.std.specs.Prelude.{nat_le, nat_lt, if◌then◌else◌, slice_get, find, replicate}
-use Rattle.std.specs.List.{list_any}
-use Rattle.std.specs.Option.{option_or}
+use Rattle.std.specs.{Prelude.{nat_le, nat_lt, if◌then◌else◌, slice_get, find, replicate}, List.list_any, Option.option_or}
 use Rattle.std.proofs.lemmas.Bool.{cases_Bool, and_parts, eq-eqb, eqb-true, or_from, or_left, or_parts, or_right, leb-true, ltb-true, true≢false}
-use Rattle.std.proofs.lemmas.List.{length-replicate}
-use Rattle.std.proofs.lemmas.List.Folds.{find-append, list_any-append}
+use Rattle.std.proofs.lemmas.{List.length-replicate, List.Folds.{find-append, list_any-append}}
 use Rattle.slots.specs.Slots.{match_some}
-use Rattle.disk_model.specs.declared.request.Command.{Command}
-use Rattle.disk_model.specs.Chunks.{put}
-use Rattle.disk_model.specs.Ends.{IsFree, MovesOther, has}
-use Rattle.disk_model.specs.Laws.{bytes_named}
-use Rattle.disk_model.specs.Ledger.{Ledger, Moving, starts_moving}
-use Rattle.disk_model.specs.Between.{opened}
+use Rattle.disk_model.specs.{declared.request.Command.Command, Chunks.put, Ends.{IsFree, MovesOther, has}, Laws.bytes_named}
+use Rattle.disk_model.specs.{Ledger.{Ledger, Moving, starts_moving}, Between.opened}
 use Rattle.disk_model.proofs.Door.{lie_where_put, opens_free}
-use Rattle.hba_laws.specs.History.{Carried, History, Issued, Sent, SetUp, Setup, Transfer, carried, filled, filled_from, is_at, is_set_up, last_setup, next_number, none_filled, unless, waiting_in}
-use Rattle.disk_simulation.specs.Same.{CommandsKeep, DataFills, InLife, IsEndedBy, IsLastOf, IsMovingAt, IssuesKeep, Moves, Open, ReadEnded, SetupsStart, SlotCommand, Stand, StandsOnce, Unsent, WriteEnded}
+use Rattle.hba_laws.specs.History.{Carried, History, Issued, Sent, SetUp, Setup, Transfer, carried, filled, filled_from, is_at, is_set_up, last_setup}
+use Rattle.hba_laws.specs.History.{next_number, none_filled, unless, waiting_in}
+use Rattle.disk_simulation.specs.Same.{CommandsKeep, DataFills, InLife, IsEndedBy, IsLastOf, IsMovingAt, IssuesKeep, Moves, Open, ReadEnded}
+use Rattle.disk_simulation.specs.Same.{SetupsStart, SlotCommand, Stand, StandsOnce, Unsent, WriteEnded}
 
 -- ## Lists
 

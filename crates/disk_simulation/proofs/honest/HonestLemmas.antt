@@ -1,29 +1,16 @@
 -- For `done_is_honest`. What a queued command that is done brought, or left on the medium.
 use Rattle.std.proofs.Common.{length, ◌≡◌, ◌==◌, ◌&&◌, ℕ, zero, suc, ◌+◌, ◌<◌, Bool, true, false, List, [], ◌∷◌, ◌++◌, get_or, refl, sym, ap, subst, ◌∙◌, inl, inr, Option, Some, None, Ok, Result, arith, ◌≤◌}
-use Rattle.std.specs.Prelude.{All, is_some, slice_get}
-use Rattle.std.specs.List.{range_with_len}
-use Rattle.std.proofs.lemmas.Bool.{and_parts, cases_Bool, eq-eqb, true≢false}
-use Rattle.std.proofs.lemmas.List.Elements.{All-head, All-tail}
-use Rattle.std.proofs.lemmas.List.Folds.{list_all_at}
-use Rattle.std.proofs.lemmas.List.FromFn.{get_or-range_with_len, length-range_with_len}
-use Rattle.std.proofs.lemmas.Option.{slice_get_within}
-use Rattle.fis_view.specs.Table.{Bits, SActive, field}
-use Rattle.fis_view.specs.Seen.{seen}
-use Rattle.fis_view.specs.declared.view.Fis.{Fis}
+use Rattle.std.specs.{Prelude.{All, is_some, slice_get}, List.range_with_len}
+use Rattle.std.proofs.lemmas.{Bool.{and_parts, cases_Bool, eq-eqb, true≢false}, List.Elements.{All-head, All-tail}, List.Folds.list_all_at}
+use Rattle.std.proofs.lemmas.{List.FromFn.{get_or-range_with_len, length-range_with_len}, Option.slice_get_within}
+use Rattle.fis_view.specs.{Table.{Bits, SActive, field}, Seen.seen, declared.{view.Fis.Fis, view.FisFault.FisFault}}
 use Rattle.fis_view.specs.declared.view.Fis.TheVariants as view
-use Rattle.fis_view.specs.declared.view.FisFault.{FisFault}
-use Rattle.slots.specs.Slots.{has_bit}
-use Rattle.slots.specs.Work.{is_queued}
-use Rattle.disk_model.specs.declared.request.Command.{Command}
-use Rattle.disk_model.specs.Chunks.{sectors_at}
-use Rattle.disk_model.specs.Ends.{AreEntered, AreRight, EndsAgree, IsBits, IsRight}
-use Rattle.disk_model.specs.Histories.{Happening, Sent}
-use Rattle.disk_model.specs.Ledger.{IsRead, Ledger, Names, ReadOut, Written, ledger, listens, medium_with}
+use Rattle.slots.specs.{Slots.has_bit, Work.is_queued}
+use Rattle.disk_model.specs.{declared.request.Command.Command, Chunks.sectors_at, Ends.{AreEntered, AreRight, EndsAgree, IsBits, IsRight}}
+use Rattle.disk_model.specs.{Histories.{Happening, Sent}, Ledger.{IsRead, Ledger, Names, ReadOut, Written, ledger, listens, medium_with}}
 use Rattle.disk_model.proofs.Door.{ends_agree}
 use Rattle.hba_laws.specs.History.{History, Named, Transfer, completes, filled, is_all_filled, issued}
-use Rattle.disk_simulation.specs.Same.{IsReadOf, IsWriteOf, SlotCommand, Stand}
-use Rattle.disk_simulation.specs.Answers.{ByRead, ByWrite, HasEnded}
-use Rattle.disk_simulation.specs.Together.{Same}
+use Rattle.disk_simulation.specs.{Same.{IsReadOf, IsWriteOf, SlotCommand, Stand}, Answers.{ByRead, ByWrite, HasEnded}, Together.Same}
 use Rattle.disk_simulation.specs.Honest.{AreFilledBy, BroughtSectors, DoneIsHonest, IsDoneHonestly, IsOnMedium, NextIsRight}
 use Rattle.disk_simulation.proofs.events.AnswerLemmas.{StandsFirst, named_first, names_keep}
 

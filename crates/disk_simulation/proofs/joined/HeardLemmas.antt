@@ -1,60 +1,37 @@
 -- For `fises_are_heard_as_told`. What a FIS of a disk is to its device's history at a host port that reports nothing
 -- wrong.
 use Rattle.std.proofs.Common.{◌≡◌, ◌==◌, ◌%◌, ◌/◌, ◌&&◌, eqb, ℕ, ◌-◌, ◌<◌, Bool, true, false, List, [], ◌∷◌, drop, length, refl, sym, ap, subst, ◌∙◌, Option, Some, None, Ok, Err, Result, arith}
-use Rattle.std.specs.Prelude.{not, nat_lt, if◌then◌else◌, is_some}
-use Rattle.std.specs.Option.{option_map}
-use Rattle.std.proofs.lemmas.Bool.{and_from, and_parts, eq-eqb, eqb-true, true≢false}
-use Rattle.std.proofs.lemmas.Nat.Bits.{bit_at-zero}
-use Rattle.fis_view.specs.Table.{Bits, BufferId, D2h, EStatus, Offset, Pio, SActive, Setup, Status, field}
-use Rattle.fis_view.specs.Table as table
-use Rattle.fis_view.specs.Seen.{seen}
-use Rattle.fis_view.specs.declared.view.Fis.{Fis}
-use Rattle.fis_view.specs.declared.view.Fis.TheVariants as view
+use Rattle.std.specs.{Prelude.{not, nat_lt, if◌then◌else◌, is_some}, Option.option_map}
+use Rattle.std.proofs.lemmas.{Bool.{and_from, and_parts, eq-eqb, eqb-true, true≢false}, Nat.Bits.bit_at-zero}
+use Rattle.fis_view.specs.{Table.{Bits, BufferId, D2h, Offset, Pio, SActive, Setup, Status, field}, Seen.seen, declared.view.Fis.Fis}
 use Rattle.fis_view.specs.declared.view.FisFault.{FisFault}
+use Rattle.fis_view.specs.Table as table
+use Rattle.fis_view.specs.declared.view.Fis.TheVariants as view
 use Rattle.port_errors.specs.declared.cause.DeviceCause.TheVariants as cause
-use Rattle.slots.specs.Commands.{answer_of, completed, is_short}
-use Rattle.slots.specs.Data.{after_arrive, may_activate}
+use Rattle.slots.specs.{Commands.{answer_of, completed, is_short}, Data.{after_arrive, may_activate}}
 use Rattle.slots.specs.Setup.{dma_context, is_outstanding, out_setup, pio_fault, pio_issue, setup_fault, transfer_fault}
-use Rattle.slots.specs.Slots.{DeviceSlots, Issue, has_bit, holds, is_queued_issue, is_short_issue, is_whole_issue, mask_of, match_some, own_issue, sent_pio}
-use Rattle.slots.specs.Work.{is_queued}
-use Rattle.slots.specs.declared.answer.Answered.{Answered}
-use Rattle.slots.specs.declared.answer.Answered.TheVariants as answer
-use Rattle.slots.specs.declared.answer.SetupError.{SetupError}
-use Rattle.slots.specs.declared.answer.SetupError.TheVariants as refused
-use Rattle.slots.specs.declared.table.Context.{Context}
+use Rattle.slots.specs.Slots.{DeviceSlots, Issue, has_bit, holds, is_queued_issue, is_short_issue, is_whole_issue, mask_of, match_some, own_issue}
+use Rattle.slots.specs.{Slots.sent_pio, Work.is_queued, declared.{answer.Answered.Answered, answer.SetupError.SetupError, table.Context.Context}}
 use Rattle.slots.specs.declared.work.Work.{Work}
+use Rattle.slots.specs.declared.answer.Answered.TheVariants as answer
+use Rattle.slots.specs.declared.answer.SetupError.TheVariants as refused
 use Rattle.slots.proofs.Door.{has_bit_mask}
-use Rattle.hba_fbs.specs.declared.hearing.Fault.{Fault}
-use Rattle.hba_fbs.specs.declared.hearing.Fault.TheVariants as fault
-use Rattle.hba_fbs.specs.declared.hearing.Happening.{Happening}
-use Rattle.hba_fbs.specs.declared.hearing.Happening.TheVariants as happening
-use Rattle.hba_fbs.specs.declared.hearing.Heard.{Heard}
-use Rattle.hba_fbs.specs.declared.report.TakeReport.{TakeReport}
-use Rattle.hba_fbs.specs.declared.report.Wrote.{Wrote}
-use Rattle.hba_fbs.specs.declared.state.DeviceState.{DeviceState}
-use Rattle.hba_fbs.specs.declared.status.Block.{Block}
-use Rattle.hba_fbs.specs.Hearing.{answered, block_of, bus_failed, faulty, heard_bytes, heard_data_of, heard_fis, heard_out, is_admitted, named, overflowed, quietly, set_up, tag_of}
-use Rattle.hba_fbs.specs.Status.{after_reset, is_busy, is_error, with_bits, with_file}
-use Rattle.hba_fbs.specs.Taking.{admitted, device_cause, heard, heard_now, heard_report, ignores, port_cause, port_of}
-use Rattle.hba_fbs.specs.Tables.{is_sound}
+use Rattle.hba_fbs.specs.declared.{hearing.Fault.Fault, hearing.Happening.Happening, hearing.Heard.Heard, report.TakeReport.TakeReport}
+use Rattle.hba_fbs.specs.declared.{report.Wrote.Wrote, state.DeviceState.DeviceState, status.Block.Block}
+use Rattle.hba_fbs.specs.Hearing.{answered, block_of, bus_failed, faulty, heard_bytes, heard_data_of, heard_fis, heard_out, is_admitted, named}
+use Rattle.hba_fbs.specs.{Hearing.{overflowed, quietly, set_up, tag_of}, Status.{after_reset, is_busy, is_error, with_bits, with_file}}
+use Rattle.hba_fbs.specs.{Taking.{admitted, device_cause, heard, heard_now, heard_report, ignores, port_cause, port_of}, Tables.is_sound}
 use Rattle.hba_fbs.specs.Views.{DeviceView, view_of}
-use Rattle.disk_model.specs.Ends.{IsFree, IsRight}
-use Rattle.disk_model.specs.Laws.{AnswersFirst}
-use Rattle.disk_model.specs.Ledger.{Ledger, Reply, ShowsPage}
-use Rattle.hba_laws.specs.Agreement.{IsTold, IssueAgrees, work_of_issue, work_of_transfer}
-use Rattle.hba_laws.specs.Client.{own}
-use Rattle.hba_laws.specs.Delivering.{by_device, event_heard}
-use Rattle.hba_laws.specs.History as event
-use Rattle.hba_laws.specs.History.{Event, History, Transfer, completes, filled, is_all_filled, is_at, issued, waiting_in}
-use Rattle.hba_laws.specs.Hosts.{Host, TakesFrame}
+use Rattle.hba_fbs.specs.declared.hearing.Fault.TheVariants as fault
+use Rattle.hba_fbs.specs.declared.hearing.Happening.TheVariants as happening
+use Rattle.disk_model.specs.{Ends.{IsFree, IsRight}, Laws.AnswersFirst, Ledger.{Ledger, Reply, ShowsPage}}
+use Rattle.hba_laws.specs.{Agreement.{IsTold, IssueAgrees, work_of_issue, work_of_transfer}, Client.own, Delivering.{by_device, event_heard}}
+use Rattle.hba_laws.specs.{History.{Event, History, Transfer, completes, filled, is_all_filled, is_at, issued, waiting_in}, Hosts.{Host, TakesFrame}}
 use Rattle.hba_laws.specs.Between.{IsOwn}
+use Rattle.hba_laws.specs.History as event
 use Rattle.hba_laws.proofs.Door.{is_own, own_below, payload_is, whole_is}
-use Rattle.disk_simulation.specs.Together.{IsHeard, NoneQueued, Same, told}
-use Rattle.disk_simulation.specs.Heard.{HeardAsTold, IsTakenWell}
-use Rattle.disk_simulation.proofs.together.TogetherLemmas.{set_up_now}
-use Rattle.disk_simulation.proofs.joined.OutLemmas.{IsRefused, pio_up, refuses_up}
-use Rattle.disk_simulation.specs.Same.{SlotCommand}
-use Rattle.disk_simulation.specs.Between.{IsThere}
+use Rattle.disk_simulation.specs.{Together.{IsHeard, NoneQueued, Same, told}, Heard.{HeardAsTold, IsTakenWell}, Same.SlotCommand, Between.IsThere}
+use Rattle.disk_simulation.proofs.{together.TogetherLemmas.set_up_now, joined.OutLemmas.{IsRefused, pio_up, refuses_up}}
 
 -- ## Events as lists
 

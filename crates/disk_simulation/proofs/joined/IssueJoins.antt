@@ -1,34 +1,22 @@
 -- For `port_and_ledger_stay_joined`. Commands are issued, and reports say that they are done, at a port that is joined
 -- to a disk's ledger.
 use Rattle.std.proofs.Common.{◌≡◌, eqb, ℕ, zero, suc, ◌<◌, ◌≤◌, Bool, true, false, ◌∷◌, ◌++◌, refl, sym, ap, subst, ◌∙◌, inl, inr, Option, Some, None, arith, length}
-use Rattle.std.specs.Prelude.{if◌then◌else◌, is_some}
-use Rattle.std.specs.Option.{option_map}
+use Rattle.std.specs.{Prelude.{if◌then◌else◌, is_some}, Option.option_map}
 use Rattle.std.proofs.lemmas.Bool.{cases_Bool, cases_lt, eq-eqb, eqb-true, le-ltb, lt-ltb, true≢false}
 use Rattle.host_memory.specs.Memory.{Memory}
 use Rattle.hba_commands.specs.declared.command.Command as issued_command
-use Rattle.slots.specs.Slots.{DeviceSlots, Issue, new_issue, own_issue, owned_by}
-use Rattle.slots.specs.declared.table.Context.{Context}
-use Rattle.hba_fbs.specs.declared.register.Register.TheVariants.{Ci}
-use Rattle.hba_fbs.specs.Issuing.{aimed, asked, issue_with, issued_slots, view_issued}
-use Rattle.hba_fbs.specs.Views.{DeviceView, Port, view_of}
-use Rattle.hba_fbs.specs.declared.status.Block.{Block}
-use Rattle.hba_fbs.specs.Writing.{view_after}
+use Rattle.slots.specs.{Slots.{DeviceSlots, Issue, new_issue, own_issue, owned_by}, declared.table.Context.Context}
+use Rattle.hba_fbs.specs.{declared.register.Register.TheVariants.Ci, Issuing.{aimed, asked, issue_with, issued_slots, view_issued}}
+use Rattle.hba_fbs.specs.{Views.{DeviceView, Port, view_of}, declared.status.Block.Block, Writing.view_after}
 use Rattle.disk_model.specs.Ledger.{Ledger}
-use Rattle.hba_laws.specs.Agreement.{Agrees, end_of, work_of_issue, work_of_transfer}
-use Rattle.hba_laws.specs.Client.{own}
-use Rattle.hba_laws.specs.Delivering.{issued_below, touched}
-use Rattle.hba_laws.specs.History.{History, Issued, Transfer, issued}
-use Rattle.hba_laws.specs.Hosts.{Host, Wrote}
+use Rattle.hba_laws.specs.{Agreement.{Agrees, end_of, work_of_issue, work_of_transfer}, Client.own, Delivering.{issued_below, touched}}
+use Rattle.hba_laws.specs.{History.{History, Issued, Transfer, issued}, Hosts.{Host, Wrote}}
 use Rattle.hba_laws.specs.Between.{IsOwn, history_below, issue_below, transfer_of, with_issued}
-use Rattle.hba_laws.proofs.Door.{asked_free, ext, is_own, own_below, own_below_is}
-use Rattle.hba_laws.proofs.Door.{own_issued, step}
+use Rattle.hba_laws.proofs.Door.{asked_free, ext, is_own, own_below, own_below_is, own_issued, step}
 use Rattle.slots.proofs.Door.{own_at}
-use Rattle.disk_simulation.specs.Anew.{KeepsSlots}
-use Rattle.disk_simulation.specs.Same.{InLife, SlotCommand}
-use Rattle.disk_simulation.specs.Together.{Same, is_sent, with_command}
+use Rattle.disk_simulation.specs.{Anew.KeepsSlots, Same.{InLife, SlotCommand}, Together.{Same, is_sent, with_command}}
 use Rattle.disk_simulation.specs.Joined.{AreCounted, IsAskedBy, IsJoined, JoinsIssues, SentAgrees, StaysJoined}
-use Rattle.disk_simulation.proofs.joined.HeardLemmas.{there_by}
-use Rattle.disk_simulation.proofs.together.TogetherLemmas.{same_goes_on}
+use Rattle.disk_simulation.proofs.{joined.HeardLemmas.there_by, together.TogetherLemmas.same_goes_on}
 
 -- ## Commands are issued
 

@@ -1,58 +1,36 @@
 -- For `port_and_ledger_stay_joined`. The host port, a device's history and the ledger go on to agree at each FIS that
 -- the port hears or gives.
 use Rattle.std.proofs.Common.{◌≡◌, ◌==◌, eqb, ℕ, ◌+◌, ◌-◌, ◌<◌, Bool, true, false, List, ◌++◌, drop, get_or, length, set, refl, sym, ap, subst, ◌∙◌, inl, inr, Option, Some, None, Ok, Err, Result, arith, get_or-set_same, get_or-set_other}
-use Rattle.std.specs.Prelude.{MatchOption, is_ok, is_some, not, nat_lt, if◌then◌else◌}
-use Rattle.std.specs.Option.{option_map}
-use Rattle.std.proofs.lemmas.Bool.{cases_eq, cases_lt, eq-eqb, eqb-true, true≢false}
-use Rattle.std.proofs.lemmas.List.{get_or_past, length-set}
-use Rattle.fis_view.specs.Table.{Setup, field}
+use Rattle.std.specs.{Prelude.{MatchOption, is_ok, is_some, not, nat_lt, if◌then◌else◌}, Option.option_map}
+use Rattle.std.proofs.lemmas.{Bool.{cases_eq, cases_lt, eq-eqb, eqb-true, true≢false}, List.{get_or_past, length-set}}
+use Rattle.fis_view.specs.{Table.{Setup, field}, Seen.seen, declared.{view.Fis.Fis, view.FisFault.FisFault}}
 use Rattle.fis_view.specs.Table as table
-use Rattle.fis_view.specs.Seen.{seen}
-use Rattle.fis_view.specs.declared.view.Fis.{Fis}
 use Rattle.fis_view.specs.declared.view.Fis.TheVariants as view
-use Rattle.fis_view.specs.declared.view.FisFault.{FisFault}
 use Rattle.port_errors.specs.declared.cause.DeviceCause.TheVariants as cause
 use Rattle.slots.specs.Commands.{answer_of, answered_as, answered_issue, completed, is_done, is_slot, whole_pio, with_answered}
 use Rattle.slots.specs.Data.{activated, after_activate, after_arrive, arrive_answer, gone_over, may_activate, moved_on, moved_over}
 use Rattle.slots.specs.Setup.{after_setup_pio, came, dma_context, new_context, out_setup, pio_fault, pio_issue, setup_fault, with_own_context}
-use Rattle.slots.specs.Slots.{DeviceSlots, Issue, context_unless, freed, match_some, own_issue, sent_pio}
-use Rattle.slots.specs.Work.{is_queued}
-use Rattle.slots.specs.declared.answer.Answered.{Answered}
+use Rattle.slots.specs.{Slots.{DeviceSlots, Issue, context_unless, freed, match_some, own_issue, sent_pio}, Work.is_queued}
+use Rattle.slots.specs.declared.{answer.Answered.Answered, answer.SetupError.SetupError, table.Context.Context}
 use Rattle.slots.specs.declared.answer.Answered.TheVariants as answer
-use Rattle.slots.specs.declared.answer.SetupError.{SetupError}
-use Rattle.slots.specs.declared.table.Context.{Context}
-use Rattle.hba_fbs.specs.declared.hearing.Happening.{Happening}
-use Rattle.hba_fbs.specs.declared.hearing.Happening.TheVariants as happening
-use Rattle.hba_fbs.specs.declared.hearing.Heard.{Heard}
-use Rattle.hba_fbs.specs.declared.report.Wrote.{Wrote}
-use Rattle.hba_fbs.specs.declared.state.DeviceState.{DeviceState}
+use Rattle.hba_fbs.specs.declared.{hearing.Happening.Happening, hearing.Heard.Heard, report.Wrote.Wrote, state.DeviceState.DeviceState}
 use Rattle.hba_fbs.specs.declared.status.Block.{Block}
+use Rattle.hba_fbs.specs.Hearing.{block_ended, bus_failed, faulty, heard_bad, heard_bytes, heard_data, heard_data_of, heard_fis, is_admitted, moved}
+use Rattle.hba_fbs.specs.{Hearing.{named, overflowed, quietly, set_up, tag_of}, Status.{after_reset, is_busy, is_error, with_bits, with_file}}
+use Rattle.hba_fbs.specs.{Tables.is_sound, Taking.{admitted, heard, heard_now, ignores, port_of}, Views.{DeviceView, view_of}}
+use Rattle.hba_fbs.specs.declared.hearing.Happening.TheVariants as happening
 use Rattle.hba_fbs.specs.Hearing as hear
-use Rattle.hba_fbs.specs.Hearing.{block_ended, bus_failed, faulty, heard_bad, heard_bytes, heard_data, heard_data_of, heard_fis, is_admitted, moved, named, overflowed, quietly, set_up, tag_of}
-use Rattle.hba_fbs.specs.Status.{after_reset, is_busy, is_error, with_bits, with_file}
-use Rattle.hba_fbs.specs.Tables.{is_sound}
-use Rattle.hba_fbs.specs.Taking.{admitted, heard, heard_now, ignores, port_of}
-use Rattle.hba_fbs.specs.Views.{DeviceView, view_of}
-use Rattle.disk_model.specs.Ends.{IsFree, IsRight, MovesOther}
-use Rattle.disk_model.specs.Laws.{ActivatesRight, AsksOnce, CarriesNext, CarriesRight, SetsUpRight, bytes_named}
+use Rattle.disk_model.specs.{Ends.{IsFree, IsRight, MovesOther}, Laws.{ActivatesRight, AsksOnce, CarriesNext, CarriesRight, SetsUpRight, bytes_named}}
 use Rattle.disk_model.specs.Ledger.{Ledger, Moving, activates, answered, is_auto, listens_up, sets_up, with_auto}
 use Rattle.disk_model.proofs.Door.{bits_up, write_of_auto}
-use Rattle.hba_laws.specs.Agreement.{ContextAgrees, IsHistoryOf, IsTold, end_of, IssueAgrees, SetupAgrees, is_for, work_of_transfer}
-use Rattle.hba_laws.specs.Client.{own}
+use Rattle.hba_laws.specs.{Agreement.{ContextAgrees, IsHistoryOf, IsTold, end_of, IssueAgrees, SetupAgrees, is_for, work_of_transfer}, Client.own}
+use Rattle.hba_laws.specs.{History.{History, Transfer, carried, issued, last_setup, unless}, Hosts.{TakesFrame, Took}, Between.IsOwn}
 use Rattle.hba_laws.specs.History as event
-use Rattle.hba_laws.specs.History.{Event, History, Transfer, carried, is_at, is_set_up, issued, last_setup, unless, waiting_in}
-use Rattle.hba_laws.specs.Hosts.{TakesFrame, Took}
-use Rattle.hba_laws.specs.Between.{IsOwn}
 use Rattle.hba_laws.proofs.Door.{is_own, own_freed, step, unless_some}
-use Rattle.disk_simulation.specs.Same.{InLife, IsMovingAt, SlotCommand}
-use Rattle.disk_simulation.specs.Together.{NoneQueued, Same, is_sent, told}
-use Rattle.disk_simulation.specs.Heard.{IsToldSo}
-use Rattle.disk_simulation.specs.Joined.{IsAskedBy, JoinsFrames}
-use Rattle.disk_simulation.specs.Between.{IsThere}
-use Rattle.disk_simulation.proofs.joined.HeardLemmas.{heard_as_told, heard_if, setup_tag, there_by}
-use Rattle.disk_simulation.proofs.events.MoveLemmas.{own_life}
-use Rattle.disk_simulation.proofs.joined.ShortLemmas.{short_up}
-use Rattle.disk_simulation.proofs.together.TogetherLemmas.{same_goes_on, set_up_now}
+use Rattle.disk_simulation.specs.{Same.{InLife, IsMovingAt, SlotCommand}, Together.{NoneQueued, Same, is_sent, told}, Heard.IsToldSo}
+use Rattle.disk_simulation.specs.{Joined.{IsAskedBy, JoinsFrames}, Between.IsThere}
+use Rattle.disk_simulation.proofs.{joined.HeardLemmas.{heard_as_told, heard_if, setup_tag, there_by}, events.MoveLemmas.own_life}
+use Rattle.disk_simulation.proofs.{joined.ShortLemmas.short_up, together.TogetherLemmas.{same_goes_on, set_up_now}}
 use Rattle.disk_simulation.proofs.joined.OutLemmas.{IsRefused, pio_up, refuses_up}
 
 -- ## What was sent stays so
@@ -329,7 +307,6 @@ module _ (c : Context) (k : Ledger) (a : IsAskedBy c k) where
       true≢false (sym a.writes ∙ carries.reads)
 
   asked_up : (r : Result Fis FisFault) → IsRight k r → IsAskedBy c (listens_up k r)
-  asked_up (Ok (view.RegH2D f)) right = a
   asked_up (Ok (view.RegD2H f)) right = asked_same c k (answered k) refl a
   asked_up (Ok (view.SetBits f)) right =
       asked_same c k (listens_up k (Ok (view.SetBits f))) (ap (λ (x : Ledger). x.moving) (bits_up k f right.fine)) a

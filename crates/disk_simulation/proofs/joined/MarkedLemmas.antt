@@ -1,24 +1,17 @@
 -- For `hosts_are_careful`. The ledger hears the same of a frame and of the marked one.
 use Rattle.std.proofs.Common.{◌≡◌, ◌==◌, ℕ, ◌%◌, ◌<◌, ◌≤◌, Bool, true, false, List, [], ◌∷◌, length, refl, sym, ap, subst, ◌∙◌, Option, Some, None, Ok, Err, Result}
 use Rattle.std.specs.Prelude.{if◌then◌else◌, find, not, ◌&&◌}
-use Rattle.fis_view.specs.Frames.{IsFrame, marked}
-use Rattle.fis_view.specs.Marks.{IsMarked}
-use Rattle.fis_view.specs.Table.{Activate, Bits, BufferId, C, D2h, H2d, Kind, Name, Other, Pio, PmPort, SActive, Setup, field}
+use Rattle.fis_view.specs.{Frames.{IsFrame, marked}, Marks.IsMarked}
+use Rattle.fis_view.specs.Table.{Activate, Bits, BufferId, C, D2h, H2d, Kind, Other, Pio, SActive, Setup, field}
+use Rattle.fis_view.specs.{Seen.{kind_of, may_have, seen, view_as}, declared.{view.Fis.Fis, view.FisFault.{FisFault, TheVariants.WrongLength}}}
 use Rattle.fis_view.specs.Table as table
-use Rattle.fis_view.specs.Seen.{kind_of, may_have, seen, view_as}
-use Rattle.fis_view.specs.declared.view.Fis.{Fis}
 use Rattle.fis_view.specs.declared.view.Fis.TheVariants as view
-use Rattle.fis_view.specs.declared.view.FisFault.{FisFault}
-use Rattle.fis_view.specs.declared.view.FisFault.TheVariants.{WrongLength}
 use Rattle.fis_view.proofs.Door.{is_marked}
-use Rattle.disk_model.specs.declared.request.Command.{Command}
-use Rattle.disk_model.specs.declared.request.Request.{Request}
-use Rattle.disk_model.specs.Ends.{Fits, FitsData, FitsRequest, IsRight}
+use Rattle.disk_model.specs.{declared.{request.Command.Command, request.Request.Request}, Ends.{Fits, FitsData, FitsRequest, IsRight}}
 use Rattle.disk_model.specs.Laws.{AnswersFirst, CarriesRight, IsRegister, SetsUpNext, SetsUpRight, ShowsFirst, StartsOne}
-use Rattle.disk_model.specs.Ledger.{Accepts, Finishes, Ledger, Moving, Names, Refuses, Reply, ShowsPage, Signs, Stretch, answers, asks, has_error, is_auto, listens_down, listens_up, sends_data, sets_up, takes_data, with_auto}
-use Rattle.disk_model.specs.Requests.{request_of}
-use Rattle.disk_simulation.specs.Joined.{IsShort}
-use Rattle.disk_simulation.specs.Marked.{IsHeardAlike, MarksTellNothing}
+use Rattle.disk_model.specs.Ledger.{Accepts, Finishes, Ledger, Moving, Names, Refuses, Reply, ShowsPage, Signs, Stretch, answers, asks, has_error}
+use Rattle.disk_model.specs.{Ledger.{is_auto, listens_down, listens_up, sends_data, sets_up, takes_data, with_auto}, Requests.request_of}
+use Rattle.disk_simulation.specs.{Joined.IsShort, Marked.{IsHeardAlike, MarksTellNothing}}
 
 module _ (old new : List ℕ) (port : ℕ) (m : IsMarked port old new) where
   pub same_request : request_of new ≡ request_of old

@@ -1,55 +1,32 @@
 -- For `port_and_ledger_stay_joined`. What goes out of a host port leaves it joined to a disk's ledger.
 use Rattle.std.proofs.Common.{◌≡◌, eqb, ℕ, ◌<◌, ◌≤◌, ◌%◌, Bool, true, false, List, [], ◌∷◌, ◌++◌, length, set, refl, sym, ap, subst, ◌∙◌, inl, inr, Option, Some, None, Ok, arith, get_or-set_same, get_or-set_other}
-use Rattle.std.specs.Prelude.{◌≢◌, if◌then◌else◌, map}
-use Rattle.std.specs.Option.{option_map}
-use Rattle.std.proofs.lemmas.Bool.{cases_lt, eq-eqb, eqb-true, true≢false}
-use Rattle.std.proofs.lemmas.Bool.Decides.{nat_tests}
-use Rattle.std.proofs.lemmas.List.{get_or_past, length-set}
+use Rattle.std.specs.{Prelude.{◌≢◌, if◌then◌else◌, map}, Option.option_map}
+use Rattle.std.proofs.lemmas.{Bool.{cases_lt, eq-eqb, eqb-true, true≢false}, Bool.Decides.nat_tests, List.{get_or_past, length-set}}
 use Rattle.std.proofs.lemmas.List.FromFn.{length-map-range_with_len}
-use Rattle.fis_view.specs.Frames.{IsPayload, Stamped}
-use Rattle.fis_view.specs.Seen.{seen}
+use Rattle.fis_view.specs.{Frames.{IsPayload, Stamped}, Seen.seen}
 use Rattle.fis_view.specs.declared.view.Fis.TheVariants as view
 use Rattle.fis_view.proofs.Door.{payload_seen}
-use Rattle.slots.specs.Commands.{is_slot, sent_issue, with_sent}
-use Rattle.slots.specs.Data.{gone_over, moved_on, moved_over, payload_len}
+use Rattle.slots.specs.{Commands.{is_slot, sent_issue, with_sent}, Data.{gone_over, moved_on, moved_over, payload_len}}
 use Rattle.slots.specs.Slots.{DeviceSlots, Issue, freed, holds, is_control, issue_at, match_some, own_issue, slots_of, waiting}
-use Rattle.slots.specs.Setup.{begun, whole_context, with_own_context}
-use Rattle.slots.specs.Work.{is_dma, is_queued}
-use Rattle.slots.specs.declared.table.Context.{Context}
-use Rattle.slots.specs.declared.work.Kind.{Kind}
-use Rattle.slots.specs.declared.work.Kind.TheVariants.{QueuedRead, QueuedWrite, DmaIn, DmaOut}
-use Rattle.slots.specs.declared.work.Work.{Work}
+use Rattle.slots.specs.{Setup.{begun, whole_context, with_own_context}, Work.{is_dma, is_queued}, declared.table.Context.Context}
+use Rattle.slots.specs.declared.{work.Kind.{Kind, TheVariants.{QueuedRead, QueuedWrite, DmaIn, DmaOut}}, work.Work.Work}
 use Rattle.hba_commands.specs.declared.command.Command as issued_command
-use Rattle.hba_fbs.specs.Sending.{Data, Gives, Order, Outgoing, data_fis, gathered, outgoing}
-use Rattle.hba_fbs.specs.Tables.{prds_of}
-use Rattle.hba_fbs.specs.Views.{DeviceView, view_of}
-use Rattle.disk_model.specs.declared.request.Request.{Request}
-use Rattle.disk_model.specs.declared.request.Request.TheVariants.{Queue}
-use Rattle.disk_model.specs.Ends.{Fits, FitsData, FitsRequest, IsAskedFor, IsFree}
+use Rattle.hba_fbs.specs.{Sending.{Data, Gives, Order, Outgoing, data_fis, gathered, outgoing}, Tables.prds_of, Views.{DeviceView, view_of}}
+use Rattle.disk_model.specs.{declared.request.Request.{Request, TheVariants.Queue}, Ends.{Fits, FitsData, FitsRequest, IsAskedFor, IsFree}}
+use Rattle.disk_model.specs.{Ledger.{Ledger, Moving, asks, listens, listens_down, takes_data}, Requests.request_of}
 use Rattle.disk_model.specs.Histories as told_of
-use Rattle.disk_model.specs.Ledger.{Ledger, Moving, asks, listens, listens_down, takes_data}
-use Rattle.disk_model.specs.Requests.{request_of}
 use Rattle.disk_model.proofs.Door.{opens_free}
-use Rattle.hba_laws.specs.Agreement.{IsHistoryOf, IsTold, IssueAgrees, work_of_transfer}
-use Rattle.hba_laws.specs.Client.{By, own}
-use Rattle.hba_laws.specs.Delivering.{begun_by, event_sent, is_control_issue, touched_by_out}
+use Rattle.hba_laws.specs.{Agreement.{IsHistoryOf, IsTold, IssueAgrees, work_of_transfer}, Client.{By, own}}
+use Rattle.hba_laws.specs.{Delivering.{begun_by, event_sent, is_control_issue, touched_by_out}, History.{Event, History, Transfer, issued}}
+use Rattle.hba_laws.specs.{Hosts.{Does, Gave, Host}, Sound.IsHost, Between.{GoesOut, HasContext, IsOwn}}
 use Rattle.hba_laws.specs.History as event
-use Rattle.hba_laws.specs.History.{Event, History, Transfer, carried, is_at, is_set_up, issued, last_setup, unless, waiting_in}
-use Rattle.hba_laws.specs.Hosts.{Does, Gave, Host}
-use Rattle.hba_laws.specs.Sound.{IsHost}
-use Rattle.hba_laws.specs.Between.{GoesOut, HasContext, IsOwn}
 use Rattle.hba_laws.proofs.Door.{goes_out, is_own, none_waits, own_here, own_one, step}
-use Rattle.disk_simulation.specs.Together.{NothingWaits, QueuesOne, Same, is_sent}
+use Rattle.disk_simulation.specs.Together.{NothingWaits, QueuesOne, Same, is_sent, AsksOne}
 use Rattle.disk_simulation.specs.Joined.{AreShort, IsAskedBy, IsJoined, JoinsCommands, JoinsData, JoinsGiven, JoinsOthers, SentAgrees}
-use Rattle.disk_simulation.proofs.joined.HeardLemmas.{there_by}
-use Rattle.disk_simulation.proofs.joined.ShortLemmas.{short_down}
-use Rattle.disk_simulation.proofs.together.TogetherLemmas.{same_goes_on}
-use Rattle.disk_simulation.proofs.joined.OutLemmas.{begun_none}
-use Rattle.disk_simulation.specs.Together.{AsksOne}
-use Rattle.disk_simulation.proofs.events.AnswerLemmas.{IsBeside, asks_beside}
+use Rattle.disk_simulation.specs.{Same.SlotCommand, Between.IsThere}
+use Rattle.disk_simulation.proofs.{joined.{HeardLemmas.there_by, ShortLemmas.short_down}, together.TogetherLemmas.same_goes_on}
+use Rattle.disk_simulation.proofs.{joined.OutLemmas.begun_none, events.AnswerLemmas.{IsBeside, asks_beside}}
 use Rattle.disk_simulation.proofs.joined.JoinLemmas.{WasSent, asked_same, inactive, set_sent}
-use Rattle.disk_simulation.specs.Same.{SlotCommand}
-use Rattle.disk_simulation.specs.Between.{IsThere}
 
 -- ## A command goes out
 

@@ -1,29 +1,19 @@
 -- For `fises_are_heard_as_told`. A PIO Setup of a disk is towards the host, so it is none for a PIO data-out.
 use Rattle.std.proofs.Common.{◌≡◌, ◌==◌, ℕ, Bool, true, false, List, [], ◌∷◌, refl, sym, ap, ◌∙◌, Option, Some, None, Err, Result}
-use Rattle.std.specs.Prelude.{if◌then◌else◌}
-use Rattle.std.specs.Option.{option_or}
+use Rattle.std.specs.{Prelude.if◌then◌else◌, Option.option_or}
 use Rattle.std.proofs.lemmas.Bool.{true≢false}
 use Rattle.fis_view.specs.Table.{D, Pio, field}
 use Rattle.slots.specs.Setup.{came, context_or, dma_context, long_fault, out_context, out_setup, transfer_fault}
-use Rattle.slots.specs.Slots.{DeviceSlots, Issue, holds, is_out_issue, match_some, own_issue, waiting}
-use Rattle.slots.specs.Work.{is_dma, is_out, is_read}
-use Rattle.slots.specs.declared.answer.SetupError.{SetupError}
-use Rattle.slots.specs.declared.answer.SetupError.TheVariants.{NotOutstanding, WrongWay}
-use Rattle.slots.specs.declared.table.Context.{Context}
-use Rattle.slots.specs.declared.work.Kind.{Kind}
-use Rattle.slots.specs.declared.work.Kind.TheVariants.{PioOut}
-use Rattle.disk_model.specs.Laws.{ShowsFirst}
-use Rattle.disk_model.specs.Ledger.{Accepts, Finishes, Refuses, Reply, ShowsPage, Signs}
-use Rattle.hba_laws.specs.Delivering.{begun_by}
-use Rattle.hba_laws.specs.History.{SetUp}
+use Rattle.slots.specs.{Slots.{DeviceSlots, Issue, holds, is_out_issue, match_some, own_issue, waiting}, Work.{is_dma, is_out, is_read}}
+use Rattle.slots.specs.declared.{answer.SetupError.{SetupError, TheVariants.{NotOutstanding, WrongWay}}, table.Context.Context}
+use Rattle.slots.specs.declared.work.Kind.{Kind, TheVariants.PioOut}
+use Rattle.disk_model.specs.{Laws.ShowsFirst, Ledger.{Reply, ShowsPage}}
+use Rattle.hba_laws.specs.{Delivering.begun_by, History.SetUp}
 
 pub pio_up : (xs : List Reply) (f : List ℕ) → ShowsFirst xs f → (field Pio D f == 1) ≡ true
 pio_up [] f shows = absurd shows
-pio_up (Signs ∷ xs) f shows = absurd shows
-pio_up (Accepts ∷ xs) f shows = absurd shows
-pio_up (Finishes ∷ xs) f shows = absurd shows
-pio_up (Refuses ∷ xs) f shows = absurd shows
 pio_up (ShowsPage ∷ xs) f shows = ap (λ (n : ℕ). n == 1) shows.1
+pio_up other f shows = absurd shows
 
 out_down : (k : Kind) → is_out k ≡ true → is_read k ≡ false
 out_down PioOut h = refl

@@ -1,12 +1,9 @@
 -- For `port_and_ledger_stay_joined`. No DMA Setup whose data moves names more bytes than a Data FIS holds.
 use Rattle.std.proofs.Common.{◌≡◌, ℕ, ◌≤◌, Bool, true, false, List, drop, refl, sym, ap, subst, ◌∙◌, Option, Some, None, Ok, Result}
-use Rattle.fis_view.specs.Table.{BufferId, Offset, Setup, field}
+use Rattle.fis_view.specs.{Table.{BufferId, Offset, Setup, field}, declared.{view.Fis.Fis, view.FisFault.FisFault}}
 use Rattle.fis_view.specs.Table as table
-use Rattle.fis_view.specs.declared.view.Fis.{Fis}
 use Rattle.fis_view.specs.declared.view.Fis.TheVariants as view
-use Rattle.fis_view.specs.declared.view.FisFault.{FisFault}
-use Rattle.disk_model.specs.Ends.{IsAskedFor, IsRight}
-use Rattle.disk_model.specs.Laws.{ActivatesRight, CarriesNext, CarriesRight}
+use Rattle.disk_model.specs.{Ends.{IsAskedFor, IsRight}, Laws.{ActivatesRight, CarriesNext, CarriesRight}}
 use Rattle.disk_model.specs.Ledger.{Ledger, Moving, activates, is_auto, listens_up, sends_data, sets_up, takes_data, with_auto}
 use Rattle.disk_model.specs.Between.{after_bytes, is_all, with_bytes}
 use Rattle.disk_model.proofs.Door.{bits_up, data_down, goes_by}
@@ -55,8 +52,6 @@ short_data k bytes (Some w) moving right short v now =
     short_bytes k w bytes (is_all (with_bytes w bytes)) false moving short v (sym (ap (λ (x : Ledger). x.moving) up) ∙ now)
 
 pub short_up : (k : Ledger) (r : Result Fis FisFault) → IsRight k r → IsShort r → AreShort k → AreShort (listens_up k r)
-short_up k (Ok (view.RegH2D f)) right few short = short
-short_up k (Ok (view.RegD2H f)) right few short = short
 short_up k (Ok (view.SetBits f)) right few short = λ v now. short v (sym (ap (λ (x : Ledger). x.moving) (bits_up k f right.fine)) ∙ now)
 short_up k (Ok (view.DmaActivate f)) right few short = short_activate k k.moving refl right.moves short
 short_up k (Ok (view.DmaSetup f)) right few short =

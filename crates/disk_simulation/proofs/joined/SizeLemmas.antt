@@ -2,29 +2,18 @@
 use Rattle.std.proofs.Common.{◌≡◌, ◌&&◌, ◌==◌, ℕ, ◌+◌, ◌*◌, ◌%◌, ◌<◌, ◌≤◌, Bool, true, false, List, [], ◌∷◌, ◌++◌, drop, refl, ap, sym, subst, ◌∙◌, Option, Some, None, arith}
 use Rattle.std.specs.Prelude.{nat_le, not}
 use Rattle.std.proofs.lemmas.Bool.{and_parts, leb-true}
-use Rattle.fis_view.specs.Table.{Count, Setup, field}
-use Rattle.fis_view.specs.Seen.{seen}
-use Rattle.disk_model.specs.declared.plan.DiskPlan.{DiskPlan}
-use Rattle.disk_model.specs.declared.request.Command.{Command}
-use Rattle.disk_model.specs.declared.answer.Answer.{Answer}
-use Rattle.disk_model.specs.declared.answer.Answer.TheVariants.{PageData}
-use Rattle.disk_model.specs.declared.answer.Fault.{Fault}
-use Rattle.disk_model.specs.Chunks.{chunk_count, chunk_from, chunk_setup, chunks, fault_of}
-use Rattle.disk_model.specs.Disks.{Moment, Started, Writing, opening, pick_turn, picked, read_turn, turn, write_turn}
-use Rattle.disk_model.specs.Anew.{IsLinkedOn}
+use Rattle.fis_view.specs.{Table.{Count, Setup, field}, Seen.seen}
+use Rattle.disk_model.specs.declared.{plan.DiskPlan.DiskPlan, request.Command.Command, answer.Answer.{Answer, TheVariants.PageData}}
+use Rattle.disk_model.specs.{declared.answer.Fault.Fault, Chunks.{chunk_count, chunk_from, chunk_setup, chunks, fault_of}}
+use Rattle.disk_model.specs.{Disks.{Moment, Started, Writing, opening, pick_turn, picked, read_turn, turn, write_turn}, Anew.IsLinkedOn}
+use Rattle.disk_model.specs.{Histories.{Happening, Plugged, Received, Sent}, Ledger.{IsSize, Moving, ledger}}
+use Rattle.disk_model.specs.{Runs.{IsDiskRun, IsTurn, moment, most_sectors}, Sendings.{Sending, Shows, answer_sent}}
+use Rattle.disk_model.specs.Between.{Asked, ChunkPart, Fresh, IsIn, IsQueue, IsReading, IsSized, IsWriting, Moves, SetUp, Stage, TellsSetup, at}
+use Rattle.disk_model.specs.Between.{begun_by}
 use Rattle.disk_model.specs.Anew as link
-use Rattle.disk_model.specs.Histories.{Happening, Plugged, Received, Sent}
-use Rattle.disk_model.specs.Ledger.{IsSize, Moving, ledger}
-use Rattle.disk_model.specs.Runs.{IsDiskRun, IsTurn, moment, most_sectors}
-use Rattle.disk_model.specs.Sendings.{Sending, Shows, answer_sent}
-use Rattle.disk_model.specs.Between.{Asked, ChunkPart, Fresh, IsIn, IsQueue, IsReading, IsSized, IsWriting, Moves, SetUp}
-use Rattle.disk_model.specs.Between.{Stage, TellsSetup, at, begun_by}
-use Rattle.disk_model.proofs.Door.{agrees, chunk_part}
-use Rattle.disk_model.proofs.Door.{last_may, linked_since_new}
-use Rattle.disk_model.proofs.Door.{picked_in, same_turn, sends_left_next, setup_of_chunk, sized_by}
+use Rattle.disk_model.proofs.Door.{agrees, chunk_part, last_may, linked_since_new, picked_in, same_turn, sends_left_next, setup_of_chunk, sized_by}
 use Rattle.disk_model.proofs.Door.{some_chunks}
-use Rattle.disk_simulation.specs.Joined.{IsShort}
-use Rattle.disk_simulation.specs.Hosted.{NextIsShort}
+use Rattle.disk_simulation.specs.{Joined.IsShort, Hosted.NextIsShort}
 
 answer_short : (sectors : ℕ) (plan : DiskPlan) (a : Answer) (b : List ℕ) → Shows (answer_sent sectors plan a) b → IsShort (seen b)
 answer_short sectors plan (PageData page) b shows = rw shows.1 tt

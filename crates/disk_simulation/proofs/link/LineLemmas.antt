@@ -1,27 +1,20 @@
 -- For `lines_lead_to_beginning_anew`. The link of a disk that is set aside, at each happening at either end.
 use Rattle.std.proofs.Common.{◌≡◌, ℕ, Bool, true, false, List, [], ◌∷◌, ◌++◌, append_assoc, refl, sym, ap, subst, ◌∙◌, inl, inr, None, Ok, Result}
 use Rattle.std.specs.Prelude.{◌⊎◌, ◌&&◌, not, if◌then◌else◌}
-use Rattle.fis_view.specs.Seen.{seen}
-use Rattle.fis_view.specs.declared.view.Fis.{Fis}
+use Rattle.fis_view.specs.{Seen.seen, declared.{view.Fis.Fis, view.FisFault.FisFault}}
 use Rattle.fis_view.specs.declared.view.Fis.TheVariants as view
-use Rattle.fis_view.specs.declared.view.FisFault.{FisFault}
 use Rattle.hba_fbs.specs.Posting.{is_signature, signs}
-use Rattle.disk_model.specs.declared.plan.DiskPlan.{DiskPlan}
-use Rattle.disk_model.specs.declared.request.Command.{Command}
-use Rattle.disk_model.specs.declared.request.Request.{Request}
+use Rattle.disk_model.specs.{declared.{plan.DiskPlan.DiskPlan, request.Command.Command, request.Request.Request}, Anew.IsRequest, Ends.Rests}
+use Rattle.disk_model.specs.{Histories.{Happening, Received, Sent}, Laws.{AnswersFirst, AnswersRight}}
+use Rattle.disk_model.specs.Ledger.{IsSize, Ledger, LogOf, Reply, ShowsPage, Signs, Wanted, asks, awaits_page, given_up, ledger, listens}
+use Rattle.disk_model.specs.{Ledger.{listens_down, mixes, reads_log, restarts}, Runs.IsDiskRun}
 use Rattle.disk_model.specs.declared.request.Request.TheVariants as asked
-use Rattle.disk_model.specs.Anew.{IsRequest}
-use Rattle.disk_model.specs.Ends.{Rests}
-use Rattle.disk_model.specs.Histories.{Happening, Received, Sent}
-use Rattle.disk_model.specs.Laws.{AnswersFirst, AnswersRight}
-use Rattle.disk_model.specs.Ledger.{IsSize, Ledger, LogOf, Reply, ShowsPage, Signs, Wanted, asks, awaits_page, given_up, ledger, listens, listens_down, mixes, reads_log, restarts}
-use Rattle.disk_model.specs.Runs.{IsDiskRun}
 use Rattle.disk_model.proofs.Door.{answers_right, ledger_push, resting_is_silent}
-use Rattle.disk_simulation.specs.Line.{Speaks, Asked, Both, BothBegin, ComesTo, EachReply, Failed, GoesUp, Held, IsAsked, IsBoth, IsFailed, IsHeld, IsLoose, IsNoSignature, IsReleasing, IsResting, IsTaken, IsUnsigned, Line, LinesGoOn, Loose, NoneSigns, OnLine, Releasing, Resting, StandsAt}
-use Rattle.disk_simulation.specs.Watched.{ArePlain, IsErred, IsPlain}
+use Rattle.disk_simulation.specs.Line.{Speaks, Asked, Both, BothBegin, ComesTo, EachReply, Failed, GoesUp, Held, IsAsked, IsBoth, IsFailed, IsHeld}
+use Rattle.disk_simulation.specs.Line.{IsLoose, IsNoSignature, IsReleasing, IsResting, IsTaken, IsUnsigned, Line, LinesGoOn, Loose, NoneSigns, OnLine}
+use Rattle.disk_simulation.specs.{Line.{Releasing, Resting, StandsAt}, Watched.{ArePlain, IsErred, IsPlain}}
 use Rattle.disk_simulation.proofs.phases.FollowedLemmas.{same_first}
-use Rattle.disk_simulation.proofs.link.PlainLemmas.{Stays, plain_no_reset, stays_gone, stays_received, unheard_now}
-use Rattle.disk_simulation.proofs.anew.SignsLemmas.{signs_first}
+use Rattle.disk_simulation.proofs.{link.PlainLemmas.{Stays, plain_no_reset, stays_gone, stays_received, unheard_now}, anew.SignsLemmas.signs_first}
 
 -- ## Signatures
 

@@ -2,39 +2,24 @@
 -- aside.
 use Rattle.std.proofs.Common.{◌≡◌, ◌≢◌, ◌==◌, ℕ, true, false, List, [], ◌∷◌, ◌++◌, append_assoc, drop, refl, sym, ap, subst, ◌∙◌, inl, inr, Option, None, Ok, Result}
 use Rattle.std.specs.Prelude.{◌⊎◌, find}
-use Rattle.std.proofs.lemmas.Bool.{true≢false}
-use Rattle.std.proofs.lemmas.List.{append_cancel_left, append-nil}
-use Rattle.fis_view.specs.Table.{Bits, BufferId, SActive, Setup, field}
-use Rattle.fis_view.specs.Seen.{seen}
-use Rattle.fis_view.specs.declared.view.Fis.{Fis}
+use Rattle.std.proofs.lemmas.{Bool.true≢false, List.{append_cancel_left, append-nil}}
+use Rattle.fis_view.specs.{Table.{Bits, BufferId, SActive, Setup, field}, Seen.seen, declared.{view.Fis.Fis, view.FisFault.FisFault}}
 use Rattle.fis_view.specs.declared.view.Fis.TheVariants as view
-use Rattle.fis_view.specs.declared.view.FisFault.{FisFault}
 use Rattle.hba_fbs.specs.Posting.{signs}
-use Rattle.disk_model.specs.declared.plan.DiskPlan.{DiskPlan}
-use Rattle.disk_model.specs.declared.request.Command.{Command}
-use Rattle.disk_model.specs.declared.request.Request.{Request}
-use Rattle.disk_model.specs.declared.request.Request.TheVariants.{Reset, Queue}
+use Rattle.disk_model.specs.declared.{plan.DiskPlan.DiskPlan, request.Command.Command, request.Request.{Request, TheVariants.{Reset, Queue}}}
 use Rattle.disk_model.specs.Anew.{IsCarefulSince, IsLinkedOn, OwesOnly}
-use Rattle.disk_model.specs.Anew as anew
 use Rattle.disk_model.specs.Ends.{AreRight, Fits, FitsAll, FitsData, FitsRequest, IsRight, PageAsked, reports}
-use Rattle.disk_model.specs.Histories.{Happening, Plugged, Received, Sent}
-use Rattle.disk_model.specs.Laws.{ActivatesRight, SetsUpRight, ShowsFirst, StartsOne}
+use Rattle.disk_model.specs.{Histories.{Happening, Plugged, Received, Sent}, Laws.{ActivatesRight, SetsUpRight, ShowsFirst, StartsOne}}
 use Rattle.disk_model.specs.Ledger.{IsSize, Ledger, Moving, Names, Reply, Signs, Wanted, ledger, ledger_after, listens, listens_up}
-use Rattle.disk_model.specs.Requests.{request_of}
-use Rattle.disk_model.specs.Runs.{IsDiskRun}
-use Rattle.disk_model.specs.Between.{FitsOne}
-use Rattle.disk_model.proofs.Door.{after_more, careful_last, ends_agree_anew, ledger_push, run_before}
-use Rattle.disk_model.proofs.Door.{sent_right}
+use Rattle.disk_model.specs.{Requests.request_of, Runs.IsDiskRun, Between.FitsOne}
+use Rattle.disk_model.specs.Anew as anew
+use Rattle.disk_model.proofs.Door.{after_more, careful_last, ends_agree_anew, ledger_push, run_before, sent_right}
 use Rattle.disk_simulation.specs.Files.{IsOfDisk}
-use Rattle.disk_simulation.specs.Line.{EachReply, IsFailed, IsLoose, IsNoSignature, IsSigning, IsUnsigned, IsWatchedWell, LinesBegin, NoneSigns, PluggingLeavesReset, ToSign, Unsigned}
-use Rattle.disk_simulation.specs.Watched.{Erred, Fine, IsErred, IsLastError, IsWatched, IsWatchedTo}
-use Rattle.disk_simulation.proofs.anew.AnewJoins.{careful_more}
-use Rattle.disk_simulation.proofs.phases.FollowedLemmas.{run_to}
-use Rattle.disk_simulation.proofs.link.LineLemmas.{no_end, none_signs_push, unsigned_by}
-use Rattle.disk_simulation.proofs.link.PlainLemmas.{ResetsNot, erred_now, fits_no_reset, stays_gone, stays_received, stays_up}
-use Rattle.disk_simulation.proofs.link.SentLemmas.{of_disk}
-use Rattle.disk_simulation.proofs.link.WatchedLemmas.{next_watched, takes_on}
-use Rattle.disk_simulation.proofs.joined.SizeLemmas.{AreEach, each_more, up_each}
+use Rattle.disk_simulation.specs.Line.{EachReply, IsFailed, IsLoose, IsNoSignature, IsSigning, IsUnsigned, IsWatchedWell, LinesBegin, NoneSigns}
+use Rattle.disk_simulation.specs.{Line.{PluggingLeavesReset, ToSign, Unsigned}, Watched.{Erred, Fine, IsErred, IsLastError, IsWatched, IsWatchedTo}}
+use Rattle.disk_simulation.proofs.{anew.AnewJoins.careful_more, phases.FollowedLemmas.run_to, link.LineLemmas.{no_end, none_signs_push, unsigned_by}}
+use Rattle.disk_simulation.proofs.link.{PlainLemmas.{ResetsNot, erred_now, fits_no_reset, stays_gone, stays_received, stays_up}, SentLemmas.of_disk}
+use Rattle.disk_simulation.proofs.{link.WatchedLemmas.{next_watched, takes_on}, joined.SizeLemmas.{AreEach, each_more, up_each}}
 
 -- ## While only an answer is to come
 
@@ -68,7 +53,6 @@ signs_then k (Ok (view.PioSetup f)) owes mine right = absurd (subst (λ (xs : Li
 signs_then k (Ok (view.Payload f)) owes mine right =
     let page : PageAsked k None = subst (PageAsked k) owes.clear.moving right.asked in
     absurd (page owes.pages)
-signs_then k (Ok (view.RegH2D f)) owes mine right = absurd mine
 signs_then k other owes mine right = absurd mine
 
 -- ## Careful hosts

@@ -1,23 +1,14 @@
 -- For `lines_lead_to_beginning_anew`. A FIS that is marked with a port is of a disk, signs, reports and asks where it
 -- did before.
 use Rattle.std.proofs.Common.{◌≡◌, ℕ, ◌<◌, List, refl, sym, subst, ◌∙◌, Ok, Result}
-use Rattle.fis_view.specs.Frames.{IsFrame, marked}
-use Rattle.fis_view.specs.Marks.{IsMarked}
-use Rattle.fis_view.specs.Table.{Activate, Bits, D2h, EStatus, H2d, Kind, Other, Pio, Setup, field}
+use Rattle.fis_view.specs.{Frames.{IsFrame, marked}, Marks.IsMarked, Table.{Bits, D2h, EStatus, H2d, Kind, Pio}, Seen.{seen, view_as}}
+use Rattle.fis_view.specs.declared.{view.Fis.Fis, view.FisFault.FisFault}
 use Rattle.fis_view.specs.Table as table
-use Rattle.fis_view.specs.Seen.{seen, view_as}
-use Rattle.fis_view.specs.declared.view.Fis.{Fis}
 use Rattle.fis_view.specs.declared.view.Fis.TheVariants as view
-use Rattle.fis_view.specs.declared.view.FisFault.{FisFault}
 use Rattle.fis_view.proofs.Door.{is_marked}
 use Rattle.hba_fbs.specs.Posting.{is_signature, signs}
-use Rattle.disk_model.specs.declared.request.Request.{Request}
-use Rattle.disk_model.specs.Anew.{IsRequest}
-use Rattle.disk_model.specs.Ends.{reports}
-use Rattle.disk_model.specs.Requests.{request_of}
-use Rattle.disk_simulation.specs.Files.{IsOfDisk}
-use Rattle.disk_simulation.specs.Line.{IsAskedAlike, MarksAskNothing}
-use Rattle.disk_simulation.specs.Watched.{IsPlain, IsPlainRequest}
+use Rattle.disk_model.specs.{declared.request.Request.Request, Anew.IsRequest, Ends.reports, Requests.request_of}
+use Rattle.disk_simulation.specs.{Files.IsOfDisk, Line.{IsAskedAlike, MarksAskNothing}, Watched.{IsPlain, IsPlainRequest}}
 use Rattle.disk_simulation.proofs.joined.MarkedLemmas.{by_kinds, same_error, same_request}
 
 -- a command that asks for this

@@ -1,25 +1,18 @@
 -- For `disks_are_watched_to_their_errors`. What a FIS that goes down, but for a reset, and any that goes up leave of
 -- the ledger: SRST, and whether a signature is awaited.
 use Rattle.std.proofs.Common.{◌≡◌, ◌==◌, ◌*◌, ◌+◌, ◌&&◌, ℕ, Bool, true, false, List, [], ◌∷◌, ◌++◌, drop, length, refl, sym, ap, subst, ◌∙◌, Option, Some, None, Ok, Result}
-use Rattle.std.specs.Prelude.{if◌then◌else◌, find}
-use Rattle.std.specs.List.{list_any}
-use Rattle.fis_view.specs.Table.{Bits, BufferId, Error, Offset, Setup, field}
+use Rattle.std.specs.{Prelude.{if◌then◌else◌, find}, List.list_any}
+use Rattle.fis_view.specs.{Table.{Bits, BufferId, Error, Offset, Setup, field}, Seen.seen, declared.{view.Fis.Fis, view.FisFault.FisFault}}
 use Rattle.fis_view.specs.Table as table
-use Rattle.fis_view.specs.Seen.{seen}
-use Rattle.fis_view.specs.declared.view.Fis.{Fis}
 use Rattle.fis_view.specs.declared.view.Fis.TheVariants as view
-use Rattle.fis_view.specs.declared.view.FisFault.{FisFault}
 use Rattle.disk_model.specs.declared.request.Command.{Command}
-use Rattle.disk_model.specs.declared.request.Request.{Request}
-use Rattle.disk_model.specs.declared.request.Request.TheVariants.{Reset, Queue, ReadErrorLog, Identify, Flush, Other}
-use Rattle.disk_model.specs.Chunks.{put}
-use Rattle.disk_model.specs.Ends.{Fits, FitsRequest, reports}
-use Rattle.disk_model.specs.Histories.{Happening, Received, Sent}
-use Rattle.disk_model.specs.Ledger.{Accepts, Finishes, IdentifyData, Ledger, LogOf, Moving, Refuses, Reply, ShowsPage, activates, answered, answers, asks, awaits, awaits_page, ends, has_error, is_auto, ledger, listens_down, listens_up, mixes, moves, opens, reads_log, refuses, sends_data, sets_up, starts_moving, takes_data, with_auto}
-use Rattle.disk_model.specs.Requests.{request_of}
+use Rattle.disk_model.specs.{declared.request.Request.{Request, TheVariants.{Reset, Queue, ReadErrorLog, Identify, Flush, Other}}, Chunks.put}
+use Rattle.disk_model.specs.{Ends.{Fits, FitsRequest, reports}, Histories.{Happening, Received, Sent}}
+use Rattle.disk_model.specs.Ledger.{Accepts, Finishes, IdentifyData, Ledger, LogOf, Moving, Refuses, Reply, ShowsPage, activates, answered, answers}
+use Rattle.disk_model.specs.Ledger.{asks, awaits, awaits_page, ends, has_error, is_auto, ledger, listens_down, listens_up, mixes, moves, opens}
+use Rattle.disk_model.specs.{Ledger.{reads_log, refuses, sends_data, sets_up, starts_moving, takes_data, with_auto}, Requests.request_of}
 use Rattle.disk_model.proofs.Door.{ledger_push}
-use Rattle.disk_simulation.specs.Line.{EachReply, IsNoSignature, IsUnsigned}
-use Rattle.disk_simulation.specs.Watched.{IsErred, IsPlain, IsPlainRequest}
+use Rattle.disk_simulation.specs.{Line.{EachReply, IsNoSignature, IsUnsigned}, Watched.{IsErred, IsPlain, IsPlainRequest}}
 
 -- ## Answers
 

@@ -1,14 +1,10 @@
 -- For `lines_lead_to_beginning_anew`. The FISes that a disk sends.
 use Rattle.std.proofs.Common.{◌≡◌, ℕ, List}
-use Rattle.fis_view.specs.Table.{EStatus, Pio, field, places}
-use Rattle.fis_view.specs.Built.{cut}
-use Rattle.fis_view.specs.Seen.{seen}
-use Rattle.disk_model.specs.declared.answer.Answer.{Answer}
-use Rattle.disk_model.specs.declared.answer.Answer.TheVariants.{PageFollows, PageData}
-use Rattle.disk_model.specs.Sendings.{Sending, SetsUp, Activates, Carries, Shows, answer_sent, page_follows}
-use Rattle.disk_model.proofs.Door.{sent_by}
-use Rattle.disk_model.specs.declared.plan.DiskPlan.{DiskPlan}
+use Rattle.fis_view.specs.{Table.{EStatus, Pio, field, places}, Built.cut, Seen.seen}
+use Rattle.disk_model.specs.declared.answer.Answer.{Answer, TheVariants.{PageFollows, PageData}}
+use Rattle.disk_model.specs.{Sendings.{Sending, SetsUp, Activates, Carries, Shows, answer_sent, page_follows}, declared.plan.DiskPlan.DiskPlan}
 use Rattle.disk_model.specs.Between.{IsTransfer}
+use Rattle.disk_model.proofs.Door.{sent_by}
 use Rattle.disk_simulation.specs.Files.{DisksSendTheirs, IsOfDisk}
 
 ends_fine : (b : List ℕ) → Shows page_follows b → field Pio EStatus b ≡ 0x50

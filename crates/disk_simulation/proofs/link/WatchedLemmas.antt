@@ -3,17 +3,13 @@ use Rattle.std.proofs.Common.{◌≡◌, ◌≤◌, ◌+◌, ℕ, Bool, length, 
 use Rattle.std.specs.Prelude.{◌⊎◌}
 use Rattle.std.proofs.lemmas.List.{append-nil}
 use Rattle.fis_view.specs.Seen.{seen}
-use Rattle.disk_model.specs.declared.plan.DiskPlan.{DiskPlan}
-use Rattle.disk_model.specs.Anew.{IsCarefulSince, IsClear, IsLinkedOn}
+use Rattle.disk_model.specs.{declared.plan.DiskPlan.DiskPlan, Anew.{IsCarefulSince, IsClear, IsLinkedOn}, Ends.reports}
+use Rattle.disk_model.specs.{Histories.{Happening, Received, Sent}, Fronts.IsFront, Ledger.{IsSize, Ledger, Written, ledger}, Runs.IsDiskRun}
 use Rattle.disk_model.specs.Anew as link
-use Rattle.disk_model.specs.Ends.{reports}
-use Rattle.disk_model.specs.Histories.{Happening, Plugged, Loaded, Received, Sent}
-use Rattle.disk_model.specs.Fronts.{IsFront}
-use Rattle.disk_model.specs.Ledger.{IsSize, Ledger, Written, ledger}
-use Rattle.disk_model.specs.Runs.{IsDiskRun}
 use Rattle.disk_model.proofs.Door.{ends_agree_anew, host_is_ahead, resting_is_silent}
 use Rattle.disk_simulation.specs.Followed.{IsFollowed}
-use Rattle.disk_simulation.specs.Watched.{ArePlain, Erred, Fine, GavePlain, IsErred, IsErredSince, IsLastError, IsPlain, IsPlainSince, IsWatched, IsWatchedTo, WatchedIsAhead, WatchesOn}
+use Rattle.disk_simulation.specs.Watched.{ArePlain, Erred, Fine, GavePlain, IsErred, IsErredSince, IsLastError, IsPlain, IsPlainSince, IsWatched}
+use Rattle.disk_simulation.specs.Watched.{IsWatchedTo, WatchedIsAhead, WatchesOn}
 use Rattle.disk_simulation.proofs.phases.FollowedLemmas.{IsBefore, follows_failed, follows_linked, one_more, run_to, same_first}
 use Rattle.disk_simulation.proofs.link.PlainLemmas.{Stays, erred_now, erred_writes, plain_no_reset, stays_gone, stays_received, unheard_now}
 
@@ -34,16 +30,12 @@ plain_split (b ∷ front) bytes back plain =
 gave_received : (since : List Happening) (bytes : List ℕ) → GavePlain since → IsPlain (seen bytes) → GavePlain (since ++ Received bytes ∷ [])
 gave_received [] bytes gave one = (one, tt)
 gave_received (Received b ∷ since) bytes gave one = (gave.0, gave_received since bytes gave.1 one)
-gave_received (Sent b ∷ since) bytes gave one = gave_received since bytes gave one
-gave_received (Plugged ∷ since) bytes gave one = gave_received since bytes gave one
-gave_received (Loaded b ∷ since) bytes gave one = gave_received since bytes gave one
+gave_received (other ∷ since) bytes gave one = gave_received since bytes gave one
 
 gave_sent : (since : List Happening) (bytes : List ℕ) → GavePlain since → GavePlain (since ++ Sent bytes ∷ [])
 gave_sent [] bytes gave = tt
 gave_sent (Received b ∷ since) bytes gave = (gave.0, gave_sent since bytes gave.1)
-gave_sent (Sent b ∷ since) bytes gave = gave_sent since bytes gave
-gave_sent (Plugged ∷ since) bytes gave = gave_sent since bytes gave
-gave_sent (Loaded b ∷ since) bytes gave = gave_sent since bytes gave
+gave_sent (other ∷ since) bytes gave = gave_sent since bytes gave
 
 since_given : (base host : List Happening) (bytes : List ℕ) → IsPlain (seen bytes) → IsPlainSince base host
     → IsPlainSince base (host ++ Received bytes ∷ [])

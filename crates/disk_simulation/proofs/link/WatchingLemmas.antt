@@ -3,15 +3,9 @@ use Rattle.std.proofs.Common.{◌≡◌, ◌<◌, false, [], ◌∷◌, refl, sy
 use Rattle.std.specs.Prelude.{is_some}
 use Rattle.std.proofs.lemmas.Bool.{true≢false}
 use Rattle.port_errors.specs.declared.cause.DeviceCause.{DeviceCause}
-use Rattle.hba_fbs.specs.Taking.{port_of}
-use Rattle.hba_fbs.specs.Views.{view_of}
-use Rattle.disk_simulation.specs.Anew.{IsKeptOn, IsNextRight}
-use Rattle.disk_simulation.specs.Followed.{IsFollowed}
-use Rattle.disk_simulation.specs.Phases.{WatchesWhatIsFine}
-use Rattle.disk_simulation.specs.Watched.{WatchesOn}
-use Rattle.disk_simulation.proofs.anew.AnewJoins.{hosted_on_is_kept}
-use Rattle.disk_simulation.proofs.phases.FollowedLemmas.{next_or_fails}
-use Rattle.disk_simulation.proofs.phases.PhaseLemmas.{error_faults, hosted_on}
+use Rattle.hba_fbs.specs.{Taking.port_of, Views.view_of}
+use Rattle.disk_simulation.specs.{Anew.{IsKeptOn, IsNextRight}, Followed.IsFollowed, Phases.WatchesWhatIsFine, Watched.WatchesOn}
+use Rattle.disk_simulation.proofs.{anew.AnewJoins.hosted_on_is_kept, phases.{FollowedLemmas.next_or_fails, PhaseLemmas.{error_faults, hosted_on}}}
 use Rattle.disk_simulation.proofs.link.WatchedLemmas.{takes_on, watches_on}
 use Rattle.fis_view.specs.Frames.{marked}
 

@@ -1,19 +1,12 @@
 -- For `others_leave_a_device`. Events that are none of a device's, or issue commands for it, keep what a host has of
 -- it.
 use Rattle.std.proofs.Common.{◌≡◌, ℕ, ◌<◌, [], ◌∷◌, ◌++◌, sym, subst, inl, inr, arith}
-use Rattle.hba_fbs.specs.declared.register.Register.TheVariants.{Ci}
-use Rattle.hba_fbs.specs.Views.{view_of}
+use Rattle.hba_fbs.specs.{declared.register.Register.TheVariants.Ci, Views.view_of}
 use Rattle.disk_model.specs.Ledger.{Ledger, ledger}
-use Rattle.hba_laws.specs.Client.{own}
-use Rattle.hba_laws.specs.Delivering.{touched}
-use Rattle.hba_laws.specs.History.{History}
-use Rattle.hba_laws.specs.Hosts.{Does, Host, HostEvent, Wrote}
-use Rattle.disk_simulation.specs.Calm.{CalmRunsKeep, IsCalm, IssuesFor, WritesIssues}
-use Rattle.disk_simulation.specs.Elsewhere.{LeavesDevice}
-use Rattle.disk_simulation.specs.Hosted.{IsHosted}
+use Rattle.hba_laws.specs.{Client.own, Delivering.touched, History.History, Hosts.{Does, Host, HostEvent, Wrote}}
+use Rattle.disk_simulation.specs.{Calm.{CalmRunsKeep, IsCalm, IssuesFor, WritesIssues}, Elsewhere.LeavesDevice, Hosted.IsHosted, Same.SlotCommand}
 use Rattle.disk_simulation.specs.Hosted as since_new
 use Rattle.disk_simulation.proofs.others.ElsewhereLemmas.{others_leave_device}
-use Rattle.disk_simulation.specs.Same.{SlotCommand}
 
 -- what a host has of a device stays at such an event, if it does where the view stays and where commands are issued
 module _ (n : ℕ) (k : Ledger) (old new : Host) (commands next : ℕ → SlotCommand) (past : History) (Has : Host → (ℕ → SlotCommand) → History → Type 0)

@@ -3,20 +3,13 @@ use Rattle.std.proofs.Common.{◌≡◌, ◌≢◌, ℕ, Bool, true, false, List
 use Rattle.std.specs.Prelude.{if◌then◌else◌, map}
 use Rattle.std.proofs.lemmas.Bool.{cases_eq, ne_eqb}
 use Rattle.fis_view.specs.Frames.{Stamped}
-use Rattle.slots.specs.Slots.{Issue, issue_at}
-use Rattle.slots.specs.Work.{is_dma, is_read}
-use Rattle.hba_fbs.specs.declared.register.Register.{Register}
-use Rattle.hba_fbs.specs.declared.register.Register.TheVariants.{Ci, Clb, Cmd, Fbs}
-use Rattle.hba_fbs.specs.declared.report.TakeReport.{TakeReport}
-use Rattle.hba_fbs.specs.Issuing.{aimed, asked, view_issued}
-use Rattle.hba_fbs.specs.Sending.{Data, Gives, Nothing, Order, Outgoing, Sends, Unreadable, outgoing}
-use Rattle.hba_fbs.specs.Taking.{ignores, port_of}
-use Rattle.hba_fbs.specs.Views.{DeviceView, Port, stopped_view, view_of}
-use Rattle.hba_fbs.specs.Writing.{cleared_by, is_device, view_after}
+use Rattle.slots.specs.{Slots.{Issue, issue_at}, Work.{is_dma, is_read}}
+use Rattle.hba_fbs.specs.declared.{register.Register.{Register, TheVariants.{Ci, Cmd, Fbs}}, report.TakeReport.TakeReport}
+use Rattle.hba_fbs.specs.{Issuing.{aimed, asked, view_issued}, Sending.{Data, Gives, Nothing, Order, Outgoing, Sends, Unreadable, outgoing}}
+use Rattle.hba_fbs.specs.{Taking.{ignores, port_of}, Views.{DeviceView, Port, stopped_view, view_of}, Writing.{cleared_by, is_device, view_after}}
 use Rattle.hba_laws.specs.Client.{By, Stops, own}
 use Rattle.hba_laws.specs.Delivering.{begun_by, by_device, event_sent, event_taken, touched_by_clear, touched_by_out, touched_by_write}
-use Rattle.hba_laws.specs.History.{Emptied, Event, SetUp}
-use Rattle.hba_laws.specs.Hosts.{Flushed, Gave, Host, Stored, TakesFrame, Took, Wrote}
+use Rattle.hba_laws.specs.{History.{Emptied, Event, SetUp}, Hosts.{Flushed, Gave, Host, TakesFrame, Took, Wrote}}
 use Rattle.hba_laws.proofs.Door.{other_below}
 use Rattle.disk_simulation.specs.Elsewhere.{IsForOther, OthersLeaveDevice, WritesElsewhere}
 
@@ -48,7 +41,6 @@ view_kept n value Ci old other =
     (ne_eqb n (aimed old.port.registers old.memory.structure value) other)
 view_kept n value Fbs old other =
     ap (λ (b : Bool). if b then stopped_view (view_of n old.port) else view_of n old.port) (not_cleared n (cleared_by old.port.errors value) other)
-view_kept n value Clb old other = refl
 view_kept n value rest old other = refl
 
 none_written : (n value : ℕ) (register : Register) (old : Host) → WritesElsewhere n old register value
@@ -112,5 +104,4 @@ others_leave_device n old new (Flushed dev) below does other = record {
 others_leave_device n old new (Gave frame) below does other =
     let both = given_elsewhere n old new (outgoing old.port old.memory) frame does.0 other in
     record { view = both.0; history = both.1 }
-others_leave_device n old new (Stored structure) below does other = record { view = ap (view_of n) does.1; history = refl }
 others_leave_device n old new rest below does other = record { view = ap (view_of n) does.1; history = refl }

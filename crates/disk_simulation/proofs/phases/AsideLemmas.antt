@@ -1,44 +1,30 @@
 -- For `devices_are_set_aside`. A device of which no queued command can be done.
 use Rattle.std.proofs.Common.{◌≡◌, ◌≢◌, ◌==◌, ◌&&◌, ◌||◌, ℕ, zero, suc, ◌<◌, Bool, true, false, List, [], ◌∷◌, ◌++◌, refl, sym, ap, subst, ◌∙◌, inl, inr, Option, Some, None}
-use Rattle.std.specs.Prelude.{◌⊎◌, is_none, is_some, map, not, if◌then◌else◌}
-use Rattle.std.specs.Option.{option_map_or}
-use Rattle.std.proofs.lemmas.Bool.{cases_eq, eq-eqb, true≢false}
-use Rattle.std.proofs.lemmas.Nat.Bits.{bit_at-zero}
-use Rattle.fis_view.specs.Frames.{Stamped}
-use Rattle.fis_view.specs.Seen.{seen}
+use Rattle.std.specs.{Prelude.{◌⊎◌, is_none, is_some, map, not, if◌then◌else◌}, Option.option_map_or}
+use Rattle.std.proofs.lemmas.{Bool.{cases_eq, eq-eqb, true≢false}, Nat.Bits.bit_at-zero}
+use Rattle.fis_view.specs.{Frames.Stamped, Seen.seen}
 use Rattle.port_errors.specs.Errors.{Errors, after_clear, cleared_device, no_errors, without}
-use Rattle.slots.specs.Slots.{Issue, has_bit, holds, issue_at, match_some}
-use Rattle.slots.specs.Work.{is_dma, is_queued, is_read}
+use Rattle.slots.specs.{Slots.{Issue, has_bit, holds, issue_at, match_some}, Work.{is_dma, is_queued, is_read}}
 use Rattle.slots.specs.declared.answer.Answered.TheVariants as answer
 use Rattle.host_memory.specs.Memory.{Memory}
 use Rattle.hba_commands.specs.declared.command.Command as issued_command
-use Rattle.hba_fbs.specs.declared.hearing.Fault.{Fault}
-use Rattle.hba_fbs.specs.declared.hearing.Fault.TheVariants as fault
-use Rattle.hba_fbs.specs.declared.hearing.Happening.{Happening}
-use Rattle.hba_fbs.specs.declared.hearing.Happening.TheVariants as happening
-use Rattle.hba_fbs.specs.declared.hearing.Heard.{Heard}
-use Rattle.hba_fbs.specs.declared.register.Register.{Register}
-use Rattle.hba_fbs.specs.declared.register.Register.TheVariants.{Ci, Cmd, Fbs}
-use Rattle.hba_fbs.specs.declared.report.TakeReport.{TakeReport}
-use Rattle.hba_fbs.specs.declared.status.Block.{Block}
-use Rattle.hba_fbs.specs.Bits.{dec}
-use Rattle.hba_fbs.specs.Issuing.{aimed, asked, view_issued}
-use Rattle.hba_fbs.specs.Posting.{signs}
-use Rattle.hba_fbs.specs.Registers.{falls}
+use Rattle.hba_fbs.specs.declared.{hearing.Fault.Fault, hearing.Happening.Happening, hearing.Heard.Heard}
+use Rattle.hba_fbs.specs.declared.{register.Register.{Register, TheVariants.{Ci, Cmd, Fbs}}, report.TakeReport.TakeReport, status.Block.Block}
+use Rattle.hba_fbs.specs.{Bits.dec, Issuing.{aimed, asked, view_issued}, Posting.signs, Registers.falls}
 use Rattle.hba_fbs.specs.Sending.{Data, Gives, Nothing, Order, Outgoing, Sends, Unreadable, outgoing, view_fed, view_sent}
-use Rattle.hba_fbs.specs.Taking.{admitted, errors_in, errors_with, heard_now, heard_report, ignores, is_ignored, is_running, passes_over, port_cause, port_of}
-use Rattle.hba_fbs.specs.Views.{DeviceView, Port, view_of}
-use Rattle.hba_fbs.specs.Writing.{cleared_by, errors_after, view_after}
+use Rattle.hba_fbs.specs.Taking.{admitted, errors_in, errors_with, heard_now, heard_report, ignores, is_ignored, is_running, passes_over, port_cause}
+use Rattle.hba_fbs.specs.{Taking.port_of, Views.{DeviceView, Port, view_of}, Writing.{cleared_by, errors_after, view_after}}
+use Rattle.hba_fbs.specs.declared.hearing.Fault.TheVariants as fault
+use Rattle.hba_fbs.specs.declared.hearing.Happening.TheVariants as happening
 use Rattle.hba_laws.specs.Client.{By, Stops, own}
-use Rattle.hba_laws.specs.Delivering.{begun_by, by_device, event_heard, event_of, event_sent, event_taken, is_control_issue, issued_below, touched, touched_by_clear, touched_by_out}
+use Rattle.hba_laws.specs.Delivering.{begun_by, by_device, event_heard, event_of, event_sent, event_taken, is_control_issue, issued_below, touched}
+use Rattle.hba_laws.specs.Delivering.{touched_by_clear, touched_by_out}
 use Rattle.hba_laws.specs.History.{Carried, Emptied, Event, History, Issued, PioSetUp, Sent, SentControl, SetUp, Transfer, completes, issued, unless}
-use Rattle.hba_laws.specs.Hosts.{Does, Flushed, Gave, Host, HostEvent, Put, Rewrote, Stored, TakesFrame, Took, Wrote}
-use Rattle.hba_laws.specs.Isolation.{fails_by_bus}
+use Rattle.hba_laws.specs.{Hosts.{Does, Flushed, Gave, Host, HostEvent, TakesFrame, Took, Wrote}, Isolation.fails_by_bus}
 use Rattle.hba_laws.specs.Between.{history_below, transfer_of, with_issued}
 use Rattle.hba_laws.proofs.Door.{other_below, own_below_is}
-use Rattle.disk_simulation.specs.Aside.{AreUnqueued, AsideIsKept, Faulty, Halted, IsAside, IssuesNoneQueued, SetsAside, Spared, WritesAside, WritesNoneQueued}
-use Rattle.disk_simulation.specs.Elsewhere.{IsElsewhere}
-use Rattle.disk_simulation.specs.Together.{NoneQueued}
+use Rattle.disk_simulation.specs.Aside.{AreUnqueued, AsideIsKept, Faulty, Halted, IsAside, IssuesNoneQueued, SetsAside, Spared, WritesAside}
+use Rattle.disk_simulation.specs.{Aside.WritesNoneQueued, Elsewhere.IsElsewhere, Together.NoneQueued}
 use Rattle.disk_simulation.proofs.others.ElsewhereLemmas.{others_leave_device, view_sends}
 
 -- ## Events that issue nothing
@@ -58,10 +44,6 @@ after_none (Some t) test none = unless_none (test t) (Some t) none
 one_more : (e : Event) (past : History) → IssuesNothing e → AreUnqueued past → AreUnqueued (e ∷ past)
 one_more (Issued slot t) past plain none s = absurd plain
 one_more (SentControl slot) past plain none s = unless_none (slot == s) (issued s past) (none s)
-one_more (SetUp tag offset count to_host) past plain none s =
-    after_none (issued s past) (λ t. completes s (SetUp tag offset count to_host) past t.work) (none s)
-one_more (PioSetUp count to_host ends) past plain none s =
-    after_none (issued s past) (λ t. completes s (PioSetUp count to_host ends) past t.work) (none s)
 one_more Emptied past plain none s = tt
 one_more other past plain none s = after_none (issued s past) (λ t. completes s other past t.work) (none s)
 
@@ -82,17 +64,10 @@ MayIssueNothing None = Unit {0}
 MayIssueNothing (Some e) = IssuesNothing e
 
 heard_plain : (h : Happening) (block : Option Block) (payload : List ℕ) → MayIssueNothing (event_of h block payload)
-heard_plain happening.Nothing block payload = tt
 heard_plain (happening.Answered answer.Nobody) block payload = tt
-heard_plain (happening.Answered (answer.Queued slot)) block payload = tt
-heard_plain (happening.Answered (answer.Done slot)) block payload = tt
-heard_plain (happening.Answered (answer.Short slot)) block payload = tt
-heard_plain (happening.Named mask) block payload = tt
-heard_plain (happening.SetUp c) block payload = tt
 heard_plain (happening.PioSetUp count to_host) None payload = tt
 heard_plain (happening.PioSetUp count to_host) (Some block) payload = tt
-heard_plain happening.Activated block payload = tt
-heard_plain (happening.Carried wrote finishes) block payload = tt
+heard_plain other block payload = tt
 
 taken_plain : (b : Bool) (h : Heard) (payload : List ℕ) → MayIssueNothing (if b then None else event_heard h payload)
 taken_plain true h payload = tt
@@ -403,11 +378,8 @@ goes_on n host new (Flushed dev) past below does alone aside = elim (cases_eq n 
   | inr other ↦ aside_elsewhere n host new (Flushed dev) past below does other (λ is. ap (λ (e : Errors). is_some e.port) does.0.errors ∙ is) aside
 ]
 goes_on n host new (Gave frame) past below does alone aside = goes_on_gave n host new (outgoing host.port host.memory) frame past does.0 aside
-goes_on n host new (Stored structure) past below does alone aside =
-    aside_elsewhere n host new (Stored structure) past below does tt (same_port host new does.1) aside
-goes_on n host new (Rewrote dev row) past below does alone aside =
-    aside_elsewhere n host new (Rewrote dev row) past below does tt (same_port host new does.1) aside
-goes_on n host new (Put at bytes) past below does alone aside = aside_elsewhere n host new (Put at bytes) past below does tt (same_port host new does.1) aside
+goes_on n host new other past below does alone aside =
+    aside_elsewhere n host new other past below does tt (same_port host new does.1) aside
 
 -- ## What sets it aside
 

@@ -2,8 +2,7 @@
 use Rattle.std.proofs.Common.{ap, inr}
 use Rattle.hba_fbs.specs.Views.{DeviceView}
 use Rattle.disk_model.specs.Ledger.{ledger}
-use Rattle.disk_simulation.specs.Anew.{IsHostedOn, issues, stays}
-use Rattle.disk_simulation.specs.Phases.{CalmLeavesTogether}
+use Rattle.disk_simulation.specs.{Anew.{IsHostedOn, issues, stays}, Phases.CalmLeavesTogether}
 use Rattle.disk_simulation.proofs.others.CalmLemmas.{calm_one}
 
 pub calm_leaves_together : CalmLeavesTogether

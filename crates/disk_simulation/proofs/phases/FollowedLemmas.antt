@@ -1,20 +1,13 @@
 -- For `disks_are_followed_to_their_errors`. What a host follows of a disk, up to an error of it.
 use Rattle.std.proofs.Common.{◌≡◌, ℕ, Bool, true, false, List, [], ◌∷◌, ◌++◌, append_assoc, refl, sym, ap, subst, ◌∙◌, inl, inr}
 use Rattle.std.specs.Prelude.{◌⊎◌}
-use Rattle.std.proofs.lemmas.Bool.{true≢false}
-use Rattle.std.proofs.lemmas.List.{append-nil}
+use Rattle.std.proofs.lemmas.{Bool.true≢false, List.append-nil}
 use Rattle.fis_view.specs.Seen.{seen}
-use Rattle.disk_model.specs.declared.plan.DiskPlan.{DiskPlan}
-use Rattle.disk_model.specs.Anew.{IsLinkedOn}
+use Rattle.disk_model.specs.{declared.plan.DiskPlan.DiskPlan, Anew.IsLinkedOn, Disks.{Moment, after, opening}, Ends.reports}
+use Rattle.disk_model.specs.{Histories.{Happening, Received, Sent}, Ledger.ledger, Runs.{IsDiskRun, Runs}}
 use Rattle.disk_model.specs.Anew as link
-use Rattle.disk_model.specs.Disks.{Moment, after, opening}
-use Rattle.disk_model.specs.Ends.{reports}
-use Rattle.disk_model.specs.Histories.{Happening, Received, Sent}
-use Rattle.disk_model.specs.Ledger.{ledger}
-use Rattle.disk_model.specs.Runs.{IsDiskRun, Runs}
 use Rattle.hba_laws.specs.History.{filled}
-use Rattle.disk_simulation.specs.Followed.{Failed, FollowedIsHonest, FollowsOn, IsFollowed, IsPast, NextIsRightOrFails, Now}
-use Rattle.disk_simulation.specs.Honest.{IsDoneHonestly}
+use Rattle.disk_simulation.specs.{Followed.{Failed, FollowedIsHonest, FollowsOn, IsFollowed, IsPast, NextIsRightOrFails, Now}, Honest.IsDoneHonestly}
 use Rattle.disk_simulation.proofs.anew.AnewHonest.{fine_done, honest_stays, next_anew, reports_anew}
 
 -- ## Runs

@@ -2,43 +2,24 @@
 -- to it.
 use Rattle.std.proofs.Common.{◌≡◌, ℕ, ◌<◌, true, false, List, [], ◌∷◌, drop, refl, sym, ap, subst, ◌∙◌, inl, inr, None, Ok, Result, arith}
 use Rattle.std.specs.Prelude.{◌⊎◌, is_some}
-use Rattle.std.proofs.lemmas.Bool.{true≢false}
-use Rattle.std.proofs.lemmas.List.{append_cancel_left}
-use Rattle.fis_view.specs.Frames.{marked}
-use Rattle.fis_view.specs.Seen.{seen}
-use Rattle.fis_view.specs.declared.view.Fis.{Fis}
+use Rattle.std.proofs.lemmas.{Bool.true≢false, List.append_cancel_left}
+use Rattle.fis_view.specs.{Frames.marked, Seen.seen, declared.{view.Fis.Fis, view.FisFault.FisFault}}
 use Rattle.fis_view.specs.declared.view.Fis.TheVariants as view
-use Rattle.fis_view.specs.declared.view.FisFault.{FisFault}
-use Rattle.hba_fbs.specs.declared.hearing.Heard.{Heard}
-use Rattle.hba_fbs.specs.declared.report.TakeReport.{TakeReport}
-use Rattle.hba_fbs.specs.Tables.{is_sound}
-use Rattle.hba_fbs.specs.Taking.{admitted, device_cause, heard_now, heard_report, ignores, port_of, view_after_hearing}
-use Rattle.hba_fbs.specs.Views.{DeviceView, view_of}
-use Rattle.disk_model.specs.declared.plan.DiskPlan.{DiskPlan}
-use Rattle.disk_model.specs.declared.request.Request.{Request}
-use Rattle.disk_model.specs.declared.request.Request.TheVariants.{Queue, Identify, Flush}
-use Rattle.disk_model.specs.Anew.{IsClear}
-use Rattle.disk_model.specs.Ends.{Fits, FitsAll, IsRight}
-use Rattle.disk_model.specs.Histories.{Happening, Plugged, Loaded, Received, Sent}
-use Rattle.disk_model.specs.Ledger.{Accepts, Finishes, Ledger, ShowsPage, ledger, ledger_after, listens, listens_down}
-use Rattle.disk_model.specs.Requests.{request_of}
+use Rattle.hba_fbs.specs.{declared.{hearing.Heard.Heard, report.TakeReport.TakeReport}, Tables.is_sound}
+use Rattle.hba_fbs.specs.{Taking.{admitted, device_cause, heard_now, heard_report, ignores, port_of, view_after_hearing}, Views.{DeviceView, view_of}}
+use Rattle.disk_model.specs.{declared.{plan.DiskPlan.DiskPlan, request.Request.{Request, TheVariants.{Queue, Identify, Flush}}}, Anew.IsClear}
+use Rattle.disk_model.specs.{Ends.{Fits, FitsAll, IsRight}, Histories.{Happening, Plugged, Loaded, Received, Sent}}
+use Rattle.disk_model.specs.{Ledger.{Accepts, Finishes, Ledger, ShowsPage, ledger, ledger_after, listens, listens_down}, Requests.request_of}
 use Rattle.disk_model.specs.Between.{alone}
 use Rattle.disk_model.proofs.Door.{after_more, asks_fits}
 use Rattle.hba_laws.specs.Hosts.{Host, TakesFrame}
 use Rattle.disk_simulation.specs.Anew.{IsNextRight}
 use Rattle.disk_simulation.specs.Files.{BothHaveBegun, FilesStayFine, IsFineFile, IsNextHeard, IsNoRefusal, IsOfDisk, IsUnrefused, NothingIsRefused}
-use Rattle.disk_simulation.specs.Followed.{IsFollowed}
-use Rattle.disk_simulation.specs.Line.{EachReply, IsNoSignature, IsWatchedWell, ToSign, Unsigned}
-use Rattle.disk_simulation.specs.Marked.{IsHeardAlike}
+use Rattle.disk_simulation.specs.{Followed.IsFollowed, Line.{EachReply, IsNoSignature, IsWatchedWell, ToSign, Unsigned}, Marked.IsHeardAlike}
 use Rattle.disk_simulation.specs.Watched.{GavePlain, IsPlain, IsPlainRequest, IsWatched, WatchesOn}
-use Rattle.disk_simulation.proofs.task_files.FileLemmas.{IsFineHeard, fine_view, first_heard, right_heard}
-use Rattle.disk_simulation.proofs.phases.FollowedLemmas.{next_or_fails}
-use Rattle.disk_simulation.proofs.link.LooseLemmas.{next_of_disk}
-use Rattle.disk_simulation.proofs.link.MarkedFiles.{disk_marked}
-use Rattle.disk_simulation.proofs.joined.MarkedLemmas.{marks_tell_nothing}
-use Rattle.disk_simulation.proofs.joined.HeardLemmas.{heard_if}
-use Rattle.disk_simulation.proofs.link.PlainLemmas.{each_push, leaves_taken, leaves_up}
-use Rattle.disk_simulation.proofs.link.WatchedLemmas.{watches_on}
+use Rattle.disk_simulation.proofs.{task_files.FileLemmas.{IsFineHeard, fine_view, first_heard, right_heard}, phases.FollowedLemmas.next_or_fails}
+use Rattle.disk_simulation.proofs.{link.{LooseLemmas.next_of_disk, MarkedFiles.disk_marked}, joined.MarkedLemmas.marks_tell_nothing}
+use Rattle.disk_simulation.proofs.{joined.HeardLemmas.heard_if, link.{PlainLemmas.{each_push, leaves_taken, leaves_up}, WatchedLemmas.watches_on}}
 
 -- ## Nothing is refused
 

@@ -1,43 +1,25 @@
 -- For `task_files_stay_fine`. The task file that a host port has of an honest disk.
 use Rattle.std.proofs.Common.{◌≡◌, ◌==◌, ◌-◌, eqb, max, min, nat_lt, bit_or, bit_and, ℕ, zero, suc, ◌<◌, Bool, true, false, List, [], ◌∷◌, length, refl, sym, ap, subst, ◌∙◌, inl, inr, Option, Some, None, Ok, Err, Result, arith}
-use Rattle.std.specs.Prelude.{◌⊎◌, if◌then◌else◌, is_some, not}
-use Rattle.std.specs.Int.{bit_at}
-use Rattle.std.proofs.lemmas.Bool.{eqb-true}
-use Rattle.std.proofs.lemmas.Nat.Bits.{bit_at-lt, bit_at_and, bit_at_or}
-use Rattle.fis_view.specs.Table.{Bits, D2h, EStatus, Pio, SActive, Setup, Status, field}
+use Rattle.std.specs.{Prelude.{◌⊎◌, if◌then◌else◌, is_some, not}, Int.bit_at}
+use Rattle.std.proofs.lemmas.{Bool.eqb-true, Nat.Bits.{bit_at-lt, bit_at_and, bit_at_or}}
+use Rattle.fis_view.specs.{Table.{Bits, D2h, Pio, SActive, Status, field}, declared.{view.Fis.Fis, view.FisFault.FisFault}}
 use Rattle.fis_view.specs.Table as table
-use Rattle.fis_view.specs.declared.view.Fis.{Fis}
 use Rattle.fis_view.specs.declared.view.Fis.TheVariants as view
-use Rattle.fis_view.specs.declared.view.FisFault.{FisFault}
 use Rattle.port_errors.specs.declared.cause.DeviceCause.TheVariants as cause
 use Rattle.port_errors.specs.declared.cause.PortCause.TheVariants as port_cause
-use Rattle.slots.specs.Commands.{after_complete, answer_of, answered_as, completed, is_done, is_slot}
-use Rattle.slots.specs.Data.{after_arrive, may_activate}
-use Rattle.slots.specs.Setup.{out_setup, pio_fault, pio_issue}
-use Rattle.slots.specs.Slots.{DeviceSlots, context_unless, match_some, sent_pio}
-use Rattle.slots.specs.declared.answer.Answered.{Answered}
+use Rattle.slots.specs.{Commands.{after_complete, answer_of, answered_as, completed, is_done, is_slot}, Data.{after_arrive, may_activate}}
+use Rattle.slots.specs.{Setup.{out_setup, pio_fault, pio_issue}, Slots.{DeviceSlots, context_unless, match_some, sent_pio}}
+use Rattle.slots.specs.declared.{answer.Answered.Answered, answer.SetupError.SetupError, table.Context.Context}
 use Rattle.slots.specs.declared.answer.Answered.TheVariants as answer
-use Rattle.slots.specs.declared.answer.SetupError.{SetupError}
-use Rattle.slots.specs.declared.table.Context.{Context}
-use Rattle.hba_fbs.specs.declared.hearing.Fault.{Fault}
+use Rattle.hba_fbs.specs.{declared.{hearing.Fault.Fault, hearing.Heard.Heard, report.Wrote.Wrote, status.Block.Block}, Hearing.{heard_fis, moved}}
+use Rattle.hba_fbs.specs.{Status.{after_reset, is_error, with_bits, with_file}, Taking.{admitted, device_cause, heard, view_after_hearing}}
+use Rattle.hba_fbs.specs.Views.{DeviceView}
 use Rattle.hba_fbs.specs.declared.hearing.Fault.TheVariants as fault
 use Rattle.hba_fbs.specs.declared.hearing.Happening.TheVariants as happening
-use Rattle.hba_fbs.specs.declared.hearing.Heard.{Heard}
-use Rattle.hba_fbs.specs.declared.report.Wrote.{Wrote}
-use Rattle.hba_fbs.specs.declared.status.Block.{Block}
 use Rattle.hba_fbs.specs.Hearing as hear
-use Rattle.hba_fbs.specs.Hearing.{heard_fis, moved}
-use Rattle.hba_fbs.specs.Status.{after_reset, is_error, with_bits, with_file}
-use Rattle.hba_fbs.specs.Taking.{admitted, device_cause, heard, view_after_hearing}
-use Rattle.hba_fbs.specs.Views.{DeviceView}
-use Rattle.disk_model.specs.Anew.{IsClear}
-use Rattle.disk_model.specs.Ends.{IsRight}
-use Rattle.disk_model.specs.Laws.{ActivatesRight, AnswersFirst, ShowsFirst}
-use Rattle.disk_model.specs.Ledger.{Ledger, Refuses, Reply, ShowsPage}
-use Rattle.disk_simulation.specs.Files.{EndsFine, IsFineBlock, IsFineFile, IsNoRefusal, IsOfDisk, IsUnrefused}
-use Rattle.disk_simulation.specs.Line.{EachReply}
-use Rattle.disk_simulation.proofs.link.LooseLemmas.{no_setup}
-use Rattle.disk_simulation.proofs.joined.HeardLemmas.{error_is}
+use Rattle.disk_model.specs.{Anew.IsClear, Ends.IsRight, Laws.{ActivatesRight, AnswersFirst, ShowsFirst}, Ledger.{Ledger, Refuses, Reply, ShowsPage}}
+use Rattle.disk_simulation.specs.{Files.{EndsFine, IsFineBlock, IsFineFile, IsNoRefusal, IsOfDisk, IsUnrefused}, Line.EachReply}
+use Rattle.disk_simulation.proofs.{link.LooseLemmas.no_setup, joined.HeardLemmas.error_is}
 
 -- ## Status.ERR
 

@@ -1,29 +1,19 @@
 -- For `task_files_stay_fine`. What a host port gives a device, and issues for it, leaves its task file without an
 -- error.
 use Rattle.std.proofs.Common.{◌≡◌, ◌==◌, eqb, max, ℕ, ◌<◌, Bool, true, false, refl, sym, ap, subst, ◌∙◌, inl, inr, Option, Some, None, arith}
-use Rattle.std.specs.Prelude.{◌⊎◌, ◌||◌, if◌then◌else◌, bit_or}
-use Rattle.std.specs.Int.{bit_at}
+use Rattle.std.specs.{Prelude.{◌⊎◌, ◌||◌, if◌then◌else◌, bit_or}, Int.bit_at}
 use Rattle.std.proofs.lemmas.Nat.Bits.{bit_at-lt, bit_at_or}
 use Rattle.fis_view.specs.Frames.{Stamped}
-use Rattle.slots.specs.Commands.{is_slot, with_sent}
-use Rattle.slots.specs.Data.{after_payload, gone_over, payload_len}
-use Rattle.slots.specs.Setup.{begun, whole_context, with_own_context}
-use Rattle.slots.specs.Slots.{DeviceSlots, Issue, context_unless, freed, holds, is_control, match_some, own_issue}
-use Rattle.slots.specs.Work.{is_dma}
-use Rattle.slots.specs.declared.work.Work.{Work}
-use Rattle.slots.specs.declared.table.Context.{Context}
+use Rattle.slots.specs.{Commands.{is_slot, with_sent}, Data.{after_payload, gone_over, payload_len}, Setup.{begun, whole_context, with_own_context}}
+use Rattle.slots.specs.{Slots.{DeviceSlots, Issue, context_unless, freed, holds, is_control, match_some, own_issue}, Work.is_dma}
+use Rattle.slots.specs.declared.{work.Work.Work, table.Context.Context}
 use Rattle.hba_commands.specs.declared.command.Command.{Command}
-use Rattle.hba_fbs.specs.declared.register.Register.TheVariants.{Ci}
-use Rattle.hba_fbs.specs.declared.state.DeviceState.{DeviceState}
-use Rattle.hba_fbs.specs.Issuing.{aimed, view_issued}
+use Rattle.hba_fbs.specs.{declared.{register.Register.TheVariants.Ci, state.DeviceState.DeviceState}, Issuing.{aimed, view_issued}}
 use Rattle.hba_fbs.specs.Sending.{Data, Gives, Nothing, Order, Outgoing, Unreadable, outgoing, resets, state_sent, view_fed, view_sent}
-use Rattle.hba_fbs.specs.Status.{is_error}
-use Rattle.hba_fbs.specs.Views.{DeviceView, Port, view_of}
-use Rattle.hba_fbs.specs.Writing.{view_after}
+use Rattle.hba_fbs.specs.{Status.is_error, Views.{DeviceView, Port, view_of}, Writing.view_after}
 use Rattle.hba_laws.specs.Hosts.{Does, Host, Wrote}
 use Rattle.disk_simulation.specs.Files.{FilesAreLeft, IsFineBlock, IsFineFile}
-use Rattle.disk_simulation.proofs.task_files.FileLemmas.{bit_none}
-use Rattle.disk_simulation.proofs.others.ElsewhereLemmas.{view_sends}
+use Rattle.disk_simulation.proofs.{task_files.FileLemmas.bit_none, others.ElsewhereLemmas.view_sends}
 
 -- BSY is set
 busy_none : (status : ℕ) → is_error status ≡ false → is_error (bit_or status 128) ≡ false

@@ -2,37 +2,20 @@
 use Rattle.std.proofs.Common.{◌≡◌, ◌==◌, ℕ, ◌<◌, Bool, true, false, List, [], ◌∷◌, ◌++◌, refl, sym, ap, ◌∙◌, inl, inr, None, arith}
 use Rattle.std.specs.Prelude.{◌⊎◌, if◌then◌else◌, is_some}
 use Rattle.std.proofs.lemmas.Bool.{true≢false}
-use Rattle.fis_view.specs.Frames.{marked}
-use Rattle.fis_view.specs.Seen.{seen}
+use Rattle.fis_view.specs.{Frames.marked, Seen.seen}
 use Rattle.slots.specs.Slots.{DeviceSlots}
-use Rattle.hba_fbs.specs.declared.register.Register.TheVariants.{Ci}
-use Rattle.hba_fbs.specs.declared.report.TakeReport.{TakeReport}
-use Rattle.hba_fbs.specs.Issuing.{aimed, view_issued}
-use Rattle.hba_fbs.specs.Views.{DeviceView, view_of}
-use Rattle.hba_fbs.specs.Writing.{view_after}
-use Rattle.disk_model.specs.declared.plan.DiskPlan.{DiskPlan}
-use Rattle.disk_model.specs.Anew.{IsClear}
-use Rattle.disk_model.specs.Ends.{reports}
-use Rattle.disk_model.specs.Histories.{Happening, Received, Sent}
-use Rattle.disk_model.specs.Ledger.{ledger}
-use Rattle.hba_laws.specs.Client.{own}
-use Rattle.hba_laws.specs.Delivering.{touched}
-use Rattle.hba_laws.specs.History.{History}
-use Rattle.hba_laws.specs.Hosts.{Does, Host, Took, Wrote}
-use Rattle.disk_simulation.specs.Anew.{IsHostedOn, IsKeptOn, IsOpening, KeepsSlots}
-use Rattle.disk_simulation.specs.Anew as anew
-use Rattle.disk_simulation.specs.Aside.{AsideIsKept, IsAside}
-use Rattle.disk_simulation.specs.Files.{FilesStayFine, IsFineFile, IsNextHeard}
+use Rattle.hba_fbs.specs.{declared.{register.Register.TheVariants.Ci, report.TakeReport.TakeReport}, Issuing.{aimed, view_issued}}
+use Rattle.hba_fbs.specs.{Views.{DeviceView, view_of}, Writing.view_after}
+use Rattle.disk_model.specs.{declared.plan.DiskPlan.DiskPlan, Anew.IsClear, Ends.reports, Histories.{Happening, Received, Sent}, Ledger.ledger}
+use Rattle.hba_laws.specs.{Client.own, Delivering.touched, History.History, Hosts.{Does, Host, Took, Wrote}}
+use Rattle.disk_simulation.specs.{Anew.{IsHostedOn, IsKeptOn}, Aside.{AsideIsKept, IsAside}, Files.{FilesStayFine, IsFineFile, IsNextHeard}}
 use Rattle.disk_simulation.specs.Line.{IsWatchedWell, LinesBegin, Loose, OnLine}
 use Rattle.disk_simulation.specs.Outcomes.{EachTakenHasOutcome, Fails, HasFineFile, IsNextTaken, Loosens, NothingIsGiven, Outcome, Watches}
-use Rattle.disk_simulation.specs.Phases.{AreWatching}
-use Rattle.disk_simulation.proofs.anew.AnewJoins.{hosted_on_is_kept}
-use Rattle.disk_simulation.proofs.phases.AsideLemmas.{aside_is_kept}
-use Rattle.disk_simulation.proofs.task_files.FileLaws.{files_stay_fine}
-use Rattle.disk_simulation.proofs.link.LooseLemmas.{gives_none, lines_begin, not_base}
-use Rattle.disk_simulation.proofs.phases.PhaseLemmas.{error_faults, none_is}
+use Rattle.disk_simulation.specs.{Phases.AreWatching, Same.SlotCommand}
+use Rattle.disk_simulation.specs.Anew as anew
+use Rattle.disk_simulation.proofs.{anew.AnewJoins.hosted_on_is_kept, phases.AsideLemmas.aside_is_kept, task_files.FileLaws.files_stay_fine}
+use Rattle.disk_simulation.proofs.{link.LooseLemmas.{gives_none, lines_begin, not_base}, phases.PhaseLemmas.{error_faults, none_is}}
 use Rattle.disk_simulation.proofs.link.WatchingLemmas.{watches_what_is_fine}
-use Rattle.disk_simulation.specs.Same.{SlotCommand}
 
 -- ## Nothing is given
 

@@ -1,39 +1,29 @@
 -- For `both_views_go_on_together`. Both views of a disk go on to say the same.
 use Rattle.std.proofs.Common.{◌≡◌, ◌==◌, ◌&&◌, eqb, ℕ, ◌+◌, ◌*◌, Bool, true, false, List, [], ◌∷◌, ◌++◌, refl, sym, ap, subst, ◌∙◌, inl, inr, Option, Some, None, Ok, Result, ◌≤◌, length, arith}
-use Rattle.std.specs.Prelude.{◌≢◌, not, if◌then◌else◌, drop, find, replicate}
-use Rattle.std.specs.Int.{from_bool}
-use Rattle.std.specs.List.{list_any}
-use Rattle.std.proofs.lemmas.Bool.{and_parts, cases_Bool, eq-eqb, eqb-true, or_parts, true≢false}
-use Rattle.std.proofs.lemmas.List.Sums.{sum_by-append}
-use Rattle.fis_view.specs.Table.{Bits, BufferId, EStatus, Offset, Pio, SActive, Setup, field}
+use Rattle.std.specs.{Prelude.{◌≢◌, not, if◌then◌else◌, drop, find, replicate}, Int.from_bool, List.list_any}
+use Rattle.std.proofs.lemmas.{Bool.{and_parts, cases_Bool, eq-eqb, eqb-true, or_parts, true≢false}, List.Sums.sum_by-append}
+use Rattle.fis_view.specs.{Table.{Bits, BufferId, EStatus, Offset, Pio, SActive, Setup, field}, declared.{view.Fis.Fis, view.FisFault.FisFault}}
 use Rattle.fis_view.specs.Table as table
-use Rattle.fis_view.specs.declared.view.Fis.{Fis}
 use Rattle.fis_view.specs.declared.view.Fis.TheVariants as view
-use Rattle.fis_view.specs.declared.view.FisFault.{FisFault}
-use Rattle.slots.specs.Slots.{has_bit, is_pio}
-use Rattle.slots.specs.Work.{is_queued}
-use Rattle.slots.specs.declared.work.Kind.{Kind}
-use Rattle.slots.specs.declared.work.Kind.TheVariants.{QueuedRead, QueuedWrite}
-use Rattle.disk_model.specs.declared.request.Command.{Command}
-use Rattle.disk_model.specs.declared.request.Request.{Request}
-use Rattle.disk_model.specs.declared.request.Request.TheVariants.{Queue}
-use Rattle.disk_model.specs.declared.request.Request.TheVariants as asked
+use Rattle.slots.specs.{Slots.{has_bit, is_pio}, Work.is_queued, declared.work.Kind.{Kind, TheVariants.{QueuedRead, QueuedWrite}}}
+use Rattle.disk_model.specs.declared.{request.Command.Command, request.Request.{Request, TheVariants.Queue}}
 use Rattle.disk_model.specs.Ends.{FitsData, FitsRequest, IsFree, IsRight, MovesOther, PageAsked, Rests, has}
 use Rattle.disk_model.specs.Laws.{ActivatesRight, AsksOnce, CarriesNext, CarriesRight, SetsUpNext, SetsUpRight, StartsOne, bytes_named}
-use Rattle.disk_model.specs.Ledger.{Ledger, Moving, Signs, Stretch, activates, answers, asks, ends, is_auto, listens_up, sends_data, sets_up, starts_moving, takes_data, with_auto}
-use Rattle.disk_model.specs.Between.{after_bytes, alone, is_all, opened, with_bytes}
-use Rattle.disk_model.proofs.Door.{asks_fits, bits_up, data_down, found_not, goes_by}
-use Rattle.disk_model.proofs.Door.{opens_free, up_leaves}
-use Rattle.hba_laws.specs.History.{Answered, Carried, History, Issued, Named, Sent, SetUp, Transfer, completes, is_at, is_set_up, issued, unless, waiting_in}
-use Rattle.disk_simulation.specs.Same.{InLife, SlotCommand}
-use Rattle.disk_simulation.specs.Anew.{OpensTheSame}
-use Rattle.disk_simulation.specs.Answers.{IsAlone, IsIdle}
-use Rattle.disk_simulation.specs.Together.{AsksOne, InTalk, IsHeard, IsUntouched, IsWaited, NoneQueued, NothingWaits, QueuesOne, Replies, Same, SameGoesOn, is_sent, told, with_command}
+use Rattle.disk_model.specs.Ledger.{Ledger, Moving, Signs, Stretch, activates, answers, asks, ends, is_auto, listens_up, sends_data, sets_up}
+use Rattle.disk_model.specs.{Ledger.{starts_moving, takes_data, with_auto}, Between.{after_bytes, alone, is_all, opened, with_bytes}}
+use Rattle.disk_model.specs.declared.request.Request.TheVariants as asked
+use Rattle.disk_model.proofs.Door.{asks_fits, bits_up, data_down, found_not, goes_by, opens_free, up_leaves}
+use Rattle.hba_laws.specs.History.{Answered, Carried, History, Issued, Named, Sent, SetUp, Transfer, completes, is_at, is_set_up, issued, unless}
+use Rattle.hba_laws.specs.History.{waiting_in}
+use Rattle.disk_simulation.specs.{Same.{InLife, SlotCommand}, Anew.OpensTheSame, Answers.{IsAlone, IsIdle}}
+use Rattle.disk_simulation.specs.Together.{AsksOne, InTalk, IsHeard, IsUntouched, IsWaited, NoneQueued, NothingWaits, QueuesOne, Replies, Same}
+use Rattle.disk_simulation.specs.Together.{SameGoesOn, is_sent, told, with_command}
 use Rattle.disk_simulation.proofs.events.AnswerLemmas.{IsBeside, answers_keep, asks_beside, free_beside, names_keep, others_keep}
-use Rattle.disk_simulation.proofs.events.DataLemmas.{data_comes_down, data_up, goes_beside, still_free}
-use Rattle.disk_simulation.proofs.events.MoveLemmas.{activates_keep, setups_go_on}
+use Rattle.disk_simulation.proofs.events.{DataLemmas.{data_comes_down, data_up, goes_beside, still_free}, MoveLemmas.{activates_keep, setups_go_on}}
 use Rattle.disk_simulation.proofs.events.SameLemmas.{commands_keep, free_more, issues_keep, setups_start, still_not_at}
-use Rattle.disk_simulation.proofs.together.TalkLemmas.{IsQuiet, Stays, idle_activates, idle_moves, idle_names, idle_sets_up, page_idle, quiet, shows_idle, talk_asks, talk_issues, talk_page, talk_queues, talk_register, talk_shown, talk_stays, waited_on}
+use Rattle.disk_simulation.proofs.together.TalkLemmas.{IsQuiet, Stays, idle_activates, idle_moves, idle_names, idle_sets_up, page_idle, quiet}
+use Rattle.disk_simulation.proofs.together.TalkLemmas.{shows_idle, talk_asks, talk_issues, talk_page, talk_queues, talk_register, talk_shown}
+use Rattle.disk_simulation.proofs.together.TalkLemmas.{talk_stays, waited_on}
 
 -- ## What stays issued
 
@@ -664,7 +654,6 @@ bits_same commands f past k right ended same =
 
 takes_same : (commands : ℕ → SlotCommand) (fis : Result Fis FisFault) (past : History) (k : Ledger) → IsRight k fis → IsHeard past fis
     → Same commands past k → Same commands (told fis ++ past) (listens_up k fis)
-takes_same commands (Ok (view.RegH2D f)) past k right ended same = same
 takes_same commands (Ok (view.RegD2H f)) past k right ended same =
     up_same commands (Ok (view.RegD2H f)) past (Answered ∷ past) k (λ s t. completes s Answered past t.work) right (λ s. refl)
     (λ s t queued done. no_answer (is_at s (waiting_in past)) (is_queued t.work.kind) _ queued done) (λ s. refl)

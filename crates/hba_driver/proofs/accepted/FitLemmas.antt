@@ -1,38 +1,19 @@
 -- For `writes_are_accepted`. Each request that is not polled yet is a proper command in its slot, over every turn.
 use Rattle.std.proofs.Common.{◌≡◌, ℕ, ◌+◌, ◌*◌, ◌/◌, ◌<◌, ◌≤◌, Bool, true, false, ◌&&◌, nat_lt, nat_le, List, [], ◌∷◌, length, refl, sym, ◌∙◌, ap, subst, inl, inr, arith, Some, None}
-use Rattle.std.specs.Prelude.{◌||◌, ◌==◌, ◌%◌, if◌then◌else◌, not}
-use Rattle.std.specs.List.{list_all, list_any}
-use Rattle.std.proofs.lemmas.Bool.{false≢true, le-ltb, or_parts, true≢false}
-use Rattle.std.proofs.lemmas.Bool.Decides.{nat_tests}
-use Rattle.host_memory.specs.Memory.{Memory}
-use Rattle.host_memory.specs.Place.{total_of}
-use Rattle.host_memory.specs.Reading.{AgreeFrom, have_overlap, prds_at, read_fault}
-use Rattle.host_memory.specs.declared.table.Prd.{Prd}
+use Rattle.std.specs.{Prelude.{◌||◌, ◌==◌, ◌%◌, if◌then◌else◌, not}, List.{list_all, list_any}}
+use Rattle.std.proofs.lemmas.{Bool.{false≢true, le-ltb, or_parts, true≢false}, Bool.Decides.nat_tests}
+use Rattle.host_memory.specs.{Memory.Memory, Place.total_of, Reading.{AgreeFrom, have_overlap, prds_at, read_fault}, declared.table.Prd.Prd}
 use Rattle.host_memory.proofs.Door.{agree_within, says_the_same}
-use Rattle.hba_commands.specs.Commands.{is_proper, total_at, total_if_sound}
-use Rattle.hba_commands.specs.Requests.{request_of, sectors, work_of}
+use Rattle.hba_commands.specs.{Commands.{is_proper, total_at, total_if_sound}, Requests.{request_of, sectors, work_of}}
 use Rattle.hba_commands.specs.Writing.{header_for, is_usable}
 use Rattle.hba_laws.proofs.Door.{client_lens}
-use Rattle.hba_driver.specs.declared.mode.Mode.{Mode}
-use Rattle.hba_driver.specs.declared.request.Request.{Request}
-use Rattle.hba_driver.specs.declared.request.Work.{Work}
+use Rattle.hba_driver.specs.{declared.{mode.Mode.Mode, request.Request.Request, request.Work.Work, slot.Phase.Phase}, Drivers.{Entry, rephased}}
+use Rattle.hba_driver.specs.{Effects.table_of, Events.{IsSoundHostIn, events_over, shared_by}}
+use Rattle.hba_driver.specs.{HostTurns.{Does, DoesAll, Host, HostTurn, Took, Submitted}, Orders.{is_flush, is_queued, request_fields, work_fields}}
+use Rattle.hba_driver.specs.{Requests.is_bad_prd, Served.AreBounded, Submits.{end_of, new_entry, next_slot}, Between.{AreFit, Fresh, IsFit, IsTaken}}
 use Rattle.hba_driver.specs.declared.request.Work.TheVariants as work
-use Rattle.hba_driver.specs.declared.slot.Phase.{Phase}
-use Rattle.hba_driver.specs.Drivers.{Entry, rephased}
-use Rattle.hba_driver.specs.Effects.{table_of}
-use Rattle.hba_driver.specs.Events.{IsSoundHostIn, events_over, shared_by}
-use Rattle.hba_driver.specs.HostTurns.{Does, DoesAll, Host, HostTurn, Took, Submitted}
-use Rattle.hba_driver.specs.Orders.{is_flush, is_queued, request_fields, work_fields}
-use Rattle.hba_driver.specs.Requests.{is_bad_prd}
-use Rattle.hba_driver.specs.Served.{AreBounded}
-use Rattle.hba_driver.specs.Submits.{end_of, new_entry, next_slot}
-use Rattle.hba_driver.specs.Between.{AreFit, Fresh, IsFit, IsTaken}
-use Rattle.hba_driver.proofs.requests.ComeLemmas.{comes_from}
-use Rattle.hba_driver.proofs.requests.HistoryLemmas.{free_below}
-use Rattle.hba_driver.proofs.issued.ServedLemmas.{device_there}
-use Rattle.hba_driver.proofs.events.SoundLemmas.{sound_host}
-use Rattle.hba_driver.proofs.requests.StandLemmas.{agree_turn, in_slots, table_area}
-use Rattle.hba_driver.proofs.calls.SubmitLemmas.{is_taken}
+use Rattle.hba_driver.proofs.{requests.{ComeLemmas.comes_from, HistoryLemmas.free_below}, issued.ServedLemmas.device_there}
+use Rattle.hba_driver.proofs.{events.SoundLemmas.sound_host, requests.StandLemmas.{agree_turn, in_slots, table_area}, calls.SubmitLemmas.is_taken}
 use Rattle.hba_driver.proofs.events.TurnLemmas.{turns_are_events}
 
 -- ---- the request of a slot is a proper command
@@ -214,7 +195,6 @@ fit_fresh_at : (old : Host) (t : HostTurn) (new : Host) → Does old t new → l
 fit_fresh_at old (Submitted dev request ticket) new h long s f is =
     let it : IsFit (next_slot old.driver) (new_entry (old.driver.given + 1) dev request) new.memory = fit_fresh old dev request ticket new h long in
     subst (λ (k : ℕ). IsFit k f new.memory) (sym is.0) (subst (λ (x : Entry). IsFit (next_slot old.driver) x new.memory) is.1 it)
-fit_fresh_at old (Took frame report) new h long s f is = absurd is
 fit_fresh_at old other new h long s f is = absurd is
 
 pub fit_turn : {mode : Mode} (old : Host) (t : HostTurn) (new : Host) → Does old t new → IsSoundHostIn mode old → IsSoundHostIn mode new → AreBounded old.driver → AreFit old.driver old.memory → AreFit new.driver new.memory

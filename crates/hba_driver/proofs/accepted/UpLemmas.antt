@@ -1,54 +1,32 @@
 -- For `writes_are_accepted`. The port is open: it takes the writes with which the driver issues a command, and the
 -- command is issued.
 use Rattle.std.proofs.Common.{◌≡◌, ℕ, ◌+◌, ◌-◌, ◌*◌, ◌/◌, ◌^◌, ◌<◌, ◌≤◌, Bool, true, false, cond, ◌&&◌, nat_le, bit_or, w32, List, length, refl, sym, ◌∙◌, ap, subst, inl, inr, arith, Option, Some, None, [], ◌∷◌}
-use Rattle.std.specs.Prelude.{MatchOption, if◌then◌else◌, ◌==◌, ◌%◌, not, is_none, is_some, ◌||◌}
-use Rattle.std.specs.Bool.{beq}
-use Rattle.std.specs.Int.{bit_at}
-use Rattle.std.specs.Int.Bits.{and_zero_l, or_zero_l}
-use Rattle.std.specs.Option.{option_or}
-use Rattle.std.proofs.lemmas.Bool.{and_parts, cases_eq, cases_lt, false≢true, lt-ltb, true≢false}
-use Rattle.std.proofs.lemmas.Bool.Decides.{nat_tests}
-use Rattle.std.proofs.lemmas.List.{get_or_past}
-use Rattle.std.proofs.lemmas.Nat.{and_comm, pow_below}
-use Rattle.std.proofs.lemmas.Nat.Bits.{and_pow, bit_at-pow_same, bit_at-zero, bit_at_lowest, bit_at_not}
+use Rattle.std.specs.{Prelude.{MatchOption, if◌then◌else◌, ◌==◌, ◌%◌, not, is_none, is_some, ◌||◌}, Bool.beq, Int.bit_at}
+use Rattle.std.specs.{Int.Bits.{and_zero_l, or_zero_l}, Option.option_or}
+use Rattle.std.proofs.lemmas.{Bool.{and_parts, cases_eq, cases_lt, false≢true, lt-ltb, true≢false}, Bool.Decides.nat_tests, List.get_or_past}
+use Rattle.std.proofs.lemmas.{Nat.{and_comm, pow_below}, Nat.Bits.{and_pow, bit_at-pow_same, bit_at-zero, bit_at_lowest, bit_at_not}}
 use Rattle.fis_view.specs.declared.build.H2dFields.{H2dFields}
-use Rattle.host_memory.specs.Memory.{Memory}
-use Rattle.host_memory.specs.Place.{total_of}
-use Rattle.host_memory.specs.declared.table.Prd.{Prd}
+use Rattle.host_memory.specs.{Memory.Memory, Place.total_of, declared.table.Prd.Prd}
 use Rattle.hba_commands.specs.declared.command.Command.{Command}
-use Rattle.hba_commands.specs.Commands.{cfis_at, command_at, command_in, command_under, has_table, is_proper, total_at}
-use Rattle.hba_commands.specs.Headers.{header_at}
-use Rattle.hba_commands.specs.Requests.{request_at, request_of, work_of}
-use Rattle.hba_commands.specs.Writing.{header_for}
-use Rattle.slots.specs.Slots.{holds as issue_holds}
-use Rattle.slots.specs.Slots.{Issue, Slots, has_bit, issue_at, lowest, new_issue, own_issue, slots_of}
+use Rattle.hba_commands.specs.{Commands.{cfis_at, command_at, command_in, command_under, has_table, is_proper, total_at}, Headers.header_at}
+use Rattle.hba_commands.specs.{Requests.{request_at, request_of, work_of}, Writing.header_for}
+use Rattle.slots.specs.Slots.{holds as issue_holds, Issue, Slots, has_bit, issue_at, lowest, new_issue, own_issue, slots_of}
 use Rattle.slots.specs.Table.{IsIssue, IsTable}
 use Rattle.slots.proofs.Door.{lowest_is}
-use Rattle.hba_fbs.specs.declared.error.WriteError.{WriteError}
-use Rattle.hba_fbs.specs.declared.error.WriteError.TheVariants as refusal
-use Rattle.hba_fbs.specs.declared.register.Register.TheVariants.{Sact, Ci, Sntf, Fbs}
-use Rattle.hba_fbs.specs.declared.registers.Registers.{Registers}
+use Rattle.hba_fbs.specs.declared.{error.WriteError.WriteError, register.Register.TheVariants.{Sact, Ci, Sntf, Fbs}, registers.Registers.Registers}
 use Rattle.hba_fbs.specs.Bits.{without}
 use Rattle.hba_fbs.specs.Issuing.{aimed, any_beside, any_slot, asked, is_bad, is_beside, is_busy, issue_with, named_in, names_other, view_issued}
-use Rattle.hba_fbs.specs.Offsets.{register_at}
-use Rattle.hba_fbs.specs.Registers.{own_refusal, running_if, written}
-use Rattle.hba_fbs.specs.Views.{DeviceView, Port, view_of}
+use Rattle.hba_fbs.specs.{Offsets.register_at, Registers.{own_refusal, running_if, written}, Views.{DeviceView, Port, view_of}}
 use Rattle.hba_fbs.specs.Writing.{Accepts, apart_refusal, is_apart, refusal_of, slots_refusal, view_after, view_cleared, write_refusal}
+use Rattle.hba_fbs.specs.declared.error.WriteError.TheVariants as refusal
 use Rattle.hba_fbs.proofs.Door.{aimed_chosen, aimed_first}
 use Rattle.port_errors.specs.Errors.{cleared_device}
 use Rattle.hba_laws.proofs.Door.{is_own, own_here, own_in, own_issued}
-use Rattle.hba_driver.specs.declared.effect.Effect.{Effect}
-use Rattle.hba_driver.specs.declared.effect.Effect.TheVariants as effect
-use Rattle.hba_driver.specs.declared.mode.Mode.{Mode}
-use Rattle.hba_driver.specs.declared.mode.Mode.TheVariants.{Switching, CommandBased}
-use Rattle.hba_driver.specs.Accepted.{AreAccepted}
-use Rattle.hba_driver.specs.Effects.{Acts, ActsAll, issuing, table_of}
-use Rattle.hba_driver.specs.Modes.{is_switching}
-use Rattle.hba_driver.specs.Sights.{px_ci, px_fbs, px_sact, px_sntf}
+use Rattle.hba_driver.specs.{declared.{effect.Effect.Effect, mode.Mode.{Mode, TheVariants.{Switching, CommandBased}}}, Accepted.AreAccepted}
+use Rattle.hba_driver.specs.{Effects.{Acts, ActsAll, issuing, table_of}, Modes.is_switching, Sights.{px_ci, px_fbs, px_sact, px_sntf}}
 use Rattle.hba_driver.specs.Between.{IsIssuedAt, IsUpIn}
-use Rattle.hba_driver.proofs.events.DrivenLemmas.{no_dec, refusal_is}
-use Rattle.hba_driver.proofs.issued.IssuingLemmas.{bit_other, bit_same}
-use Rattle.hba_driver.proofs.events.OpenLemmas.{taken}
+use Rattle.hba_driver.specs.declared.effect.Effect.TheVariants as effect
+use Rattle.hba_driver.proofs.{events.DrivenLemmas.{no_dec, refusal_is}, issued.IssuingLemmas.{bit_other, bit_same}, events.OpenLemmas.taken}
 
 -- ---- small facts
 

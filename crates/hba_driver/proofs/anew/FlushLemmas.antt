@@ -3,24 +3,13 @@ use Rattle.std.proofs.Common.{◌≡◌, ℕ, ◌<◌, Bool, false, List, [], �
 use Rattle.std.specs.Prelude.{MatchOption, ◌==◌}
 use Rattle.std.proofs.lemmas.Bool.{cases_eq}
 use Rattle.host_memory.specs.Memory.{Memory}
-use Rattle.hba_fbs.specs.declared.register.Register.{Register}
-use Rattle.hba_fbs.specs.declared.register.Register.TheVariants.{Cmd, Ci, Fbs}
-use Rattle.hba_fbs.specs.declared.error.WriteError.{WriteError}
-use Rattle.hba_fbs.specs.Issuing.{aimed, view_issued}
-use Rattle.hba_fbs.specs.Offsets.{register_at}
-use Rattle.hba_fbs.specs.Registers.{falls}
-use Rattle.hba_fbs.specs.Views.{DeviceView, Port, stopped_view, view_of}
+use Rattle.hba_fbs.specs.declared.{register.Register.{Register, TheVariants.{Cmd, Ci, Fbs}}, error.WriteError.WriteError}
+use Rattle.hba_fbs.specs.{Issuing.{aimed, view_issued}, Offsets.register_at, Registers.falls, Views.{DeviceView, Port, stopped_view, view_of}}
 use Rattle.hba_fbs.specs.Writing.{Accepts, cleared_by, is_device, view_after, write_refusal}
-use Rattle.hba_driver.specs.declared.effect.Effect.{Effect}
+use Rattle.hba_driver.specs.declared.{effect.Effect.Effect, mode.Mode.Mode, order.Order.TheVariants.Clear, turn.Act.Act}
+use Rattle.hba_driver.specs.{Effects.{Acts, ActsAll, Tries, effects_of, emptying, order_command, order_effects}, HostTurns.{Does, Host, Ticked}}
+use Rattle.hba_driver.specs.{Steady.IsFlushTick, Tended.IsUnreset, Ticks.effects_due}
 use Rattle.hba_driver.specs.declared.effect.Effect.TheVariants as effect
-use Rattle.hba_driver.specs.declared.mode.Mode.{Mode}
-use Rattle.hba_driver.specs.declared.order.Order.TheVariants.{Clear}
-use Rattle.hba_driver.specs.declared.turn.Act.{Act}
-use Rattle.hba_driver.specs.Effects.{Acts, ActsAll, Tries, effects_of, emptying, order_command, order_effects}
-use Rattle.hba_driver.specs.HostTurns.{Does, Host, Ticked}
-use Rattle.hba_driver.specs.Steady.{IsFlushTick}
-use Rattle.hba_driver.specs.Tended.{IsUnreset}
-use Rattle.hba_driver.specs.Ticks.{effects_due}
 use Rattle.hba_driver.proofs.goes_on.StopLemmas.{either}
 
 -- ---- no effect begins a software reset

@@ -3,24 +3,14 @@ use Rattle.std.proofs.Common.{◌≡◌, ℕ, true, false, refl, sym, ◌∙◌,
 use Rattle.std.specs.Prelude.{◌||◌}
 use Rattle.std.proofs.lemmas.Bool.{cases_Bool}
 use Rattle.slots.specs.Slots.{match_some}
-use Rattle.hba_driver.specs.declared.path.Stage.{Stage}
-use Rattle.hba_driver.specs.declared.path.Stage.TheVariants.{Identify, AssertReset, ReadLog, ReleaseReset, AwaitReset}
-use Rattle.hba_driver.specs.declared.path.TaskFile.{TaskFile}
-use Rattle.hba_driver.specs.declared.plan.Plan.{Plan}
-use Rattle.hba_driver.specs.declared.slot.Phase.{Phase}
-use Rattle.hba_driver.specs.declared.slot.Phase.TheVariants.{Aside, Ended}
-use Rattle.hba_driver.specs.declared.turn.Act.{Act}
-use Rattle.hba_driver.specs.declared.turn.Act.TheVariants as act
-use Rattle.hba_driver.specs.Drivers.{Driver, has_ended_in, is_aside_in, is_issued_in, waits_in}
-use Rattle.hba_driver.specs.HostTurns.{Host, Ticked, sight_in}
-use Rattle.hba_driver.specs.Resetting.{EachResetIsDriven, IsSetDriven}
-use Rattle.hba_driver.specs.Sights.{file_shown}
-use Rattle.hba_driver.specs.Steady.{IsCalmAct, detects}
+use Rattle.hba_driver.specs.declared.path.Stage.{Stage, TheVariants.{Identify, AssertReset, ReadLog, ReleaseReset, AwaitReset}}
+use Rattle.hba_driver.specs.declared.{path.TaskFile.TaskFile, plan.Plan.Plan, slot.Phase.{Phase, TheVariants.{Aside, Ended}}, turn.Act.Act}
+use Rattle.hba_driver.specs.{Drivers.{Driver, has_ended_in, is_aside_in, is_issued_in, waits_in}, HostTurns.{Host, Ticked, sight_in}}
+use Rattle.hba_driver.specs.{Resetting.{EachResetIsDriven, IsSetDriven}, Sights.file_shown, Steady.{IsCalmAct, detects}}
 use Rattle.hba_driver.specs.Tended.{Awaits, Fine, Identifies, IsAtStage, IsBeingReset, IsTendedBy, Logs, Releases, Spoilt, TendsOn, WorksOn}
 use Rattle.hba_driver.specs.Ticks.{after_tick, due, plan_after, seen, turn}
-use Rattle.hba_driver.proofs.steady.SteadyTurns.{acted_plan}
-use Rattle.hba_driver.proofs.anew.TendedLemmas.{at_stage, stage_is, unworked}
-use Rattle.hba_driver.proofs.anew.TendedTurns.{turn_tended}
+use Rattle.hba_driver.specs.declared.turn.Act.TheVariants as act
+use Rattle.hba_driver.proofs.{steady.SteadyTurns.acted_plan, anew.{TendedLemmas.{at_stage, stage_is, unworked}, TendedTurns.turn_tended}}
 
 abbrev IsSetting : Stage → Type 0
 IsSetting AssertReset = Unit {0}

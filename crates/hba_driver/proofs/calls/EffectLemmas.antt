@@ -1,27 +1,18 @@
 -- For `Driver::tick`. What an order that issues nothing does, and what no effect leaves.
 use Rattle.std.proofs.Common.{◌≡◌, ℕ, zero, suc, ◌<◌, Bool, true, false, ◌&&◌, nat_lt, List, [], ◌∷◌, get_or, refl, arith, subst, Option, Some, None, ◌++◌}
-use Rattle.std.specs.Prelude.{◌^◌, ◌+◌, ◌*◌}
-use Rattle.std.specs.List.{list_all}
-use Rattle.std.proofs.lemmas.Bool.{and_from, false≢true}
-use Rattle.std.proofs.lemmas.Bool.Decides.{nat_tests}
-use Rattle.hba_driver.specs.declared.effect.Effect.{Effect}
+use Rattle.std.specs.{Prelude.{◌^◌, ◌+◌, ◌*◌}, List.list_all}
+use Rattle.std.proofs.lemmas.{Bool.{and_from, false≢true}, Bool.Decides.nat_tests}
+use Rattle.hba_driver.specs.declared.{effect.Effect.Effect, mode.Mode.{Mode, TheVariants.{Switching, CommandBased}}}
+use Rattle.hba_driver.specs.declared.order.Order.{Order, TheVariants.{AwaitSignature, Scan, Clear, Watch}}
+use Rattle.hba_driver.specs.Effects.{ActsAll, choosing, effects_of, emptying, is_effect, issuing, opening_write, opening_writes, order_effects}
+use Rattle.hba_driver.specs.{Effects.{restart_write, restart_writes, sending}, Drivers.IsOrder, Turns.IsAct, declared.turn.Act.Act}
+use Rattle.hba_driver.specs.{Orders.{control_port, order_fields}, Paths.{reads_page, stage_fields}, Sights.{px_ci, px_cmd, px_fbs, px_sact, px_sntf}}
 use Rattle.hba_driver.specs.declared.effect.Effect.TheVariants as effect
 use Rattle.fis_view.specs.declared.build.H2dFields.{H2dFields}
 use Rattle.host_memory.specs.Memory.{Memory}
 use Rattle.slots.specs.Slots.{match_some}
 use Rattle.hba_fbs.specs.Views.{Port}
-use Rattle.hba_driver.specs.declared.mode.Mode.{Mode}
-use Rattle.hba_driver.specs.declared.mode.Mode.TheVariants.{Switching, CommandBased}
-use Rattle.hba_driver.specs.declared.order.Order.{Order}
-use Rattle.hba_driver.specs.declared.order.Order.TheVariants.{AwaitSignature, Scan, Clear, Watch}
-use Rattle.hba_driver.specs.Effects.{ActsAll, choosing, effects_of, emptying, is_effect, issuing, opening_write, opening_writes, order_effects, restart_write, restart_writes, sending}
-use Rattle.hba_driver.specs.Drivers.{IsOrder}
-use Rattle.hba_driver.specs.Turns.{IsAct}
-use Rattle.hba_driver.specs.declared.turn.Act.{Act}
 use Rattle.hba_driver.specs.declared.turn.Act.TheVariants as act
-use Rattle.hba_driver.specs.Orders.{control_port, order_fields}
-use Rattle.hba_driver.specs.Paths.{reads_page, stage_fields}
-use Rattle.hba_driver.specs.Sights.{px_ci, px_cmd, px_fbs, px_sact, px_sntf}
 
 pub no_effects : (mode : Mode) (order : Order) → order_fields order ≡ None → order_effects mode order ≡ []
 unfolding order_fields order_effects

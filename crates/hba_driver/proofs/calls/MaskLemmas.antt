@@ -1,18 +1,13 @@
 -- For the functions of mask.rt and taken.rt. Masks of slots, and the entries that they stand for.
 use Rattle.std.proofs.Common.{◌≡◌, ◌≢◌, ◌<◌, ◌≤◌, ◌-◌, ◌*◌, ◌%◌, ◌^◌, ℕ, rules, zero, suc, Bool, true, false, not, ◌&&◌, min, nat_eq, cond, List, length, replicate, set, refl, ap, sym, ◌∙◌, arith, inl, inr, w32, bit_and, bit_or, Option, Some, None}
-use Rattle.std.specs.Int.{bit_not, trailing_zeros}
-use Rattle.std.proofs.lemmas.Bool.{cases_eq, cases_lt, eq-eqb, ne_eqb, true≢false}
-use Rattle.std.proofs.lemmas.List.{get_or_past, get_or-replicate, length-replicate}
-use Rattle.std.proofs.lemmas.Nat.Bits.{bit_at-lt, bit_at-zero, bit_at_and, bit_at_not, bit_at_ones, bit_at_set_same, bit_at_set_other, bit_at_clear_same, bit_at_clear_other, bit_at-trailing_zeros}
-use Rattle.std.specs.Int.{bit_at}
-use Rattle.std.specs.Prelude.{IfSome}
+use Rattle.std.specs.{Int.{bit_not, trailing_zeros, bit_at}, Prelude.IfSome}
+use Rattle.std.proofs.lemmas.{Bool.{cases_eq, cases_lt, eq-eqb, ne_eqb, true≢false}, List.{get_or_past, get_or-replicate, length-replicate}}
+use Rattle.std.proofs.lemmas.Nat.Bits.{bit_at-lt, bit_at-zero, bit_at_and, bit_at_not, bit_at_ones, bit_at_set_same, bit_at_set_other}
+use Rattle.std.proofs.lemmas.Nat.Bits.{bit_at_clear_same, bit_at_clear_other, bit_at-trailing_zeros}
 use Rattle.slots.proofs.Door.{lowest_found, lowest_none}
 use Rattle.slots.specs.Slots.{has_bit, lowest_below}
-use Rattle.hba_driver.specs.declared.slot.Head.{Head}
-use Rattle.hba_driver.specs.Drivers.{Entry, entry_at, has_ended, holds, is_issued, waits}
-use Rattle.hba_driver.specs.Masks.{AreMasks, IsLowestBit, IsMask, NoneAt, SetsBit}
-use Rattle.hba_driver.specs.Requests.{is_free}
-use Rattle.hba_driver.specs.Ticks.{is_done}
+use Rattle.hba_driver.specs.{declared.slot.Head.Head, Drivers.{Entry, entry_at, has_ended, holds, is_issued, waits}}
+use Rattle.hba_driver.specs.{Masks.{AreMasks, IsLowestBit, IsMask, NoneAt, SetsBit}, Requests.is_free, Ticks.is_done}
 
 -- ---- bits
 

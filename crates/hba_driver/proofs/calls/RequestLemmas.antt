@@ -1,26 +1,15 @@
 -- For `Driver::submit` and `Driver::with_mode`. The requests of a driver stay sound.
 use Rattle.std.proofs.Common.{◌≡◌, ◌≢◌, ℕ, ◌+◌, ◌≤◌, ◌⊎◌, Bool, true, false, max, min, List, [], ◌∷◌, length, get_or, set, replicate, refl, sym, ◌∙◌, ap, subst, inl, inr, arith, Option, Some, None}
-use Rattle.std.specs.Prelude.{if◌then◌else◌, ◌||◌}
-use Rattle.std.specs.List.{list_any}
-use Rattle.std.specs.Option.{option_map}
+use Rattle.std.specs.{Prelude.{if◌then◌else◌, ◌||◌}, List.list_any, Option.option_map}
 use Rattle.std.proofs.lemmas.Bool.{cases_lt, cases_eq}
 use Rattle.std.proofs.lemmas.List.{get_or_past, get_or-set_same, get_or-set_other, get_or-replicate, length-replicate, length-set}
-use Rattle.host_memory.specs.Reading.{share_byte, share_with}
-use Rattle.host_memory.specs.declared.table.Prd.{Prd}
-use Rattle.hba_driver.specs.declared.order.Order.{Order}
-use Rattle.hba_driver.specs.declared.order.Order.TheVariants.{Clear}
-use Rattle.hba_driver.specs.declared.path.Stage.{Stage}
-use Rattle.hba_driver.specs.declared.path.Stage.TheVariants.{AssertReset}
-use Rattle.hba_driver.specs.declared.request.Outcome.TheVariants.{Aborted, PortError, Removed}
-use Rattle.hba_driver.specs.declared.sight.ErrorLog.{ErrorLog}
-use Rattle.hba_driver.specs.declared.slot.Head.{Head}
-use Rattle.hba_driver.specs.declared.slot.Phase.{Phase}
-use Rattle.hba_driver.specs.declared.slot.Phase.TheVariants.{Aside, Issued, Ended}
-use Rattle.hba_driver.specs.declared.turn.Act.{Act}
-use Rattle.hba_driver.specs.declared.turn.Act.TheVariants as act
-use Rattle.hba_driver.specs.declared.turn.Logged.{Logged}
+use Rattle.host_memory.specs.{Reading.{share_byte, share_with}, declared.table.Prd.Prd}
+use Rattle.hba_driver.specs.declared.{order.Order.{Order, TheVariants.Clear}, path.Stage.{Stage, TheVariants.AssertReset}}
+use Rattle.hba_driver.specs.declared.{request.Outcome.TheVariants.{Aborted, PortError, Removed}, sight.ErrorLog.ErrorLog, slot.Head.Head}
+use Rattle.hba_driver.specs.declared.{slot.Phase.{Phase, TheVariants.{Aside, Issued, Ended}}, turn.Act.Act, turn.Logged.Logged}
 use Rattle.hba_driver.specs.Ticks.{entries_after, is_aside_of, is_named_of, is_open, is_open_of, log_outcome, logged_ended, removed, stage_ended}
 use Rattle.hba_driver.specs.Drivers.{AreRequests, Entry, entry_at, holds, is_read, rephase_all, rephased}
+use Rattle.hba_driver.specs.declared.turn.Act.TheVariants as act
 use Rattle.hba_driver.proofs.ticks.LifeLemmas.{entry_of_rephased, length_of_rephased}
 
 -- ---- no request, and no new one

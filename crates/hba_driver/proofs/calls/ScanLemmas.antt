@@ -1,19 +1,13 @@
 -- For the functions of scan.rt. Slots that are looked at one after another.
 use Rattle.std.proofs.Common.{◌≡◌, ℕ, ◌<◌, ◌+◌, Bool, true, false, List, get_or, set, length, replicate, refl, ap, sym, ◌∙◌, arith, Option, Some, None}
-use Rattle.std.specs.Prelude.{if◌then◌else◌}
-use Rattle.std.specs.List.{list_any}
-use Rattle.std.specs.Option.{is_some, option_map}
-use Rattle.std.proofs.lemmas.List.{get_or_default, get_or-replicate, length-replicate, same_lists}
-use Rattle.std.proofs.lemmas.List.Elements.{All-from_get_or}
-use Rattle.std.proofs.lemmas.List.Folds.{list_any_at, list_any_none}
-use Rattle.std.proofs.lemmas.List.FromFn.{fill_by_all}
+use Rattle.std.specs.{Prelude.if◌then◌else◌, List.list_any, Option.{is_some, option_map}}
+use Rattle.std.proofs.lemmas.{List.{get_or_default, get_or-replicate, length-replicate, same_lists}, List.Elements.All-from_get_or}
+use Rattle.std.proofs.lemmas.{List.Folds.{list_any_at, list_any_none}, List.FromFn.fill_by_all}
 use Rattle.slots.proofs.Door.{none_below}
 use Rattle.slots.specs.Slots.{lowest_below}
 use Rattle.hba_fbs.specs.Between.{FilledTo}
 use Rattle.hba_fbs.proofs.Door.{filled_all, filled_set}
-use Rattle.hba_driver.specs.declared.slot.Head.{Head}
-use Rattle.hba_driver.specs.declared.slot.Phase.{Phase}
-use Rattle.hba_driver.specs.Drivers.{Entry, entry_at, holds, rephase, rephase_all, rephased}
+use Rattle.hba_driver.specs.{declared.{slot.Head.Head, slot.Phase.Phase}, Drivers.{Entry, entry_at, holds, rephase, rephase_all, rephased}}
 
 -- what is read there is what is there
 pub entry_read : (entries : List (Option Entry)) (slot : ℕ) (d : Option Entry) → slot < length entries → get_or entries slot d ≡ entry_at entries slot

@@ -1,15 +1,11 @@
 -- For `Sight::of`. Flags by device.
 use Rattle.std.proofs.Common.{◌≡◌, ℕ, ◌<◌, ◌≤◌, Bool, false, map, arith}
-use Rattle.std.specs.Prelude.{slice_index_or}
-use Rattle.std.specs.List.{range_with_len}
-use Rattle.std.proofs.lemmas.List.{get_or_past}
-use Rattle.std.proofs.lemmas.List.FromFn.{get_or-map-range_with_len, length-map-range_with_len}
+use Rattle.std.specs.{Prelude.slice_index_or, List.range_with_len}
+use Rattle.std.proofs.lemmas.{List.get_or_past, List.FromFn.{get_or-map-range_with_len, length-map-range_with_len}}
 use Rattle.fis_view.specs.Seen.{seen}
 use Rattle.host_memory.specs.Memory.{Memory}
 use Rattle.hba_fbs.specs.Views.{Port, view_of}
-use Rattle.hba_driver.specs.declared.mode.Mode.{Mode}
-use Rattle.hba_driver.specs.declared.mode.Mode.TheVariants.{Switching, CommandBased}
-use Rattle.hba_driver.specs.Sights.{is_ata, last_d2h, signed_by}
+use Rattle.hba_driver.specs.{declared.mode.Mode.{Mode, TheVariants.{Switching, CommandBased}}, Sights.{is_ata, last_d2h, signed_by}}
 
 -- the flag of a device
 pub flag_at : (f : ℕ → Bool) (dev : ℕ) → dev < 16 → slice_index_or (map f (range_with_len 0 16)) dev false ≡ f dev

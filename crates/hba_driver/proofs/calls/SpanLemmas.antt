@@ -1,13 +1,8 @@
 -- For `Driver::submit`, and what memory is in use. Places in order, and spans that lie apart, share no byte.
 use Rattle.std.proofs.Common.{◌≡◌, ℕ, ◌+◌, ◌<◌, ◌≤◌, ◌⊎◌, min, max, true, false, List, [], ◌∷◌, length, take, get_or, refl, arith, inl, inr}
-use Rattle.std.proofs.lemmas.Bool.{le-ltb}
-use Rattle.std.proofs.lemmas.Bool.Decides.{nat_tests}
-use Rattle.std.proofs.lemmas.List.Elements.{All-head, All-tail, All-weaker, All-more}
-use Rattle.host_memory.specs.declared.table.Prd.{Prd}
-use Rattle.host_memory.specs.Reading.{share_byte, shares_with, share_with}
-use Rattle.hba_driver.specs.declared.span.Span.{Span}
-use Rattle.hba_driver.specs.Spans.{LiesIn, Spans, with_buffer, are_apart, holds_some}
-use Rattle.hba_driver.specs.Requests.{share_bytes, is_among}
+use Rattle.std.proofs.lemmas.{Bool.le-ltb, Bool.Decides.nat_tests, List.Elements.{All-head, All-tail, All-weaker, All-more}}
+use Rattle.host_memory.specs.{declared.table.Prd.Prd, Reading.{share_byte, shares_with, share_with}}
+use Rattle.hba_driver.specs.{declared.span.Span.Span, Spans.{LiesIn, Spans, with_buffer, are_apart, holds_some}, Requests.{share_bytes, is_among}}
 
 -- what lies in a span lies in one with a PRD more
 Spans-with : (span : Span) (prd : Prd) (prds : List Prd) → Spans span prds → Spans (with_buffer span prd) prds

@@ -1,22 +1,12 @@
 -- For `Driver::submit`. What is known of a request to which no refusal applies.
 use Rattle.std.proofs.Common.{◌≡◌, ◌≢◌, ℕ, zero, suc, ◌+◌, ◌*◌, ◌%◌, ◌<◌, ◌≤◌, Bool, true, false, List, [], ◌∷◌, Option, Some, None, length, get_or, refl, sym, subst, ◌∙◌, arith, All, inl, inr}
-use Rattle.std.specs.Prelude.{nat_lt, ◌==◌, ◌||◌, ◌&&◌, not, if◌then◌else◌}
-use Rattle.std.specs.List.{list_any}
-use Rattle.std.specs.Option.{option_or}
-use Rattle.std.proofs.lemmas.Bool.Decides.{nat_tests}
-use Rattle.std.proofs.lemmas.Bool.{cases_lt, false≢true, or_parts}
-use Rattle.std.proofs.lemmas.List.{get_or_past}
-use Rattle.host_memory.specs.Reading.{have_overlap, share_with}
-use Rattle.host_memory.specs.declared.table.Prd.{Prd}
-use Rattle.host_memory.specs.Memory.{Memory}
-use Rattle.host_memory.specs.Place.{total_of}
-use Rattle.host_memory.specs.Writing.{CanBeWritten}
-use Rattle.hba_driver.specs.declared.request.Request.{Request}
-use Rattle.hba_driver.specs.declared.request.SubmitError.{SubmitError}
+use Rattle.std.specs.{Prelude.{nat_lt, ◌==◌, ◌||◌, ◌&&◌, not, if◌then◌else◌}, List.list_any, Option.option_or}
+use Rattle.std.proofs.lemmas.{Bool.Decides.nat_tests, Bool.{cases_lt, false≢true, or_parts}, List.get_or_past}
+use Rattle.host_memory.specs.{Reading.{have_overlap, share_with}, declared.table.Prd.Prd, Memory.Memory, Place.total_of, Writing.CanBeWritten}
+use Rattle.hba_driver.specs.declared.{request.Request.Request, request.SubmitError.SubmitError}
 use Rattle.hba_driver.specs.Drivers.{Driver, Entry, device_at, entry_at, is_read}
-use Rattle.hba_driver.specs.Requests.{conflicts, device_refusal, is_bad_count, is_bad_prd, is_full, is_mismatch, overlaps, room_refusal, shape_refusal}
-use Rattle.hba_driver.specs.Submits.{end_of, other_refusal, queue_refusal, submit_refusal}
-use Rattle.hba_driver.specs.Between.{IsTaken}
+use Rattle.hba_driver.specs.Requests.{conflicts, device_refusal, is_bad_count, is_bad_prd, is_full, is_mismatch, overlaps, room_refusal}
+use Rattle.hba_driver.specs.{Requests.shape_refusal, Submits.{end_of, other_refusal, queue_refusal, submit_refusal}, Between.IsTaken}
 
 abbrev no_entry : Option Entry
 no_entry = None

@@ -1,33 +1,24 @@
 -- For `turns_deliver`. A host delivers, over any turns since its opening.
 use Rattle.std.proofs.Common.{rules, ◌≡◌, ℕ, ◌+◌, ◌-◌, ◌<◌, ◌≤◌, List, [], ◌∷◌, ◌++◌, refl, sym, subst, length, ap, arith}
 use Rattle.std.specs.Prelude.{true, slice_index}
-use Rattle.host_memory.specs.Memory.{IsHostMemory, Memory, client_start}
-use Rattle.host_memory.specs.Place.{LiesInClient, place}
+use Rattle.host_memory.specs.{Memory.{IsHostMemory, Memory, client_start}, Place.{LiesInClient, place}}
 use Rattle.host_memory.proofs.Door.{place_inside}
 use Rattle.slots.specs.Slots.{has_bit}
-use Rattle.hba_fbs.specs.declared.report.TakeReport.{TakeReport}
-use Rattle.hba_fbs.specs.Taking.{port_of}
+use Rattle.hba_fbs.specs.{declared.report.TakeReport.TakeReport, Taking.port_of}
 use Rattle.hba_laws.specs.Client.{AreWithin, IsKept, IsReading, Touches, own}
-use Rattle.hba_laws.specs.Delivering.{AreReadAsIssued, HaveTables, IsClient, IsDelivered, ReportsDone, touched, touches_after}
-use Rattle.hba_laws.specs.History.{Transfer}
-use Rattle.hba_laws.specs.Hosts as event
+use Rattle.hba_laws.specs.{Delivering.{AreReadAsIssued, HaveTables, IsClient, IsDelivered, ReportsDone, touched, touches_after}, History.Transfer}
 use Rattle.hba_laws.specs.Hosts.{HostEvent, TakesFrame}
+use Rattle.hba_laws.specs.Hosts as event
 use Rattle.hba_laws.specs.Sound as sound
-use Rattle.hba_laws.proofs.Door.{client_is_touched, completes_once, data_is_within, done_is_completed}
-use Rattle.hba_laws.proofs.Door.{done_reads_stand, histories_are_parts, spared_tables_read}
+use Rattle.hba_laws.proofs.Door.{client_is_touched, completes_once, data_is_within, done_is_completed, done_reads_stand, histories_are_parts}
+use Rattle.hba_laws.proofs.Door.{spared_tables_read}
 use Rattle.hba_driver.specs.declared.mode.Mode.{Mode}
 use Rattle.hba_driver.specs.Delivered.{HasCome, HostDelivers, IsAtItsPlace, IssuesAreApart, TookDelivers, TurnsDeliver, byte_at, touches_of}
-use Rattle.hba_driver.specs.Drivers.{new_driver_in}
-use Rattle.hba_driver.specs.Events.{IsSoundHostIn, events_over, opening_host_in, shared_by}
-use Rattle.hba_driver.specs.HostTurns.{Does, DoesAll, Host, HostTurn, Took}
-use Rattle.hba_driver.specs.Served.{IsIssueOf, IsServed, RunServes}
-use Rattle.hba_driver.specs.Submits.{end_of}
+use Rattle.hba_driver.specs.{Drivers.new_driver_in, Events.{IsSoundHostIn, events_over, opening_host_in, shared_by}}
+use Rattle.hba_driver.specs.{HostTurns.{Does, DoesAll, Host, HostTurn, Took}, Served.{IsIssueOf, IsServed, RunServes}, Submits.end_of}
 use Rattle.hba_driver.specs.Between.{HaveGoodPrds}
-use Rattle.hba_driver.proofs.issued.ApartLemmas.{issues_apart}
-use Rattle.hba_driver.proofs.delivery.InsideLemmas.{as_long, good_since, issue_inside, one_owner}
-use Rattle.hba_driver.proofs.issued.ServedLemmas.{turns_serve}
-use Rattle.hba_driver.proofs.events.SoundLemmas.{hosts_stay_sound}
-use Rattle.hba_driver.proofs.events.TurnLemmas.{each_run_tells}
+use Rattle.hba_driver.proofs.{issued.ApartLemmas.issues_apart, delivery.InsideLemmas.{as_long, good_since, issue_inside, one_owner}}
+use Rattle.hba_driver.proofs.{issued.ServedLemmas.turns_serve, events.{SoundLemmas.hosts_stay_sound, TurnLemmas.each_run_tells}}
 
 past_start : (k : ℕ) → client_start + k - client_start ≡ k
 past_start k = omega arith

@@ -2,40 +2,23 @@
 use Rattle.std.proofs.Common.{◌≡◌, ℕ, ◌<◌, Bool, true, false, List, [], ◌∷◌, ◌++◌, length, refl, sym, ◌∙◌, ap, inl, inr, arith, Option, Some, None}
 use Rattle.std.specs.Prelude.{◌||◌}
 use Rattle.std.proofs.lemmas.Bool.{cases_Bool, cases_eq, true≢false}
-use Rattle.host_memory.specs.Memory.{Memory}
-use Rattle.host_memory.specs.Place.{place, total_of}
-use Rattle.host_memory.specs.Reading.{share_with}
-use Rattle.host_memory.specs.declared.table.Prd.{Prd}
+use Rattle.host_memory.specs.{Memory.Memory, Place.{place, total_of}, Reading.share_with, declared.table.Prd.Prd}
 use Rattle.slots.specs.Work as moved
-use Rattle.hba_fbs.specs.declared.register.Register.{Register}
-use Rattle.hba_fbs.specs.Offsets.{register_at}
-use Rattle.hba_fbs.specs.Sending.{Outgoing, outgoing}
+use Rattle.hba_fbs.specs.{declared.register.Register.Register, Offsets.register_at, Sending.{Outgoing, outgoing}, Taking.port_of, Views.Port}
+use Rattle.hba_fbs.specs.{Writing.write_refusal, declared.error.WriteError.WriteError}
 use Rattle.hba_fbs.specs.Sending as out
-use Rattle.hba_fbs.specs.Taking.{port_of}
-use Rattle.hba_fbs.specs.Views.{Port}
-use Rattle.hba_fbs.specs.Writing.{write_refusal}
-use Rattle.hba_fbs.specs.declared.error.WriteError.{WriteError}
 use Rattle.slots.specs.Slots.{match_some}
 use Rattle.hba_laws.specs.Client.{By, IsReading, Touches, is_in, own}
 use Rattle.hba_laws.specs.Delivering.{by_device, event_taken, touched, touched_by_out, touched_by_write, touches_after}
-use Rattle.hba_laws.specs.History.{Event, Transfer, issued}
+use Rattle.hba_laws.specs.{History.{Event, Transfer, issued}, Hosts.{HostEvent, Runs}, Sent.{AreBeside, HoldsWrites, IsWriting, SparesWrites}}
 use Rattle.hba_laws.specs.History as happened
 use Rattle.hba_laws.specs.Hosts as event
-use Rattle.hba_laws.specs.Hosts.{HostEvent, Runs}
-use Rattle.hba_laws.specs.Sent.{AreBeside, HoldsWrites, IsWriting, SparesWrites}
 use Rattle.hba_laws.proofs.Door.{order_quiet, quiet_holds, write_quiet}
-use Rattle.hba_driver.specs.declared.effect.Effect.{Effect}
+use Rattle.hba_driver.specs.{declared.{effect.Effect.Effect, path.Path.Path}, Drivers.{AreRequests, Driver, Entry, entry_at, is_read}}
+use Rattle.hba_driver.specs.{Effects.ActsAll, Events.{events_of_effect, events_of_effects, events_over, shared_by, wrote_to}, Held.TurnsHoldWrites}
+use Rattle.hba_driver.specs.{HostTurns.{Pushed, Put, Ticked, Took, sight_in}, Requests.in_use}
+use Rattle.hba_driver.specs.{Served.{AreBounded, IsIssueOf, IsRequest, IssuesAreRequests}, Ticks.effects, Between.From}
 use Rattle.hba_driver.specs.declared.effect.Effect.TheVariants as effect
-use Rattle.hba_driver.specs.declared.path.Path.{Path}
-use Rattle.hba_driver.specs.Drivers.{AreRequests, Driver, Entry, entry_at, is_read}
-use Rattle.hba_driver.specs.Effects.{ActsAll}
-use Rattle.hba_driver.specs.Events.{events_of_effect, events_of_effects, events_over, shared_by, wrote_to}
-use Rattle.hba_driver.specs.Held.{TurnsHoldWrites}
-use Rattle.hba_driver.specs.HostTurns.{Pushed, Put, Ticked, Took, sight_in}
-use Rattle.hba_driver.specs.Requests.{in_use}
-use Rattle.hba_driver.specs.Served.{AreBounded, IsIssueOf, IsRequest, IssuesAreRequests}
-use Rattle.hba_driver.specs.Ticks.{effects}
-use Rattle.hba_driver.specs.Between.{From}
 use Rattle.hba_driver.proofs.issued.ApartLemmas.{in_none, none_in, other_places, request_beside, some_same}
 
 or_read : (a b : Bool) → b ≡ true → (a || b) ≡ true
@@ -134,7 +117,6 @@ effect_quiet (effect.Writes offset value) port before after = by_refusal (write_
     by_refusal : (o : Option WriteError) → AreQuietEvents (match_some o (wrote_to (register_at offset) value) (λ e. []))
     by_refusal None = wrote_quiet (register_at offset) value
     by_refusal (Some e) = tt
-effect_quiet (effect.Flushes dev) port before after = (tt, tt)
 effect_quiet other port before after = (tt, tt)
 
 effects_quiet : (es : List Effect) (old : Port) (before : Memory) (new : Port) (after : Memory) (acts : ActsAll es old before new after)

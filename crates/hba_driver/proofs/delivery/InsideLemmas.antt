@@ -1,46 +1,23 @@
 -- For `turns_deliver`. What is issued lies in the client area, and a slot is issued to one device at a time.
 use Rattle.std.proofs.Common.{◌≡◌, ℕ, ◌+◌, ◌<◌, ◌≤◌, Bool, true, false, List, [], ◌∷◌, length, replicate, set, refl, sym, ◌∙◌, ap, subst, inl, inr, arith, cond, eqb, Option, Some, None}
-use Rattle.std.specs.Prelude.{◌==◌, ◌%◌, ◌||◌, nat_lt}
-use Rattle.std.specs.List.{list_any}
-use Rattle.std.specs.Option.{option_map}
-use Rattle.std.proofs.lemmas.Bool.{cases_lt, eqb-true, or_parts}
-use Rattle.std.proofs.lemmas.Bool.Decides.{nat_tests}
-use Rattle.std.proofs.lemmas.List.{get_or-replicate, get_or_past, length-replicate}
-use Rattle.host_memory.specs.Memory.{Memory}
-use Rattle.host_memory.specs.Place.{AreInside, LiesInClient}
-use Rattle.host_memory.specs.declared.table.Prd.{Prd}
+use Rattle.std.specs.{Prelude.{◌==◌, ◌%◌, ◌||◌, nat_lt}, List.list_any, Option.option_map}
+use Rattle.std.proofs.lemmas.{Bool.{cases_lt, eqb-true, or_parts}, Bool.Decides.nat_tests, List.{get_or-replicate, get_or_past, length-replicate}}
+use Rattle.host_memory.specs.{Memory.Memory, Place.{AreInside, LiesInClient}, declared.table.Prd.Prd}
 use Rattle.slots.specs.Slots.{Issue, issue_at, own_issue, owned_by, slots_of}
 use Rattle.slots.proofs.Door.{own_at}
 use Rattle.hba_fbs.specs.Views.{Port}
-use Rattle.hba_laws.specs.Agreement.{AreHistoriesOf, work_of_issue, work_of_transfer}
-use Rattle.hba_laws.specs.Client.{Touches, own}
-use Rattle.hba_laws.specs.History.{Transfer, issued}
+use Rattle.hba_laws.specs.{Agreement.{AreHistoriesOf, work_of_issue, work_of_transfer}, Client.{Touches, own}, History.{Transfer, issued}}
 use Rattle.hba_laws.specs.Hosts as event
 use Rattle.hba_laws.proofs.Door.{own_in, sizes_stay}
-use Rattle.hba_driver.specs.declared.effect.Effect.{Effect}
+use Rattle.hba_driver.specs.declared.{effect.Effect.Effect, mode.Mode.Mode, path.Stage.{Stage, TheVariants.{Identify, ReadLog}}}
+use Rattle.hba_driver.specs.{declared.{path.TaskFile.TaskFile, request.Completion.Completion, request.Request.Request}, Seeing.Sight}
+use Rattle.hba_driver.specs.{Drivers.{Driver, Entry, entry_at}, Effects.{Acts, ActsAll, prds_with}, Events.{IsSoundHostIn, events_over, shared_by}}
+use Rattle.hba_driver.specs.{HostTurns.{Does, DoesAll, Host, HostTurn, Ticked, Submitted, Polled, sight_in}, Paths.reads_page, Requests.is_bad_prd}
+use Rattle.hba_driver.specs.{Sights.file_shown, Submits.{after_poll, after_submit, completion_of, end_of, new_entry, next_slot, submit_refusal}}
+use Rattle.hba_driver.specs.{Ticks.{after_tick, effects}, Between.{From, HasGoodPrds, HaveGoodPrds}}
 use Rattle.hba_driver.specs.declared.effect.Effect.TheVariants as effect
-use Rattle.hba_driver.specs.declared.mode.Mode.{Mode}
-use Rattle.hba_driver.specs.declared.path.Stage.{Stage}
-use Rattle.hba_driver.specs.declared.path.Stage.TheVariants.{Identify, ReadLog}
-use Rattle.hba_driver.specs.declared.path.TaskFile.{TaskFile}
-use Rattle.hba_driver.specs.declared.request.Completion.{Completion}
-use Rattle.hba_driver.specs.declared.request.Request.{Request}
-use Rattle.hba_driver.specs.Seeing.{Sight}
-use Rattle.hba_driver.specs.Drivers.{Driver, Entry, entry_at}
-use Rattle.hba_driver.specs.Effects.{Acts, ActsAll, prds_with}
-use Rattle.hba_driver.specs.Events.{IsSoundHostIn, events_over, shared_by}
-use Rattle.hba_driver.specs.HostTurns.{Does, DoesAll, Host, HostTurn, Ticked, Submitted, Polled, sight_in}
-use Rattle.hba_driver.specs.Paths.{reads_page}
-use Rattle.hba_driver.specs.Requests.{is_bad_prd}
-use Rattle.hba_driver.specs.Sights.{file_shown}
-use Rattle.hba_driver.specs.Submits.{after_poll, after_submit, completion_of, end_of, new_entry, next_slot, submit_refusal}
-use Rattle.hba_driver.specs.Ticks.{after_tick, effects}
-use Rattle.hba_driver.specs.Between.{From, HasGoodPrds, HaveGoodPrds}
-use Rattle.hba_driver.proofs.requests.HistoryLemmas.{back_of, freed, poll_facts, some_same}
-use Rattle.hba_driver.proofs.ticks.LifeLemmas.{keeps_tick}
-use Rattle.hba_driver.proofs.calls.RequestLemmas.{set_cases}
-use Rattle.hba_driver.proofs.events.SoundLemmas.{sound_turn}
-use Rattle.hba_driver.proofs.calls.SubmitLemmas.{is_taken}
+use Rattle.hba_driver.proofs.{requests.HistoryLemmas.{back_of, freed, poll_facts, some_same}, ticks.LifeLemmas.keeps_tick}
+use Rattle.hba_driver.proofs.{calls.RequestLemmas.set_cases, events.SoundLemmas.sound_turn, calls.SubmitLemmas.is_taken}
 use Rattle.hba_driver.proofs.events.TurnLemmas.{turns_are_events}
 
 -- ---- the PRDs of requests are good ones, from their submits on

@@ -1,66 +1,39 @@
 -- For `done_is_true`. What is issued for a device stays issued until the device completes it or is flushed.
 use Rattle.std.proofs.Common.{◌≡◌, ◌≢◌, ℕ, ◌+◌, ◌*◌, ◌<◌, Bool, true, false, cond, eqb, ◌&&◌, List, [], ◌∷◌, ◌++◌, drop, refl, sym, ◌∙◌, ap, subst, inl, inr, arith, Option, Some, None}
-use Rattle.std.specs.Prelude.{MatchOption, if◌then◌else◌, ◌==◌, ◌%◌, is_some, map, not, slice_index}
-use Rattle.std.specs.List.{list_all, list_any}
-use Rattle.std.specs.Option.{option_map}
-use Rattle.std.proofs.lemmas.Bool.{eqb-true, false≢true, lt-ltb, ne_eqb, or_parts, true≢false}
-use Rattle.std.proofs.lemmas.Bool.Decides.{nat_tests}
-use Rattle.fis_view.specs.Frames.{Stamped}
-use Rattle.fis_view.specs.Seen.{seen}
+use Rattle.std.specs.{Prelude.{MatchOption, if◌then◌else◌, ◌==◌, ◌%◌, is_some, map, not, slice_index}, List.{list_all, list_any}, Option.option_map}
+use Rattle.std.proofs.lemmas.{Bool.{eqb-true, false≢true, lt-ltb, ne_eqb, or_parts, true≢false}, Bool.Decides.nat_tests}
+use Rattle.fis_view.specs.{Frames.Stamped, Seen.seen}
 use Rattle.host_memory.specs.Memory.{Memory}
 use Rattle.hba_commands.specs.declared.command.Command.{Command}
-use Rattle.slots.specs.Slots.{Issue, has_bit, holds, is_control, is_pio, issue_at, match_some, own_issue, slots_of}
-use Rattle.slots.specs.Table.{IsTable}
-use Rattle.slots.specs.Work.{is_dma, is_read}
+use Rattle.slots.specs.{Slots.{Issue, has_bit, holds, is_control, is_pio, issue_at, match_some, own_issue, slots_of}, Table.IsTable}
+use Rattle.slots.specs.{Work.{is_dma, is_read}, declared.work.Work.Work}
 use Rattle.slots.specs.declared.answer.Answered.TheVariants as answer
-use Rattle.slots.specs.declared.work.Work.{Work}
 use Rattle.hba_fbs.specs.declared.error.WriteError.TheVariants as refusal
-use Rattle.hba_fbs.specs.declared.hearing.Happening.{Happening}
-use Rattle.hba_fbs.specs.declared.hearing.Happening.TheVariants as happening
-use Rattle.hba_fbs.specs.declared.register.Register.{Register}
-use Rattle.hba_fbs.specs.declared.register.Register.TheVariants.{Cmd, Ci, Fbs}
-use Rattle.hba_fbs.specs.declared.registers.Registers.{Registers}
-use Rattle.hba_fbs.specs.declared.report.TakeReport.{TakeReport}
-use Rattle.hba_fbs.specs.declared.status.Block.{Block}
-use Rattle.hba_fbs.specs.Issuing.{aimed, asked, issue_with, view_issued}
-use Rattle.hba_fbs.specs.Offsets.{register_at}
-use Rattle.hba_fbs.specs.Registers.{falls}
-use Rattle.hba_fbs.specs.Sending.{Outgoing, gathered, outgoing}
-use Rattle.hba_fbs.specs.Sending as out
-use Rattle.hba_fbs.specs.Tables.{prds_of}
-use Rattle.hba_fbs.specs.Taking.{admitted, heard_now, ignores, port_of}
-use Rattle.hba_fbs.specs.Views.{DeviceView, Port, stopped_view, view_of}
-use Rattle.hba_fbs.specs.Writing.{Accepts, refusal_of, view_after, view_cleared, write_refusal}
+use Rattle.hba_fbs.specs.declared.{hearing.Happening.Happening, register.Register.{Register, TheVariants.{Cmd, Ci, Fbs}}}
+use Rattle.hba_fbs.specs.declared.{registers.Registers.Registers, report.TakeReport.TakeReport, status.Block.Block}
+use Rattle.hba_fbs.specs.{Issuing.{aimed, asked, issue_with, view_issued}, Offsets.register_at, Registers.falls}
+use Rattle.hba_fbs.specs.{Sending.{Outgoing, gathered, outgoing}, Tables.prds_of, Taking.{admitted, heard_now, ignores, port_of}}
+use Rattle.hba_fbs.specs.{Views.{DeviceView, Port, stopped_view, view_of}, Writing.{Accepts, refusal_of, view_after, view_cleared, write_refusal}}
 use Rattle.hba_fbs.specs.Bits.{dec}
+use Rattle.hba_fbs.specs.declared.hearing.Happening.TheVariants as happening
+use Rattle.hba_fbs.specs.Sending as out
 use Rattle.port_errors.specs.Errors.{cleared_device}
-use Rattle.hba_laws.specs.Agreement.{AreHistoriesOf, work_of_issue, work_of_transfer}
-use Rattle.hba_laws.specs.Client.{By, Touches, own}
-use Rattle.hba_laws.specs.Delivering.{ReportsDone, begun_by, by_device, completes_now, event_heard, event_of, event_sent, event_taken, is_control_issue, touched, touched_by_out}
-use Rattle.hba_laws.specs.History.{Answered, Carried, Emptied, Event, History, Issued, Named, PioSetUp, Sent, SentControl, SetUp, Transfer, completes, issued, unless}
+use Rattle.hba_laws.specs.{Agreement.{AreHistoriesOf, work_of_issue, work_of_transfer}, Client.{By, Touches, own}}
+use Rattle.hba_laws.specs.Delivering.{ReportsDone, begun_by, by_device, completes_now, event_heard, event_of, event_sent, event_taken}
+use Rattle.hba_laws.specs.Delivering.{is_control_issue, touched, touched_by_out}
+use Rattle.hba_laws.specs.History.{Answered, Carried, Emptied, Event, History, Issued, Named, PioSetUp, Sent, SentControl, SetUp, Transfer, completes}
+use Rattle.hba_laws.specs.{History.{issued, unless}, Hosts.TakesFrame}
 use Rattle.hba_laws.specs.Hosts as event
-use Rattle.hba_laws.specs.Hosts.{TakesFrame}
-use Rattle.hba_laws.proofs.Door.{asked_free, done_is_completed, histories_step, is_own, own_below, own_in, own_issued}
-use Rattle.hba_laws.proofs.Door.{some_inj, the_transfer}
-use Rattle.hba_driver.specs.declared.effect.Effect.{Effect}
-use Rattle.hba_driver.specs.declared.effect.Effect.TheVariants as effect
-use Rattle.hba_driver.specs.declared.mode.Mode.{Mode}
-use Rattle.hba_driver.specs.declared.mode.Mode.TheVariants.{Switching, CommandBased}
-use Rattle.hba_driver.specs.declared.turn.Act.{Act}
-use Rattle.hba_driver.specs.declared.turn.Act.TheVariants as act
+use Rattle.hba_laws.proofs.Door.{asked_free, done_is_completed, histories_step, is_own, own_below, own_in, own_issued, some_inj, the_transfer}
+use Rattle.hba_driver.specs.declared.{effect.Effect.Effect, mode.Mode.{Mode, TheVariants.{Switching, CommandBased}}, turn.Act.Act}
 use Rattle.hba_driver.specs.Effects.{Acts, ActsAll, Tries, clearing, effects_of, issuing, opening_write, opening_writes}
-use Rattle.hba_driver.specs.Events.{IsSoundHostIn, shared_by}
-use Rattle.hba_driver.specs.HostTurns.{Does, Host, Took, Pushed}
-use Rattle.hba_driver.specs.Laws.{flushes}
-use Rattle.hba_driver.specs.Paths.{reads_page, stage_fields}
-use Rattle.hba_driver.specs.Served.{IsServed}
-use Rattle.hba_driver.specs.Sights.{px_fbs, px_is}
-use Rattle.hba_driver.specs.Ticks.{effects_due}
-use Rattle.hba_driver.specs.Between.{HasOut, IsIssuedAt, MayClear, MayEnd}
+use Rattle.hba_driver.specs.{Events.{IsSoundHostIn, shared_by}, HostTurns.{Does, Host, Took, Pushed}, Laws.flushes, Paths.{reads_page, stage_fields}}
+use Rattle.hba_driver.specs.{Served.IsServed, Sights.{px_fbs, px_is}, Ticks.effects_due, Between.{HasOut, IsIssuedAt, MayClear, MayEnd}}
+use Rattle.hba_driver.specs.declared.effect.Effect.TheVariants as effect
+use Rattle.hba_driver.specs.declared.turn.Act.TheVariants as act
 use Rattle.hba_driver.proofs.events.DrivenLemmas.{no_dec, tried_at}
 use Rattle.hba_driver.proofs.calls.EffectLemmas.{all_at, issuing_pass, order_pass, restarts_pass, sending_pass}
-use Rattle.hba_driver.proofs.issued.EndingLemmas.{is_accepted, may_then, only_cleared}
-use Rattle.hba_driver.proofs.requests.StandLemmas.{both}
-use Rattle.hba_driver.proofs.issued.TickingLemmas.{is_calm}
+use Rattle.hba_driver.proofs.{issued.EndingLemmas.{is_accepted, may_then, only_cleared}, requests.StandLemmas.both, issued.TickingLemmas.is_calm}
 use Rattle.hba_driver.proofs.events.TurnLemmas.{sound_shared}
 
 -- ---- a command that only its device completes
@@ -388,14 +361,8 @@ out_act Switching (Some (act.Clears k)) old new before after slot dev below may 
 out_act CommandBased (Some (act.Clears k)) old new before after slot dev below may stops clears opens other acts table h =
     let bad : CommandBased ≡ Switching = may.0 in
     cc
-out_act mode (Some (act.Restarts k)) old new before after slot dev below may stops clears opens other acts table h =
-    out_effects (effects_due mode (Some (act.Restarts k))) old new before after slot dev (lasting_act mode (Some (act.Restarts k)) refl opens) other below acts table h
-out_act mode (Some (act.Orders order)) old new before after slot dev below may stops clears opens other acts table h =
-    out_effects (effects_due mode (Some (act.Orders order))) old new before after slot dev (lasting_act mode (Some (act.Orders order)) refl opens) other below acts table h
-out_act mode (Some (act.Steps n stage)) old new before after slot dev below may stops clears opens other acts table h =
-    out_effects (effects_due mode (Some (act.Steps n stage))) old new before after slot dev (lasting_act mode (Some (act.Steps n stage)) refl opens) other below acts table h
-out_act mode (Some (act.Issues s n queued)) old new before after slot dev below may stops clears opens other acts table h =
-    out_effects (effects_due mode (Some (act.Issues s n queued))) old new before after slot dev (lasting_act mode (Some (act.Issues s n queued)) refl opens) other below acts table h
+out_act mode rest old new before after slot dev below may stops clears opens other acts table h =
+    out_effects (effects_due mode rest) old new before after slot dev (lasting_act mode rest refl opens) other below acts table h
 
 -- ---- a write that opens the port
 
@@ -422,7 +389,6 @@ pub kept_stopped : (e : Effect) (old new : Port) (before after : Memory) (dev s 
     → IsIssuedAt old dev s i → IsIssuedAt new dev s i
 kept_stopped (effect.Writes offset value) old new before after dev s i is stopped below acts table here =
     kept_write (register_at offset) offset value old new before dev s i refl (stopped_fall (register_at offset) old.registers value stopped is) below acts.0 table here
-kept_stopped (effect.Flushes n) old new before after dev s i is stopped below acts table here = absurd (false≢true is)
 kept_stopped other old new before after dev s i is stopped below acts table here = absurd (false≢true is)
 
 pub out_opening : (mode : Mode) (k : ℕ) (old new : Port) (before after : Memory) (slot dev : ℕ) → old.registers.started ≡ false → dev < 16 → ActsAll (opening_write mode k ∷ []) old before new after → IsTable old.slots → HasOut old slot dev → HasOut new slot dev

@@ -1,31 +1,19 @@
 -- For `done_was_reported`. What is known of the report of a request stays known in each turn.
 use Rattle.std.proofs.Common.{◌≡◌, ◌≢◌, ℕ, ◌<◌, ◌⊎◌, Bool, true, false, List, refl, sym, ◌∙◌, ap, subst, inl, inr, arith, Some, None}
-use Rattle.std.specs.Prelude.{◌==◌, ◌||◌}
-use Rattle.std.specs.List.{list_any}
+use Rattle.std.specs.{Prelude.{◌==◌, ◌||◌}, List.list_any}
 use Rattle.std.proofs.lemmas.Bool.{cases_Bool, false≢true, true≢false}
 use Rattle.slots.specs.Slots.{issue_at}
-use Rattle.hba_fbs.specs.declared.report.TakeReport.{TakeReport}
-use Rattle.hba_fbs.specs.Views.{Port}
+use Rattle.hba_fbs.specs.{declared.report.TakeReport.TakeReport, Views.Port}
 use Rattle.hba_laws.proofs.Door.{own_in, some_inj}
-use Rattle.hba_driver.specs.declared.mode.Mode.{Mode}
-use Rattle.hba_driver.specs.declared.request.Outcome.TheVariants.{Done}
-use Rattle.hba_driver.specs.Seeing.{Sight}
-use Rattle.hba_driver.specs.declared.slot.Phase.{Phase}
-use Rattle.hba_driver.specs.declared.slot.Phase.TheVariants.{Waits, Issued, Aside, Ended}
-use Rattle.hba_driver.specs.declared.turn.Act.TheVariants as act
-use Rattle.hba_driver.specs.Done.{completes}
+use Rattle.hba_driver.specs.{declared.{mode.Mode.Mode, request.Outcome.TheVariants.Done}, Seeing.Sight}
+use Rattle.hba_driver.specs.{declared.slot.Phase.{Phase, TheVariants.{Waits, Issued, Aside, Ended}}, Done.completes}
 use Rattle.hba_driver.specs.Drivers.{AreRequests, Driver, Entry, entry_at, has_ended, has_ended_in, is_aside_in, is_issued_in, rephased, waits_in}
 use Rattle.hba_driver.specs.HostTurns.{Does, Host, HostTurn, Took, Pushed, Ticked, Submitted, issued_in_tick, sight_in}
-use Rattle.hba_driver.specs.Laws.{Goes, GoesOn, flushes}
-use Rattle.hba_driver.specs.Sights.{file_shown}
-use Rattle.hba_driver.specs.Ticks.{after_tick, due, effects}
+use Rattle.hba_driver.specs.{Laws.{Goes, GoesOn, flushes}, Sights.file_shown, Ticks.{after_tick, due, effects}}
 use Rattle.hba_driver.specs.Between.{AllStand, Fresh, HasOut, IsOnWayIn, Reports, Stands, ticks}
-use Rattle.hba_driver.proofs.requests.ComeLemmas.{comes_from}
-use Rattle.hba_driver.proofs.ends.DoneLemmas.{done_is_free}
-use Rattle.hba_driver.proofs.requests.HistoryLemmas.{requests_turn}
-use Rattle.hba_driver.proofs.done.OutLemmas.{out_pushed, out_same, out_took}
-use Rattle.hba_driver.proofs.ticks.ServeLemmas.{ticks_serve}
-use Rattle.hba_driver.proofs.requests.StandLemmas.{in_slots}
+use Rattle.hba_driver.specs.declared.turn.Act.TheVariants as act
+use Rattle.hba_driver.proofs.{requests.ComeLemmas.comes_from, ends.DoneLemmas.done_is_free, requests.HistoryLemmas.requests_turn}
+use Rattle.hba_driver.proofs.{done.OutLemmas.{out_pushed, out_same, out_took}, ticks.ServeLemmas.ticks_serve, requests.StandLemmas.in_slots}
 use Rattle.hba_driver.proofs.done.TrueLemmas.{IssuesIt, WentOut, ended_same, issued_act, issued_is, none_some, out_tick, tick_issues, wider, went_out}
 
 -- ---- a request in its slot
@@ -182,6 +170,4 @@ module _ {mode : Mode} (P Q : ℕ → Entry → Type 0) (old : Host) (w : IsOnWa
   turn_stands (Pushed frame) new does reports =
       calm_stands (Pushed frame) new does refl (λ s e here is out. inr (out_pushed old new frame w.past s e.head.dev does w.sound w.served (low_dev s e here) out))
   turn_stands (Ticked a) new does reports = tick_stands a new does
-  turn_stands (Submitted dev request ticket) new does reports =
-      calm_stands (Submitted dev request ticket) new does refl (λ s e here is out. inr (out_same old.port new.port s e.head.dev does.port out))
   turn_stands other new does reports = calm_stands other new does refl (λ s e here is out. inr (out_same old.port new.port s e.head.dev does.port out))

@@ -4,24 +4,14 @@ use Rattle.std.specs.Prelude.{◌==◌}
 use Rattle.std.proofs.lemmas.Bool.{and_parts, eqb-true, false≢true}
 use Rattle.host_memory.specs.Memory.{IsHostMemory, Memory}
 use Rattle.slots.specs.Slots.{has_bit}
-use Rattle.hba_fbs.specs.declared.report.TakeReport.{TakeReport}
-use Rattle.hba_fbs.specs.Taking.{port_of}
-use Rattle.hba_driver.specs.declared.mode.Mode.{Mode}
-use Rattle.hba_driver.specs.declared.request.Completion.{Completion}
-use Rattle.hba_driver.specs.declared.request.Outcome.TheVariants.{Done}
-use Rattle.hba_driver.specs.declared.request.Request.{Request}
-use Rattle.hba_driver.specs.declared.slot.Phase.{Phase}
-use Rattle.hba_driver.specs.declared.slot.Phase.TheVariants.{Waits, Issued, Ended}
-use Rattle.hba_driver.specs.Drivers.{Entry, entry_at, rephased}
-use Rattle.hba_driver.specs.Events.{opening_host_in}
-use Rattle.hba_driver.specs.HostTurns.{Does, DoesAll, Host, HostTurn, Took, Pushed, Submitted, Polled}
-use Rattle.hba_driver.specs.Reported.{DoneWasReported, IsTurnOf, WasReported}
-use Rattle.hba_driver.specs.Submits.{new_entry}
+use Rattle.hba_fbs.specs.{declared.report.TakeReport.TakeReport, Taking.port_of}
+use Rattle.hba_driver.specs.declared.{mode.Mode.Mode, request.Completion.Completion, request.Outcome.TheVariants.Done, request.Request.Request}
+use Rattle.hba_driver.specs.{declared.slot.Phase.{Phase, TheVariants.{Waits, Issued, Ended}}, Drivers.{Entry, entry_at, rephased}}
+use Rattle.hba_driver.specs.{Events.opening_host_in, HostTurns.{Does, DoesAll, Host, HostTurn, Took, Pushed, Submitted, Polled}}
+use Rattle.hba_driver.specs.{Reported.{DoneWasReported, IsTurnOf, WasReported}, Submits.new_entry}
 use Rattle.hba_driver.specs.Between.{AllStand, Fresh, IsOnWayIn, PollFacts, Reports, Stands}
 use Rattle.hba_driver.proofs.accepted.AcceptLemmas as accept
-use Rattle.hba_driver.proofs.accepted.AcceptLemmas.{way_opens, way_turn}
-use Rattle.hba_driver.proofs.requests.ComeLemmas.{comes_from}
-use Rattle.hba_driver.proofs.requests.HistoryLemmas.{poll_facts}
+use Rattle.hba_driver.proofs.{accepted.AcceptLemmas.{way_opens, way_turn}, requests.{ComeLemmas.comes_from, HistoryLemmas.poll_facts}}
 use Rattle.hba_driver.proofs.done.ReportLemmas.{all_wider, turn_stands}
 
 -- ---- turns of a run
@@ -74,7 +64,6 @@ reported_first (Took frame report) turns old new run s e r =
       done = parts.0;
       issued = r.0;
     }
-reported_first (Pushed frame) turns old new run s e r = absurd (false≢true r.1)
 reported_first other turns old new run s e r = absurd (false≢true r.1)
 
 reported_later : (t : HostTurn) (turns : List HostTurn) (old new : Host) (run : DoesAll old (t ∷ turns) new) (s : ℕ) (e : Entry) → ReportedIn run.0 new turns run.2 s e → ReportedIn old new (t ∷ turns) run s e
@@ -122,7 +111,6 @@ submitted_first (Submitted dev request ticket) turns old new run s f fresh = rec
   turn = first_turn (Submitted dev request ticket) turns old new run;
   is = ap (λ (n : ℕ). new_entry n dev request) run.1.taken.next ∙ ap (rephased Waits) fresh.1;
 }
-submitted_first (Took frame report) turns old new run s f fresh = absurd fresh
 submitted_first other turns old new run s f fresh = absurd fresh
 
 submitted_later : (t : HostTurn) (turns : List HostTurn) (old new : Host) (run : DoesAll old (t ∷ turns) new) (e : Entry) → SubmittedIn run.0 new turns run.2 e → SubmittedIn old new (t ∷ turns) run e

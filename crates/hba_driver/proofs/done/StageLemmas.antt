@@ -1,9 +1,7 @@
 -- For `done_is_true`. How far a request has come over turns: its ticket is issued, and then its device completes it.
 use Rattle.std.proofs.Common.{◌≡◌, ℕ, Bool, true, false, List, [], ◌∷◌, refl}
-use Rattle.std.specs.Prelude.{◌&&◌, ◌||◌}
-use Rattle.std.specs.List.{list_any}
-use Rattle.hba_driver.specs.Done.{completes, is_completed, issues}
-use Rattle.hba_driver.specs.HostTurns.{DoesAll, Host, HostTurn}
+use Rattle.std.specs.{Prelude.{◌&&◌, ◌||◌}, List.list_any}
+use Rattle.hba_driver.specs.{Done.{completes, is_completed, issues}, HostTurns.{DoesAll, Host, HostTurn}}
 
 pub data Stage : Type 0 where
   -- no tick has issued the ticket

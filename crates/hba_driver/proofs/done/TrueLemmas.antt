@@ -1,58 +1,32 @@
 -- For `done_is_true`. Done is true.
 use Rattle.std.proofs.Common.{◌≡◌, ◌≢◌, ℕ, ◌<◌, ◌≤◌, ◌⊎◌, Bool, true, false, ◌&&◌, nat_lt, List, [], ◌∷◌, length, refl, sym, ◌∙◌, ap, subst, inl, inr, arith, Option, Some, None}
-use Rattle.std.specs.Prelude.{if◌then◌else◌, ◌==◌, ◌||◌, not}
-use Rattle.std.specs.List.{list_any}
-use Rattle.std.specs.Option.{option_map}
-use Rattle.std.proofs.lemmas.Bool.{cases_Bool, false≢true, true≢false}
-use Rattle.std.proofs.lemmas.Bool.Decides.{nat_tests}
-use Rattle.std.proofs.lemmas.List.{get_or-set_same}
+use Rattle.std.specs.{Prelude.{if◌then◌else◌, ◌==◌, ◌||◌, not}, List.list_any, Option.option_map}
+use Rattle.std.proofs.lemmas.{Bool.{cases_Bool, false≢true, true≢false}, Bool.Decides.nat_tests, List.get_or-set_same}
 use Rattle.host_memory.specs.Memory.{IsHostMemory, Memory}
 use Rattle.hba_commands.specs.Requests.{request_of, work_of}
 use Rattle.slots.specs.Slots.{has_bit, is_control, is_pio, issue_at, new_issue}
 use Rattle.hba_fbs.specs.Views.{Port}
 use Rattle.hba_laws.proofs.Door.{own_in, some_inj}
-use Rattle.hba_driver.specs.declared.effect.Effect.{Effect}
-use Rattle.hba_driver.specs.declared.mode.Mode.{Mode}
-use Rattle.hba_driver.specs.declared.order.Order.{Order}
-use Rattle.hba_driver.specs.declared.order.Order.TheVariants.{Clear}
-use Rattle.hba_driver.specs.declared.path.Stage.{Stage as PathStage}
-use Rattle.hba_driver.specs.declared.path.Stage.TheVariants.{AssertReset}
-use Rattle.hba_driver.specs.declared.path.TaskFile.{TaskFile}
-use Rattle.hba_driver.specs.declared.request.Completion.{Completion}
-use Rattle.hba_driver.specs.declared.request.Outcome.TheVariants.{Done, Aborted, Removed, PortError}
-use Rattle.hba_driver.specs.declared.request.Work.{Work}
-use Rattle.hba_driver.specs.declared.request.Work.TheVariants as work
-use Rattle.hba_driver.specs.Seeing.{Sight}
-use Rattle.hba_driver.specs.declared.slot.Head.{Head}
-use Rattle.hba_driver.specs.declared.slot.Phase.{Phase}
-use Rattle.hba_driver.specs.declared.slot.Phase.TheVariants.{Waits, Issued, Aside, Ended}
-use Rattle.hba_driver.specs.declared.turn.Act.{Act}
-use Rattle.hba_driver.specs.declared.turn.Act.TheVariants as act
-use Rattle.hba_driver.specs.declared.turn.Turn.{Turn}
+use Rattle.hba_driver.specs.declared.{effect.Effect.Effect, mode.Mode.Mode, order.Order.{Order, TheVariants.Clear}}
+use Rattle.hba_driver.specs.declared.{path.Stage.{Stage as PathStage, TheVariants.AssertReset}, path.TaskFile.TaskFile, request.Completion.Completion}
+use Rattle.hba_driver.specs.{declared.{request.Outcome.TheVariants.{Done, Aborted, Removed, PortError}, request.Work.Work}, Seeing.Sight}
+use Rattle.hba_driver.specs.declared.{slot.Head.Head, slot.Phase.{Phase, TheVariants.{Waits, Issued, Aside, Ended}}, turn.Act.Act, turn.Turn.Turn}
 use Rattle.hba_driver.specs.Done.{DoneIsTrue, WasCompleted, completes, is_completed, takes}
-use Rattle.hba_driver.specs.Drivers.{AreRequests, Driver, Entry, entry_at, has_ended, has_ended_in, holds, is_aside_in, is_issued_in, rephase, rephase_all, rephased, waits, waits_in}
-use Rattle.hba_driver.specs.Effects.{ActsAll, effects_of, issuing}
-use Rattle.hba_driver.specs.Events.{opening_host_in}
-use Rattle.hba_driver.specs.HostTurns.{Does, DoesAll, Host, HostTurn, Took, Pushed, Ticked, Submitted, Polled, Put, issued_by_act, issued_in_tick, sight_in, ticket_of}
-use Rattle.hba_driver.specs.Laws.{Goes, GoesOn, flushes}
-use Rattle.hba_driver.specs.Orders.{request_fields, work_fields}
-use Rattle.hba_driver.specs.Sights.{file_shown}
-use Rattle.hba_driver.specs.Ticks.{acted, after_tick, done_ended, due, effects, effects_due, entries_after, is_aside_of, is_done, is_open, is_open_of, removed, seen, stage_ended, turn}
-use Rattle.hba_driver.specs.Between.{Due, Fresh, HasOut, IsOnWayIn, PollFacts, Runs, ticks}
-use Rattle.hba_driver.proofs.accepted.AcceptLemmas.{AloneFor, goes_on, is_up, issue_taken, way_opens, way_turn}
+use Rattle.hba_driver.specs.Drivers.{AreRequests, Driver, Entry, entry_at, has_ended, has_ended_in, holds, is_aside_in, is_issued_in, rephase}
+use Rattle.hba_driver.specs.{Drivers.{rephase_all, rephased, waits, waits_in}, Effects.{ActsAll, effects_of, issuing}, Events.opening_host_in}
+use Rattle.hba_driver.specs.HostTurns.{Does, DoesAll, Host, HostTurn, Took, Pushed, Ticked, Submitted, Polled, Put, issued_by_act, issued_in_tick}
+use Rattle.hba_driver.specs.{HostTurns.{sight_in, ticket_of}, Laws.{Goes, GoesOn, flushes}, Orders.{request_fields, work_fields}, Sights.file_shown}
+use Rattle.hba_driver.specs.Ticks.{acted, after_tick, done_ended, due, effects, effects_due, entries_after, is_aside_of, is_done, is_open, is_open_of}
+use Rattle.hba_driver.specs.{Ticks.{removed, seen, stage_ended, turn}, Between.{Due, Fresh, HasOut, IsOnWayIn, PollFacts, Runs, ticks}}
+use Rattle.hba_driver.specs.declared.request.Work.TheVariants as work
+use Rattle.hba_driver.specs.declared.turn.Act.TheVariants as act
+use Rattle.hba_driver.proofs.{accepted.AcceptLemmas.{AloneFor, goes_on, is_up, issue_taken, way_opens, way_turn}, requests.ComeLemmas.comes_from}
+use Rattle.hba_driver.proofs.{ends.DoneLemmas.done_is_free, events.DrivenLemmas.{not_below, tick_is, turn_opens}, ticks.DueLemmas.goes_turn}
+use Rattle.hba_driver.proofs.{requests.HistoryLemmas.{poll_facts, requests_turn}, ticks.LifeLemmas.{entry_of_rephased, waiting_stays}}
+use Rattle.hba_driver.proofs.{done.OutLemmas.{out_act, out_opening, out_pushed, out_same, out_took}, calls.RequestLemmas.set_cases}
+use Rattle.hba_driver.proofs.{issued.ServedLemmas.may_end_in, ticks.ServeLemmas.ticks_serve}
+use Rattle.hba_driver.proofs.{done.StageLemmas.{Stage, Idle, Out, Whole, stage_after, stage_by, stage_over, tells}, requests.StandLemmas.in_slots}
 use Rattle.hba_driver.proofs.accepted.AcceptLemmas as accept
-use Rattle.hba_driver.proofs.requests.ComeLemmas.{comes_from}
-use Rattle.hba_driver.proofs.ends.DoneLemmas.{done_is_free}
-use Rattle.hba_driver.proofs.events.DrivenLemmas.{not_below, tick_is, turn_opens}
-use Rattle.hba_driver.proofs.ticks.DueLemmas.{goes_turn}
-use Rattle.hba_driver.proofs.requests.HistoryLemmas.{poll_facts, requests_turn}
-use Rattle.hba_driver.proofs.ticks.LifeLemmas.{entry_of_rephased, waiting_stays}
-use Rattle.hba_driver.proofs.done.OutLemmas.{out_act, out_opening, out_pushed, out_same, out_took}
-use Rattle.hba_driver.proofs.calls.RequestLemmas.{set_cases}
-use Rattle.hba_driver.proofs.issued.ServedLemmas.{may_end_in}
-use Rattle.hba_driver.proofs.ticks.ServeLemmas.{ticks_serve}
-use Rattle.hba_driver.proofs.done.StageLemmas.{Stage, Idle, Out, Whole, stage_after, stage_by, stage_over, tells}
-use Rattle.hba_driver.proofs.requests.StandLemmas.{in_slots}
 
 -- ---- phases
 
@@ -390,11 +364,9 @@ module _ {mode : Mode} (ticket slot dev : ℕ) (h : Host) (a : Bool) (new : Host
           absurd (false≢true (sym (ap is_issued_in bad)))
 
       by_phase : (e : Entry) → entry_at h.driver.entries slot ≡ Some e → GoesOn e f → e.head.ticket ≡ ticket → e.head.dev ≡ dev → (p : Phase) → f.head.phase ≡ p → Fits stage new.port slot dev f.head.phase
-      by_phase e at on ticket_is dev_is Waits is = subst (λ (x : Phase). Fits stage new.port slot dev x) (sym is) tt
       by_phase e at on ticket_is dev_is Issued is = subst (λ (x : Phase). Fits stage new.port slot dev x) (sym is) (stays e at on ticket_is dev_is is e.head.phase refl)
       by_phase e at on ticket_is dev_is (Ended Done) is =
           subst (λ (x : Phase). Fits stage new.port slot dev x) (sym is) (whole_ended ticket slot dev h stage e f w far at on (file_shown new.port) (here_after f here) is ticket_is dev_is)
-      by_phase e at on ticket_is dev_is Aside is = subst (λ (x : Phase). Fits stage new.port slot dev x) (sym is) tt
       by_phase e at on ticket_is dev_is other is = subst (λ (x : Phase). Fits stage new.port slot dev x) (sym is) tt
 
   far_tick : Far ticket slot dev new (stage_after ticket slot dev stage h (Ticked a))
@@ -414,12 +386,8 @@ far_turn ticket slot dev old (Took frame report) new stage below dev_below h w f
 far_turn ticket slot dev old (Pushed frame) new stage below dev_below h w far =
     far_still (Pushed frame) ticket slot dev old new stage stage h refl (λ is. is) (λ is out. inr (is, out_pushed old new frame w.past slot dev h w.sound w.served dev_below out)) far
 far_turn ticket slot dev old (Ticked a) new stage below dev_below h w far = far_tick ticket slot dev old a new h w stage far
-far_turn ticket slot dev old (Submitted other request given) new stage below dev_below h w far =
-    far_still (Submitted other request given) ticket slot dev old new stage stage h refl (λ is. is) (λ is out. inr (is, out_same old.port new.port slot dev h.port out)) far
-far_turn ticket slot dev old (Polled c) new stage below dev_below h w far =
-    far_still (Polled c) ticket slot dev old new stage stage h refl (λ is. is) (λ is out. inr (is, out_same old.port new.port slot dev h.port out)) far
-far_turn ticket slot dev old (Put at bytes) new stage below dev_below h w far =
-    far_still (Put at bytes) ticket slot dev old new stage stage h refl (λ is. is) (λ is out. inr (is, out_same old.port new.port slot dev h.port out)) far
+far_turn ticket slot dev old rest new stage below dev_below h w far =
+    far_still rest ticket slot dev old new stage stage h refl (λ is. is) (λ is out. inr (is, out_same old.port new.port slot dev h.port out)) far
 
 way_over : {mode : Mode} (turns : List HostTurn) (old new : Host) → DoesAll old turns new → IsOnWayIn mode old → IsOnWayIn mode new
 way_over {mode} [] old new run w = subst (IsOnWayIn mode) (sym run) w
@@ -447,7 +415,6 @@ takes_fresh old (Submitted dev request ticket) new h s f is =
     both : (a b : Bool) → a ≡ true → b ≡ true → (a && b) ≡ true
     both true b h k = k
     both false b h k = absurd (false≢true h)
-takes_fresh old (Took frame report) new h s f is = absurd is
 takes_fresh old other new h s f is = absurd is
 
 comes_over : (turns : List HostTurn) (old new : Host) → DoesAll old turns new → (s : ℕ) (f : Entry) → entry_at new.driver.entries s ≡ Some f → Comes old turns s f

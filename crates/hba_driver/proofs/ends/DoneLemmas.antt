@@ -1,41 +1,22 @@
 -- For `done_is_free`. A request ends as Done only if the port has nothing in its slot.
 use Rattle.std.proofs.Common.{◌≡◌, ◌≢◌, ℕ, ◌<◌, ◌≤◌, ◌⊎◌, Bool, true, false, ◌&&◌, max, List, bit_or, refl, sym, ◌∙◌, ap, subst, inl, inr, arith, Option, Some, None}
-use Rattle.std.specs.Prelude.{if◌then◌else◌, ◌==◌, not, MatchOption}
-use Rattle.std.specs.Int.{bit_at}
-use Rattle.std.specs.Option.{option_map}
-use Rattle.std.proofs.lemmas.Bool.{cases_Bool, false≢true, true≢false}
-use Rattle.std.proofs.lemmas.Bool.Decides.{nat_tests}
-use Rattle.std.proofs.lemmas.Nat.Bits.{bit_at-lt, bit_at_or}
-use Rattle.slots.specs.Commands.{is_unanswered, slots_where}
-use Rattle.slots.specs.Slots.{Issue, has_bit, holds as issue_holds, is_queued_issue, issue_at}
+use Rattle.std.specs.{Prelude.{if◌then◌else◌, ◌==◌, not, MatchOption}, Int.bit_at, Option.option_map}
+use Rattle.std.proofs.lemmas.{Bool.{cases_Bool, false≢true, true≢false}, Bool.Decides.nat_tests, Nat.Bits.{bit_at-lt, bit_at_or}}
+use Rattle.slots.specs.{Commands.{is_unanswered, slots_where}, Slots.{Issue, has_bit, holds as issue_holds, is_queued_issue, issue_at}}
 use Rattle.slots.specs.Table.{IsIssue, IsTable}
 use Rattle.slots.proofs.Door.{has_bit_mask}
 use Rattle.host_memory.specs.Memory.{Memory}
-use Rattle.hba_fbs.specs.Offsets.{register_at}
-use Rattle.hba_fbs.specs.Reading.{value_of}
-use Rattle.hba_fbs.specs.Views.{Port}
-use Rattle.hba_driver.specs.declared.mode.Mode.{Mode}
-use Rattle.hba_driver.specs.declared.order.Order.{Order}
-use Rattle.hba_driver.specs.declared.order.Order.TheVariants.{Clear}
-use Rattle.hba_driver.specs.declared.path.Stage.{Stage}
-use Rattle.hba_driver.specs.declared.path.Stage.TheVariants.{AssertReset}
-use Rattle.hba_driver.specs.declared.path.TaskFile.{TaskFile}
-use Rattle.hba_driver.specs.declared.request.Outcome.TheVariants.{Aborted, DeviceError, Done, PortError, Removed}
-use Rattle.hba_driver.specs.declared.sight.ErrorLog.{ErrorLog}
-use Rattle.hba_driver.specs.Seeing.{Sight}
-use Rattle.hba_driver.specs.declared.slot.Head.{Head}
-use Rattle.hba_driver.specs.declared.slot.Phase.{Phase}
-use Rattle.hba_driver.specs.declared.slot.Phase.TheVariants.{Issued, Aside, Ended}
-use Rattle.hba_driver.specs.declared.turn.Act.{Act}
-use Rattle.hba_driver.specs.declared.turn.Act.TheVariants as act
-use Rattle.hba_driver.specs.declared.turn.Logged.{Logged}
-use Rattle.hba_driver.specs.Drivers.{Driver, Entry, entry_at, has_ended, has_ended_in, is_issued, rephase, rephase_all, rephased}
-use Rattle.hba_driver.specs.Laws.{DoneIsFree}
+use Rattle.hba_fbs.specs.{Offsets.register_at, Reading.value_of, Views.Port}
+use Rattle.hba_driver.specs.declared.{mode.Mode.Mode, order.Order.{Order, TheVariants.Clear}, path.Stage.{Stage, TheVariants.AssertReset}}
+use Rattle.hba_driver.specs.declared.{path.TaskFile.TaskFile, request.Outcome.TheVariants.{Aborted, DeviceError, Done, PortError, Removed}}
+use Rattle.hba_driver.specs.{declared.sight.ErrorLog.ErrorLog, Seeing.Sight, declared.slot.Head.Head}
+use Rattle.hba_driver.specs.declared.{slot.Phase.{Phase, TheVariants.{Issued, Aside, Ended}}, turn.Act.Act, turn.Logged.Logged}
+use Rattle.hba_driver.specs.{Drivers.{Driver, Entry, entry_at, has_ended, has_ended_in, is_issued, rephase, rephase_all, rephased}, Laws.DoneIsFree}
 use Rattle.hba_driver.specs.Sights.{px_ci, px_sact, shown, sight_of}
-use Rattle.hba_driver.specs.Ticks.{acted, after_tick, done_ended, entries_after, is_aside_of, is_done, is_named_of, is_open, is_open_of, log_outcome, logged_ended, removed, seen, stage_ended, turn}
-use Rattle.hba_driver.proofs.ticks.LifeLemmas.{entry_of_rephased}
-use Rattle.hba_driver.proofs.calls.RequestLemmas.{set_cases}
-use Rattle.hba_driver.proofs.requests.StandLemmas.{in_slots}
+use Rattle.hba_driver.specs.Ticks.{acted, after_tick, done_ended, entries_after, is_aside_of, is_done, is_named_of, is_open, is_open_of, log_outcome}
+use Rattle.hba_driver.specs.Ticks.{logged_ended, removed, seen, stage_ended, turn}
+use Rattle.hba_driver.specs.declared.turn.Act.TheVariants as act
+use Rattle.hba_driver.proofs.{ticks.LifeLemmas.entry_of_rephased, calls.RequestLemmas.set_cases, requests.StandLemmas.in_slots}
 
 -- ---- the bits of PxCI and PxSACT
 

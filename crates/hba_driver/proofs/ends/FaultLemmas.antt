@@ -1,28 +1,16 @@
 -- For `errors_are_named`. A request ends as failed by its device only if the device's log names it.
-use Rattle.std.proofs.Common.{◌≡◌, ℕ, Bool, true, false, ◌&&◌, List, refl, sym, ◌∙◌, ap, Option, Some, None}
+use Rattle.std.proofs.Common.{◌≡◌, ℕ, Bool, true, false, ◌&&◌, List, refl, sym, ◌∙◌, ap, Option, Some, None, arith}
 use Rattle.std.specs.Prelude.{if◌then◌else◌, ◌==◌}
-use Rattle.std.proofs.lemmas.Bool.{false≢true, true≢false}
-use Rattle.std.proofs.lemmas.Bool.Decides.{nat_tests}
-use Rattle.std.proofs.Common.{arith}
+use Rattle.std.proofs.lemmas.{Bool.{false≢true, true≢false}, Bool.Decides.nat_tests}
 use Rattle.slots.specs.Slots.{match_some}
-use Rattle.hba_driver.specs.declared.path.Path.{Path}
-use Rattle.hba_driver.specs.declared.path.Stage.{Stage}
-use Rattle.hba_driver.specs.declared.path.Stage.TheVariants.{ReadLog}
-use Rattle.hba_driver.specs.declared.path.TaskFile.{TaskFile}
-use Rattle.hba_driver.specs.declared.plan.Plan.{Plan}
-use Rattle.hba_driver.specs.declared.request.Outcome.{Outcome}
-use Rattle.hba_driver.specs.declared.request.Outcome.TheVariants.{Aborted, DeviceError, Done}
-use Rattle.hba_driver.specs.declared.sight.ErrorLog.{ErrorLog}
-use Rattle.hba_driver.specs.Seeing.{Sight}
-use Rattle.hba_driver.specs.declared.slot.Phase.{Phase}
-use Rattle.hba_driver.specs.declared.slot.Phase.TheVariants.{Waits, Issued, Aside, Ended}
-use Rattle.hba_driver.specs.declared.turn.Logged.{Logged}
+use Rattle.hba_driver.specs.declared.{path.Path.Path, path.Stage.{Stage, TheVariants.ReadLog}, path.TaskFile.TaskFile, plan.Plan.Plan}
+use Rattle.hba_driver.specs.{declared.{request.Outcome.{Outcome, TheVariants.{Aborted, DeviceError, Done}}, sight.ErrorLog.ErrorLog}, Seeing.Sight}
+use Rattle.hba_driver.specs.declared.{slot.Phase.{Phase, TheVariants.{Waits, Issued, Aside, Ended}}, turn.Logged.Logged}
 use Rattle.hba_driver.specs.Drivers.{Driver, Entry, entry_at, has_ended, has_ended_in, is_aside, is_aside_in, rephase, rephase_all, rephased}
 use Rattle.hba_driver.specs.Faults.{ErrorsAreNamed, IsNamedBy}
 use Rattle.hba_driver.specs.Ticks.{after_tick, done_ended, is_aside_of, is_done, is_named, is_named_of, log_outcome, logged_ended, seen, turn}
 use Rattle.hba_driver.specs.Turns.{control_seen, is_back, logged_by, turn_of}
-use Rattle.hba_driver.proofs.ends.DoneLemmas.{IsOwnEnd, acted_end, end_same, end_turned, seen_some, some_at}
-use Rattle.hba_driver.proofs.ticks.DueLemmas.{turn_by}
+use Rattle.hba_driver.proofs.{ends.DoneLemmas.{IsOwnEnd, acted_end, end_same, end_turned, seen_some, some_at}, ticks.DueLemmas.turn_by}
 use Rattle.hba_driver.proofs.ticks.LifeLemmas.{entry_of_rephased}
 
 -- ---- the phase of such an end
@@ -167,16 +155,11 @@ exactly_own : (status error : ℕ) → IsOwnEnd (exactly status error)
 exactly_own status error = record { issued = refl; aside = refl; aborted = refl; removed = refl; stopped = refl }
 
 exactly_is : (status error : ℕ) (p : Phase) → exactly status error p ≡ true → p ≡ Ended (DeviceError status error)
-exactly_is status error Waits h = absurd (false≢true h)
-exactly_is status error Issued h = absurd (false≢true h)
-exactly_is status error Aside h = absurd (false≢true h)
-exactly_is status error (Ended Done) h = absurd (false≢true h)
 exactly_is status error (Ended (DeviceError s e)) h =
     let parts = and_parts (s == status) (e == error) h in
     let first : s ≡ status = equal_of s status parts.0 in
     let second : e ≡ error = equal_of e error parts.1 in
     ap (λ (x : ℕ). Ended (DeviceError x e)) first ∙ ap (λ (y : ℕ). Ended (DeviceError status y)) second
-exactly_is status error (Ended Aborted) h = absurd (false≢true h)
 exactly_is status error other h = absurd (false≢true h)
 
 equal_self : (x : ℕ) → (x == x) ≡ true

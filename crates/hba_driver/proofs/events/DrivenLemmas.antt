@@ -1,42 +1,23 @@
 -- For `hosts_stay_sound`. What holds for port, driver and memory together, and what each turn leaves of it.
 use Rattle.std.proofs.Common.{◌≡◌, ℕ, ◌+◌, ◌*◌, ◌/◌, ◌<◌, ◌≤◌, ◌⊎◌, ◌&&◌, Bool, true, false, nat_lt, nat_le, List, [], ◌∷◌, refl, sym, ◌∙◌, ap, subst, inl, inr, arith, Option, Some, None}
-use Rattle.std.specs.Prelude.{if◌then◌else◌, ◌==◌, ◌%◌, MatchOption, not}
-use Rattle.std.proofs.lemmas.Nat.Bits.{bit_at-suc, bit_at_lowest}
-use Rattle.hba_fbs.specs.Bits.{dec, en}
-use Rattle.std.specs.List.{list_all}
-use Rattle.std.proofs.lemmas.Bool.{cases_Bool, false≢true}
-use Rattle.std.proofs.lemmas.Bool.Decides.{nat_tests}
+use Rattle.std.specs.{Prelude.{if◌then◌else◌, ◌==◌, ◌%◌, MatchOption, not}, List.list_all}
+use Rattle.std.proofs.lemmas.{Nat.Bits.{bit_at-suc, bit_at_lowest}, Bool.{cases_Bool, false≢true}, Bool.Decides.nat_tests}
+use Rattle.hba_fbs.specs.{Bits.{dec, en}, declared.error.WriteError.WriteError}
+use Rattle.hba_fbs.specs.declared.{register.Register.{Register, TheVariants.{Is, Cmd, Sact, Ci, Sntf, Fbs}}, registers.Registers.Registers}
+use Rattle.hba_fbs.specs.{Offsets.register_at, Registers.written, Views.Port, Writing.{Accepts, refusal_of, write_refusal}}
 use Rattle.host_memory.specs.Memory.{Memory}
-use Rattle.hba_fbs.specs.declared.error.WriteError.{WriteError}
 use Rattle.hba_fbs.specs.declared.error.WriteError.TheVariants as refusal
-use Rattle.hba_fbs.specs.declared.register.Register.{Register}
-use Rattle.hba_fbs.specs.declared.register.Register.TheVariants.{Is, Cmd, Sact, Ci, Sntf, Fbs}
-use Rattle.hba_fbs.specs.declared.registers.Registers.{Registers}
-use Rattle.hba_fbs.specs.Offsets.{register_at}
-use Rattle.hba_fbs.specs.Registers.{written}
-use Rattle.hba_fbs.specs.Views.{Port}
-use Rattle.hba_fbs.specs.Writing.{Accepts, refusal_of, write_refusal}
 use Rattle.slots.specs.Slots.{has_bit, match_some}
-use Rattle.hba_driver.specs.declared.effect.Effect.{Effect}
-use Rattle.hba_driver.specs.declared.effect.Effect.TheVariants as effect
-use Rattle.hba_driver.specs.declared.mode.Mode.{Mode}
-use Rattle.hba_driver.specs.declared.mode.Mode.TheVariants.{Switching, CommandBased}
-use Rattle.hba_driver.specs.declared.order.Order.{Order}
-use Rattle.hba_driver.specs.declared.order.Order.TheVariants.{Clear}
-use Rattle.hba_driver.specs.declared.path.TaskFile.{TaskFile}
-use Rattle.hba_driver.specs.declared.plan.Plan.{Plan}
-use Rattle.hba_driver.specs.Seeing.{Sight}
-use Rattle.hba_driver.specs.declared.turn.Act.{Act}
-use Rattle.hba_driver.specs.declared.turn.Act.TheVariants as act
-use Rattle.hba_driver.specs.declared.turn.Turn.{Turn}
-use Rattle.hba_driver.specs.Drivers.{Driver, Entry}
-use Rattle.hba_driver.specs.Effects.{Acts, ActsAll, Tries, effects_of, issuing, order_effects, restart_write}
-use Rattle.hba_driver.specs.Events.{AreDriven, KnowsNone}
-use Rattle.hba_driver.specs.Modes.{clears_with, is_switching}
-use Rattle.hba_driver.specs.Paths.{reads_page, stage_fields}
+use Rattle.hba_driver.specs.declared.{effect.Effect.Effect, mode.Mode.{Mode, TheVariants.{Switching, CommandBased}}}
+use Rattle.hba_driver.specs.{declared.{order.Order.{Order, TheVariants.Clear}, path.TaskFile.TaskFile, plan.Plan.Plan}, Seeing.Sight}
+use Rattle.hba_driver.specs.{declared.{turn.Act.Act, turn.Turn.Turn}, Drivers.{Driver, Entry}}
+use Rattle.hba_driver.specs.{Effects.{Acts, ActsAll, Tries, effects_of, issuing, order_effects, restart_write}, Events.{AreDriven, KnowsNone}}
+use Rattle.hba_driver.specs.{Modes.{clears_with, is_switching}, Paths.{reads_page, stage_fields}}
 use Rattle.hba_driver.specs.Ticks.{acted, after_tick, done_ended, effects_due, from_reset, logged_ended, plan_after, recovering, seen, turn}
 use Rattle.hba_driver.specs.Turns.{early_due, plain_turn, turn_of}
 use Rattle.hba_driver.specs.Between.{Due, Going, Opening, Way, calm, calm_effect, firm, firm_effect, keeps_en}
+use Rattle.hba_driver.specs.declared.effect.Effect.TheVariants as effect
+use Rattle.hba_driver.specs.declared.turn.Act.TheVariants as act
 use Rattle.hba_driver.proofs.ticks.DueLemmas.{PlanGoes, due_turn, goes_turn}
 use Rattle.hba_driver.proofs.calls.EffectLemmas.{issuing_pass, order_pass, restarts_pass, sending_pass}
 

@@ -1,30 +1,20 @@
 -- For `hosts_stay_sound`. What a turn does to port and memory is a list of events.
 use Rattle.std.proofs.Common.{◌≡◌, ℕ, ◌+◌, ◌*◌, ◌<◌, ◌≤◌, Bool, true, false, List, [], ◌∷◌, ◌++◌, length, take, drop, replicate, refl, sym, ◌∙◌, ap, subst, inl, inr, arith, Option, Some, None}
-use Rattle.std.specs.Prelude.{MatchOption, ◌%◌}
-use Rattle.std.specs.List.{list_all}
+use Rattle.std.specs.{Prelude.{MatchOption, ◌%◌}, List.list_all}
 use Rattle.std.proofs.lemmas.List.{ext_get_or, get_or-drop, get_or-take, length-drop, length-replicate, length-take}
-use Rattle.host_memory.specs.Memory.{IsHostMemory, Memory, overwritten}
-use Rattle.host_memory.specs.Reading.{AgreeFrom}
+use Rattle.host_memory.specs.{Memory.{IsHostMemory, Memory, overwritten}, Reading.AgreeFrom, declared.table.Prd.Prd}
 use Rattle.host_memory.proofs.Door.{length-overwritten}
 use Rattle.hba_commands.specs.Writing.{IsWritten}
 use Rattle.fis_view.specs.declared.build.H2dFields.{H2dFields}
-use Rattle.host_memory.specs.declared.table.Prd.{Prd}
 use Rattle.slots.specs.Slots.{match_some}
-use Rattle.hba_fbs.specs.declared.error.WriteError.{WriteError}
-use Rattle.hba_fbs.specs.declared.register.Register.{Register}
-use Rattle.hba_fbs.specs.Offsets.{register_at}
-use Rattle.hba_fbs.specs.Posting.{area_at}
-use Rattle.hba_fbs.specs.Views.{Port}
+use Rattle.hba_fbs.specs.{declared.{error.WriteError.WriteError, register.Register.Register}, Offsets.register_at, Posting.area_at, Views.Port}
 use Rattle.hba_fbs.specs.Writing.{Accepts, write_refusal}
 use Rattle.hba_laws.specs.Hosts as event
 use Rattle.hba_laws.specs.Hosts.{HostEvent, Runs}
 use Rattle.hba_laws.specs.Sound as sound
-use Rattle.hba_driver.specs.declared.effect.Effect.{Effect}
+use Rattle.hba_driver.specs.{declared.{effect.Effect.Effect, mode.Mode.Mode}, Effects.{Acts, ActsAll, IsRuled, Tries, is_effect, prds_with, table_of}}
+use Rattle.hba_driver.specs.{Events.{events_of_effect, events_of_effects, wrote_to}, Between.{beside, calm_effect}}
 use Rattle.hba_driver.specs.declared.effect.Effect.TheVariants as effect
-use Rattle.hba_driver.specs.declared.mode.Mode.{Mode}
-use Rattle.hba_driver.specs.Effects.{Acts, ActsAll, IsRuled, Tries, is_effect, prds_with, table_of}
-use Rattle.hba_driver.specs.Events.{events_of_effect, events_of_effects, wrote_to}
-use Rattle.hba_driver.specs.Between.{beside, calm_effect}
 use Rattle.hba_driver.proofs.events.DrivenLemmas.{SamePlace, place_effect, place_then, refusal_is, same_place}
 use Rattle.hba_driver.proofs.requests.StandLemmas.{Same, both, few_prds, lt_of, same_written}
 

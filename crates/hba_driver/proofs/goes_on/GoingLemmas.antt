@@ -1,68 +1,37 @@
 -- For `port_goes_on`. A host port goes on over every list of turns from its opening.
 use Rattle.std.proofs.Common.{◌≡◌, ℕ, ◌^◌, max, min, Bool, true, false, ◌&&◌, bit_or, bit_and, List, [], ◌∷◌, refl, sym, ◌∙◌, ap, subst, inl, inr, arith, Option, Some, None}
-use Rattle.std.specs.Prelude.{◌==◌, not, is_some, slice_set}
-use Rattle.std.specs.Int.{bit_at}
-use Rattle.std.specs.Option.{option_map_or}
-use Rattle.std.proofs.lemmas.Bool.{cases_Bool, true≢false}
-use Rattle.std.proofs.lemmas.Nat.Bits.{bit_at_and, bit_at_or}
-use Rattle.fis_view.specs.Frames.{Stamped}
-use Rattle.fis_view.specs.Seen.{seen as seen_in}
-use Rattle.fis_view.specs.declared.view.Fis.{Fis}
+use Rattle.std.specs.{Prelude.{◌==◌, not, is_some, slice_set}, Int.bit_at, Option.option_map_or}
+use Rattle.std.proofs.lemmas.{Bool.{cases_Bool, true≢false}, Nat.Bits.{bit_at_and, bit_at_or}}
+use Rattle.fis_view.specs.{Frames.Stamped, Seen.seen as seen_in, declared.view.Fis.Fis}
 use Rattle.fis_view.specs.declared.view.Fis.TheVariants as view
 use Rattle.host_memory.specs.Memory.{IsHostMemory, Memory}
-use Rattle.port_errors.specs.Errors.{Errors, after_clear, cleared_device, without as without_device}
-use Rattle.port_errors.specs.declared.cause.DeviceCause.{DeviceCause}
-use Rattle.port_errors.specs.declared.cause.DeviceCause.TheVariants as cause
+use Rattle.port_errors.specs.{Errors.{Errors, after_clear, cleared_device, without as without_device}, declared.cause.DeviceCause.DeviceCause}
 use Rattle.port_errors.specs.Interrupts.{device_interrupts}
+use Rattle.port_errors.specs.declared.cause.DeviceCause.TheVariants as cause
 use Rattle.slots.specs.Slots.{has_bit, match_some}
 use Rattle.hba_fbs.specs.declared.error.WriteError.TheVariants as refusal
-use Rattle.hba_fbs.specs.declared.hearing.Fault.{Fault}
-use Rattle.hba_fbs.specs.declared.hearing.Fault.TheVariants as fault
-use Rattle.hba_fbs.specs.declared.hearing.Heard.{Heard}
-use Rattle.hba_fbs.specs.declared.register.Register.{Register}
-use Rattle.hba_fbs.specs.declared.register.Register.TheVariants.{Is, Cmd, Fbs}
-use Rattle.hba_fbs.specs.declared.registers.Registers.{Registers}
-use Rattle.hba_fbs.specs.declared.report.TakeReport.{TakeReport}
-use Rattle.hba_fbs.specs.Bits.{bit, dec, ufs}
-use Rattle.hba_fbs.specs.Offsets.{register_at}
-use Rattle.hba_fbs.specs.Posting.{posted}
-use Rattle.hba_fbs.specs.Reading.{value_of}
-use Rattle.hba_fbs.specs.Registers.{falls, written}
-use Rattle.hba_fbs.specs.Sending.{Gives, Nothing, Outgoing, Unreadable, outgoing}
+use Rattle.hba_fbs.specs.declared.{hearing.Fault.Fault, hearing.Heard.Heard, register.Register.{Register, TheVariants.{Is, Cmd, Fbs}}}
+use Rattle.hba_fbs.specs.{declared.{registers.Registers.Registers, report.TakeReport.TakeReport}, Bits.{bit, dec, ufs}, Offsets.register_at}
+use Rattle.hba_fbs.specs.{Posting.posted, Reading.value_of, Registers.{falls, written}, Sending.{Gives, Nothing, Outgoing, Unreadable, outgoing}}
 use Rattle.hba_fbs.specs.Taking.{admitted, fault_interrupts, heard_now, ignores, port_cause, port_of, posted_of, settled, stops_with}
-use Rattle.hba_fbs.specs.Views.{Port, view_of}
-use Rattle.hba_fbs.specs.Writing.{errors_after, refusal_of}
-use Rattle.hba_laws.specs.Delivering.{touches_after}
-use Rattle.hba_laws.specs.Isolation.{fails_by_bus}
+use Rattle.hba_fbs.specs.{Views.{Port, view_of}, Writing.{errors_after, refusal_of}}
+use Rattle.hba_fbs.specs.declared.hearing.Fault.TheVariants as fault
+use Rattle.hba_laws.specs.{Delivering.touches_after, Isolation.fails_by_bus}
 use Rattle.hba_laws.proofs.Door.{spared_tables_read}
-use Rattle.hba_driver.specs.declared.effect.Effect.{Effect}
-use Rattle.hba_driver.specs.declared.effect.Effect.TheVariants as effect
-use Rattle.hba_driver.specs.declared.mode.Mode.TheVariants.{Switching}
-use Rattle.hba_driver.specs.declared.path.TaskFile.{TaskFile}
-use Rattle.hba_driver.specs.Seeing.{Sight}
-use Rattle.hba_driver.specs.declared.turn.Act.{Act}
-use Rattle.hba_driver.specs.declared.turn.Act.TheVariants as act
-use Rattle.hba_driver.specs.Drivers.{Driver}
-use Rattle.hba_driver.specs.Effects.{Acts, ActsAll, Tries}
+use Rattle.hba_driver.specs.{declared.{effect.Effect.Effect, mode.Mode.TheVariants.Switching, path.TaskFile.TaskFile}, Seeing.Sight}
+use Rattle.hba_driver.specs.{declared.turn.Act.Act, Drivers.Driver, Effects.{Acts, ActsAll, Tries}}
 use Rattle.hba_driver.specs.Events.{IsSoundHost, events_over, opening_host, shared_by}
-use Rattle.hba_driver.specs.HostTurns.{Does, DoesAll, Host, HostTurn, Took, Pushed, Ticked, Submitted, Polled, sight_in}
-use Rattle.hba_driver.specs.Served.{RunServes}
-use Rattle.hba_driver.specs.Sights.{file_shown, shown, sight_of}
-use Rattle.hba_driver.specs.Submits.{after_poll, lowest_ended}
+use Rattle.hba_driver.specs.{HostTurns.{Does, DoesAll, Host, HostTurn, Took, Pushed, Ticked, Submitted, Polled, sight_in}, Served.RunServes}
+use Rattle.hba_driver.specs.{Sights.{file_shown, shown, sight_of}, Submits.{after_poll, lowest_ended}}
 use Rattle.hba_driver.specs.Ticks.{acted, after_tick, due, effects, plan_after, seen}
 use Rattle.hba_driver.specs.Going.{AreOfControl, GoesOn, IsOfControl, NothingStops, PortsGoOn, leaves_port}
 use Rattle.hba_driver.specs.Between.{Due, IsCalm, IsGoing, IsOfControlIn, IsOnWay, NoFatal}
-use Rattle.hba_driver.proofs.accepted.AcceptLemmas.{way_opens, way_turn}
-use Rattle.hba_driver.proofs.events.DrivenLemmas.{restarted_cleared, restarted_ordered, tried_at}
-use Rattle.hba_driver.proofs.ticks.DueLemmas.{goes_turn}
-use Rattle.hba_driver.proofs.ticks.LifeLemmas.{due_seen}
-use Rattle.hba_driver.proofs.goes_on.PageLemmas.{page_turn}
-use Rattle.hba_driver.proofs.goes_on.ReadLemmas.{can_read}
-use Rattle.hba_driver.proofs.modes.RowMode.{faultless_as, spares_as, started_mode}
-use Rattle.hba_driver.proofs.issued.ServedLemmas.{turns_serve}
-use Rattle.hba_driver.proofs.goes_on.StopLemmas.{either}
-use Rattle.hba_driver.proofs.goes_on.StopLemmas.{nothing_stops}
-use Rattle.hba_driver.proofs.modes.SwitchLemmas.{sight_is}
+use Rattle.hba_driver.specs.declared.effect.Effect.TheVariants as effect
+use Rattle.hba_driver.specs.declared.turn.Act.TheVariants as act
+use Rattle.hba_driver.proofs.{accepted.AcceptLemmas.{way_opens, way_turn}, events.DrivenLemmas.{restarted_cleared, restarted_ordered, tried_at}}
+use Rattle.hba_driver.proofs.{ticks.{DueLemmas.goes_turn, LifeLemmas.due_seen}, goes_on.{PageLemmas.page_turn, ReadLemmas.can_read}}
+use Rattle.hba_driver.proofs.{modes.RowMode.{faultless_as, spares_as, started_mode}, issued.ServedLemmas.turns_serve}
+use Rattle.hba_driver.proofs.{goes_on.StopLemmas.{either, nothing_stops}, modes.SwitchLemmas.sight_is}
 
 -- ---- bit HBFS, 29, of PxIS
 
@@ -82,7 +51,6 @@ calm_same old new same is = subst IsCalm (sym same) is
 
 cause_none : (c : DeviceCause) → NoFatal (device_interrupts c)
 cause_none cause.TaskFile = refl
-cause_none cause.Overflow = refl
 cause_none c = refl
 
 fault_none : (f : Option Fault) → is_some (port_cause f) ≡ false → NoFatal (fault_interrupts f)
@@ -96,12 +64,10 @@ bit_low k false h = refl
 
 posted_none : (r : Registers) (dev : ℕ) (b : Bool) (o : Option Fis) → NoFatal r.interrupts → NoFatal (posted_of r dev b o).interrupts
 unfolding posted
-posted_none r dev b None h = h
 posted_none r dev b (Some (view.RegD2H f)) h = or_none _ _ h (bit_low 0 _ refl)
 posted_none r dev b (Some (view.SetBits f)) h = or_none _ _ h (bit_low 3 _ refl)
 posted_none r dev b (Some (view.DmaSetup f)) h = or_none _ _ h (bit_low 2 _ refl)
-posted_none r dev b (Some (view.Unknown f)) h = h
-posted_none r dev b (Some fis) h = h
+posted_none r dev b other h = h
 
 settled_none : (r : Registers) (h : Heard) → is_some (port_cause h.fault) ≡ false → NoFatal r.interrupts → NoFatal (settled r h).interrupts
 unfolding settled

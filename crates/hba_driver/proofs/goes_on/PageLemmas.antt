@@ -1,53 +1,27 @@
 -- For `port_goes_on`. The table of slot 30 stays as it was written while a page is awaited there.
 use Rattle.std.proofs.Common.{◌≡◌, ℕ, ◌+◌, ◌*◌, ◌<◌, ◌≤◌, ◌⊎◌, Bool, true, false, ◌&&◌, nat_lt, List, [], ◌∷◌, length, replicate, refl, sym, ◌∙◌, ap, subst, inl, inr, arith, Option, Some, None}
-use Rattle.std.specs.Prelude.{◌||◌, ◌==◌, ◌%◌, if◌then◌else◌, not, slice_index, slice_set}
-use Rattle.std.specs.List.{list_all}
-use Rattle.std.proofs.lemmas.Bool.{cases_Bool, false≢true, le-ltb, true≢false}
-use Rattle.std.proofs.lemmas.List.{length-replicate}
-use Rattle.fis_view.specs.Seen.{seen as seen_in}
-use Rattle.fis_view.specs.declared.build.H2dFields.{H2dFields}
-use Rattle.host_memory.specs.Memory.{IsHostMemory, Memory}
-use Rattle.host_memory.specs.Reading.{read_fault}
+use Rattle.std.specs.{Prelude.{◌||◌, ◌==◌, ◌%◌, if◌then◌else◌, not, slice_index, slice_set}, List.list_all}
+use Rattle.std.proofs.lemmas.{Bool.{cases_Bool, false≢true, le-ltb, true≢false}, List.length-replicate}
+use Rattle.fis_view.specs.{Seen.seen as seen_in, declared.build.H2dFields.H2dFields}
+use Rattle.host_memory.specs.{Memory.{IsHostMemory, Memory}, Reading.read_fault, declared.table.PrdError.PrdError}
 use Rattle.host_memory.proofs.Door.{says_the_same}
-use Rattle.hba_fbs.specs.declared.report.TakeReport.{TakeReport}
-use Rattle.hba_fbs.specs.Taking.{admitted, ignores, port_of, row_for}
-use Rattle.hba_fbs.specs.Views.{Port}
+use Rattle.hba_fbs.specs.{declared.report.TakeReport.TakeReport, Taking.{admitted, ignores, port_of, row_for}, Views.Port}
 use Rattle.slots.specs.Slots.{match_some}
-use Rattle.host_memory.specs.declared.table.PrdError.{PrdError}
-use Rattle.hba_commands.specs.Commands.{total_if_sound}
-use Rattle.hba_commands.specs.Writing.{total_if_usable}
-use Rattle.hba_driver.specs.declared.effect.Effect.{Effect}
-use Rattle.hba_driver.specs.declared.effect.Effect.TheVariants as effect
-use Rattle.hba_driver.specs.declared.mode.Mode.TheVariants.{Switching}
-use Rattle.hba_driver.specs.declared.order.Order.{Order}
-use Rattle.hba_driver.specs.declared.order.Order.TheVariants.{Clear}
-use Rattle.hba_driver.specs.declared.path.Path.{Path}
-use Rattle.hba_driver.specs.declared.path.Stage.{Stage}
-use Rattle.hba_driver.specs.declared.path.Stage.TheVariants.{Identify, ReadLog}
-use Rattle.hba_driver.specs.declared.path.TaskFile.{TaskFile}
-use Rattle.hba_driver.specs.declared.plan.Plan.{Plan}
-use Rattle.hba_driver.specs.Seeing.{Sight}
-use Rattle.hba_driver.specs.declared.turn.Act.{Act}
-use Rattle.hba_driver.specs.declared.turn.Act.TheVariants as act
-use Rattle.hba_driver.specs.Drivers.{Driver, Entry}
+use Rattle.hba_commands.specs.{Commands.total_if_sound, Writing.total_if_usable}
+use Rattle.hba_driver.specs.declared.{effect.Effect.Effect, mode.Mode.TheVariants.Switching, order.Order.{Order, TheVariants.Clear}, path.Path.Path}
+use Rattle.hba_driver.specs.{declared.{path.Stage.{Stage, TheVariants.{Identify, ReadLog}}, path.TaskFile.TaskFile, plan.Plan.Plan}, Seeing.Sight}
+use Rattle.hba_driver.specs.{declared.turn.Act.Act, Drivers.{Driver, Entry}}
 use Rattle.hba_driver.specs.Effects.{Acts, ActsAll, buffer_prd, effects_of, is_effect, issuing, prds_with, sending, stage_effects}
-use Rattle.hba_driver.specs.Events.{IsSoundHost}
-use Rattle.hba_driver.specs.HostTurns.{Does, Host, HostTurn, Took, Ticked, Submitted, Polled, sight_in}
-use Rattle.hba_driver.specs.Sights.{file_shown}
-use Rattle.hba_driver.specs.Submits.{after_poll, lowest_ended, next_slot}
-use Rattle.hba_driver.specs.Paths.{reads_page, stage_fields}
-use Rattle.hba_driver.specs.Ticks.{acted, after_tick, done_ended, due, effects_due, ordered, plan_after, seen, unless}
-use Rattle.hba_driver.specs.Turns.{turn_of}
+use Rattle.hba_driver.specs.{Events.IsSoundHost, HostTurns.{Does, Host, HostTurn, Took, Ticked, Submitted, Polled, sight_in}, Sights.file_shown}
+use Rattle.hba_driver.specs.{Submits.{after_poll, lowest_ended, next_slot}, Paths.{reads_page, stage_fields}}
+use Rattle.hba_driver.specs.{Ticks.{acted, after_tick, done_ended, due, effects_due, ordered, plan_after, seen, unless}, Turns.turn_of}
 use Rattle.hba_driver.specs.Between.{HasPage}
-use Rattle.hba_driver.proofs.ticks.DueLemmas.{goes_turn}
-use Rattle.hba_driver.proofs.calls.EffectLemmas.{issuing_pass, opens_pass, order_pass, restarts_pass}
-use Rattle.hba_driver.proofs.requests.HistoryLemmas.{free_below}
-use Rattle.hba_driver.proofs.delivery.InsideLemmas.{as_long}
-use Rattle.hba_driver.proofs.events.SoundLemmas.{sound_host}
+use Rattle.hba_driver.specs.declared.effect.Effect.TheVariants as effect
+use Rattle.hba_driver.specs.declared.turn.Act.TheVariants as act
+use Rattle.hba_driver.proofs.{ticks.DueLemmas.goes_turn, calls.EffectLemmas.{issuing_pass, opens_pass, order_pass, restarts_pass}}
+use Rattle.hba_driver.proofs.{requests.HistoryLemmas.free_below, delivery.InsideLemmas.as_long, events.SoundLemmas.sound_host}
 use Rattle.hba_driver.proofs.requests.StandLemmas.{Same, both, few_prds, lt_of, posted_beside, runs, same_beside, same_written}
-use Rattle.hba_driver.proofs.goes_on.StopLemmas.{either}
-use Rattle.hba_driver.proofs.calls.SubmitLemmas.{is_taken}
-use Rattle.hba_driver.proofs.modes.SwitchLemmas.{tick_acts, tick_possible}
+use Rattle.hba_driver.proofs.{goes_on.StopLemmas.either, calls.SubmitLemmas.is_taken, modes.SwitchLemmas.{tick_acts, tick_possible}}
 
 -- ---- a path that waits was there before
 

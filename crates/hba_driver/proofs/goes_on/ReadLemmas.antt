@@ -2,27 +2,14 @@
 use Rattle.std.proofs.Common.{◌≡◌, ℕ, zero, suc, ◌+◌, ◌*◌, ◌<◌, ◌≤◌, ◌⊎◌, Bool, true, false, ◌&&◌, List, length, refl, sym, ◌∙◌, ap, subst, inl, inr, arith, Option, Some, None}
 use Rattle.std.specs.Prelude.{◌==◌, if◌then◌else◌, is_none, is_some}
 use Rattle.std.proofs.lemmas.Bool.{false≢true, eq-eqb, le-ltb}
-use Rattle.host_memory.specs.Place.{total_of}
-use Rattle.host_memory.specs.Reading.{prds_at, read_fault}
-use Rattle.host_memory.specs.declared.table.Prd.{Prd}
-use Rattle.host_memory.specs.declared.table.PrdError.{PrdError}
-use Rattle.hba_commands.specs.declared.command.Command.{Command}
-use Rattle.hba_commands.specs.Commands.{total_if_sound}
-use Rattle.slots.specs.Slots.{Issue, match_some, own_issue, slots_of}
-use Rattle.slots.specs.declared.work.Work.{Work}
-use Rattle.hba_fbs.specs.Tables.{is_readable, prds_of, sound_command}
-use Rattle.hba_fbs.specs.Views.{last_command}
-use Rattle.hba_laws.specs.Client.{own}
-use Rattle.hba_laws.specs.Delivering.{HaveTables}
-use Rattle.hba_laws.specs.History.{Transfer, issued}
+use Rattle.host_memory.specs.{Place.total_of, Reading.{prds_at, read_fault}, declared.{table.Prd.Prd, table.PrdError.PrdError}}
+use Rattle.hba_commands.specs.{declared.command.Command.Command, Commands.total_if_sound}
+use Rattle.slots.specs.{Slots.{Issue, match_some, own_issue, slots_of}, declared.work.Work.Work}
+use Rattle.hba_fbs.specs.{Tables.{is_readable, prds_of, sound_command}, Views.last_command}
+use Rattle.hba_laws.specs.{Client.own, Delivering.HaveTables, History.{Transfer, issued}}
 use Rattle.hba_laws.proofs.Door.{is_own, own_below, own_in, the, the_transfer}
-use Rattle.hba_driver.specs.Effects.{prds_with, table_of}
-use Rattle.hba_driver.specs.Events.{shared_by}
-use Rattle.hba_driver.specs.HostTurns.{Host}
-use Rattle.hba_driver.specs.Paths.{reads_page}
-use Rattle.hba_driver.specs.Served.{IsIssueOf, IsOrdered, IsRequest, IsStep}
-use Rattle.hba_driver.specs.Going.{CanBeRead}
-use Rattle.hba_driver.specs.Between.{HasPage, IsOnWay}
+use Rattle.hba_driver.specs.{Effects.{prds_with, table_of}, Events.shared_by, HostTurns.Host, Paths.reads_page}
+use Rattle.hba_driver.specs.{Served.{IsIssueOf, IsOrdered, IsRequest, IsStep}, Going.CanBeRead, Between.{HasPage, IsOnWay}}
 
 counted : (s : List ℕ) (at n : ℕ) → length (prds_at s at n) ≡ n
 counted s at zero = refl

@@ -1,27 +1,15 @@
 -- For `turns_serve`. What is issued is apart, and what is put leaves it alone.
 use Rattle.std.proofs.Common.{◌≡◌, ℕ, ◌+◌, ◌<◌, ◌≤◌, Bool, true, false, List, [], ◌∷◌, ◌++◌, refl, sym, ◌∙◌, ap, inl, inr, arith, Option, Some, None}
-use Rattle.std.specs.Prelude.{◌&&◌, ◌||◌, nat_lt}
-use Rattle.std.specs.List.{list_any}
-use Rattle.std.proofs.lemmas.Bool.{cases_Bool, cases_eq, false≢true, or_parts, true≢false}
-use Rattle.std.proofs.lemmas.Bool.Decides.{nat_tests}
-use Rattle.host_memory.specs.Memory.{client_start}
-use Rattle.host_memory.specs.Place.{place, total_of}
-use Rattle.host_memory.specs.Reading.{have_overlap, share_with}
-use Rattle.host_memory.specs.declared.table.Prd.{Prd}
+use Rattle.std.specs.{Prelude.{◌&&◌, ◌||◌, nat_lt}, List.list_any}
+use Rattle.std.proofs.lemmas.{Bool.{cases_Bool, cases_eq, false≢true, or_parts, true≢false}, Bool.Decides.nat_tests}
+use Rattle.host_memory.specs.{Memory.client_start, Place.{place, total_of}, Reading.{have_overlap, share_with}, declared.table.Prd.Prd}
 use Rattle.host_memory.proofs.Door.{apart_from_overlap, list_any-true, place_has, place_injective, share_with-true}
-use Rattle.hba_laws.specs.Client.{AreApart, AreOne, By, IsKept, IsSpared, Touches, is_in}
-use Rattle.hba_laws.specs.Delivering.{by_device}
-use Rattle.hba_laws.specs.History.{Event, Transfer, issued}
+use Rattle.hba_laws.specs.{Client.{AreApart, AreOne, By, IsKept, IsSpared, Touches, is_in}, Delivering.by_device, History.{Event, Transfer, issued}}
 use Rattle.hba_laws.specs.History as h
-use Rattle.hba_driver.specs.Drivers.{AreRequests, Driver, Entry, entry_at, is_read}
-use Rattle.hba_driver.specs.declared.path.Path.{Path}
-use Rattle.hba_driver.specs.Effects.{prds_with, buffer_prd}
-use Rattle.hba_driver.specs.Requests.{in_use, is_among, is_used_by, share_bytes}
-use Rattle.hba_driver.specs.Paths.{reads_page}
-use Rattle.hba_driver.specs.Served.{AreBounded, IsIssueOf, IsRequest, IsStep, IssuesAreRequests}
-use Rattle.hba_driver.specs.Between.{From}
-use Rattle.hba_driver.proofs.requests.StandLemmas.{in_slots}
-use Rattle.hba_driver.proofs.calls.SubmitLemmas.{none_conflict}
+use Rattle.hba_driver.specs.{Drivers.{AreRequests, Driver, Entry, entry_at, is_read}, declared.path.Path.Path, Effects.{prds_with, buffer_prd}}
+use Rattle.hba_driver.specs.{Requests.{in_use, is_among, is_used_by, share_bytes}, Paths.reads_page}
+use Rattle.hba_driver.specs.{Served.{AreBounded, IsIssueOf, IsRequest, IsStep, IssuesAreRequests}, Between.From}
+use Rattle.hba_driver.proofs.{requests.StandLemmas.in_slots, calls.SubmitLemmas.none_conflict}
 
 -- ---- places
 

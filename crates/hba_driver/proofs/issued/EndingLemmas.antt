@@ -1,52 +1,27 @@
 -- For `turns_serve`. After the two acts that end a fault, everything that is issued is still the driver's.
 use Rattle.std.proofs.Common.{◌≡◌, ◌≢◌, ℕ, ◌+◌, ◌*◌, ◌/◌, ◌<◌, ◌≤◌, Bool, true, false, ◌&&◌, nat_lt, List, [], ◌∷◌, ◌++◌, length, refl, sym, ◌∙◌, ap, subst, inl, inr, arith, Option, Some, None}
-use Rattle.std.specs.Prelude.{if◌then◌else◌, not, ◌%◌, ◌==◌}
-use Rattle.std.specs.List.{list_all}
-use Rattle.std.specs.Option.{option_or}
-use Rattle.std.proofs.lemmas.Bool.{false≢true, lt-ltb, ne_eqb}
-use Rattle.std.proofs.lemmas.List.{length-map, length-set}
-use Rattle.std.proofs.lemmas.Nat.Bits.{bit_at-suc, bit_at_lowest}
+use Rattle.std.specs.{Prelude.{if◌then◌else◌, not, ◌%◌, ◌==◌}, List.list_all, Option.option_or}
+use Rattle.std.proofs.lemmas.{Bool.{false≢true, lt-ltb, ne_eqb}, List.{length-map, length-set}, Nat.Bits.{bit_at-suc, bit_at_lowest}}
 use Rattle.host_memory.specs.Memory.{IsHostMemory, Memory}
-use Rattle.port_errors.specs.declared.cause.Stop.{Stop}
-use Rattle.port_errors.specs.Errors.{Errors, cleared_device, named_by, shown as errors_shown}
+use Rattle.port_errors.specs.{declared.cause.Stop.Stop, Errors.{Errors, cleared_device, named_by, shown as errors_shown}}
 use Rattle.slots.specs.Slots.{has_bit}
-use Rattle.hba_fbs.specs.Bits.{bit, dec, en}
-use Rattle.hba_fbs.specs.declared.register.Register.TheVariants.{Is, Cmd, Fbs}
-use Rattle.hba_fbs.specs.declared.registers.Registers.{Registers}
-use Rattle.hba_fbs.specs.Offsets.{register_at}
-use Rattle.hba_fbs.specs.Reading.{fbs_errors, value_of}
-use Rattle.hba_fbs.specs.Registers.{cmd_refusal, falls, own_refusal, running_if, written}
-use Rattle.hba_fbs.specs.Views.{Port}
-use Rattle.hba_fbs.specs.Writing.{Accepts, cleared_by, errors_after, slots_refusal, write_refusal}
-use Rattle.hba_laws.specs.Client.{Stops, Touches, own}
-use Rattle.hba_laws.specs.Delivering.{touched_by_clear}
-use Rattle.hba_laws.specs.History.{Transfer, issued}
+use Rattle.hba_fbs.specs.{Bits.{bit, dec, en}, declared.{register.Register.TheVariants.{Is, Cmd, Fbs}, registers.Registers.Registers}}
+use Rattle.hba_fbs.specs.{Offsets.register_at, Reading.{fbs_errors, value_of}, Registers.{cmd_refusal, falls, own_refusal, running_if, written}}
+use Rattle.hba_fbs.specs.{Views.Port, Writing.{Accepts, cleared_by, errors_after, slots_refusal, write_refusal}}
+use Rattle.hba_laws.specs.{Client.{Stops, Touches, own}, Delivering.touched_by_clear, History.{Transfer, issued}, Hosts.HostEvent}
 use Rattle.hba_laws.specs.Hosts as event
-use Rattle.hba_laws.specs.Hosts.{HostEvent}
 use Rattle.hba_laws.proofs.Door.{some_inj}
-use Rattle.hba_driver.specs.declared.mode.Mode.{Mode}
-use Rattle.hba_driver.specs.declared.mode.Mode.TheVariants.{Switching, CommandBased}
-use Rattle.hba_driver.specs.declared.effect.Effect.TheVariants as effect
-use Rattle.hba_driver.specs.declared.path.Path.{Path}
-use Rattle.hba_driver.specs.declared.path.TaskFile.{TaskFile}
-use Rattle.hba_driver.specs.declared.plan.Plan.{Plan}
-use Rattle.hba_driver.specs.declared.request.Outcome.TheVariants.{PortError}
-use Rattle.hba_driver.specs.Seeing.{Sight}
-use Rattle.hba_driver.specs.declared.slot.Phase.TheVariants.{Aside, Ended}
-use Rattle.hba_driver.specs.declared.turn.Act.{Act}
-use Rattle.hba_driver.specs.declared.turn.Act.TheVariants as act
-use Rattle.hba_driver.specs.Drivers.{Driver, Entry, IsPath, entry_at, has_ended, rephase, rephase_all, rephased}
+use Rattle.hba_driver.specs.declared.{mode.Mode.{Mode, TheVariants.{Switching, CommandBased}}, path.Path.Path, path.TaskFile.TaskFile, plan.Plan.Plan}
+use Rattle.hba_driver.specs.{declared.request.Outcome.TheVariants.PortError, Seeing.Sight, declared.slot.Phase.TheVariants.{Aside, Ended}}
+use Rattle.hba_driver.specs.{declared.turn.Act.Act, Drivers.{Driver, Entry, IsPath, entry_at, has_ended, rephase, rephase_all, rephased}}
 use Rattle.hba_driver.specs.Effects.{Acts, ActsAll, IsRuled, clearing, effects_of, is_effect}
-use Rattle.hba_driver.specs.Events.{IsSoundHostIn, events_of_effect, events_of_effects}
-use Rattle.hba_driver.specs.HostTurns.{Host, sight_in}
-use Rattle.hba_driver.specs.Modes.{is_switching}
-use Rattle.hba_driver.specs.Paths.{reset_if_there}
-use Rattle.hba_driver.specs.Sights.{faulty_in, px_cmd, px_fbs, px_is, shown, sight_of}
-use Rattle.hba_driver.specs.Ticks.{acted, cleared_plan, done_ended, effects_due, entries_after, from_reset, is_open, is_open_of, plan_after, recovering, stopped_plan, turn}
-use Rattle.hba_driver.specs.Between.{Due, From, MayClear, MayEnd, MayStop, Runs, beside}
-use Rattle.hba_driver.proofs.events.DrivenLemmas.{not_below}
-use Rattle.hba_driver.proofs.ticks.DueLemmas.{due_turn, runs_turn}
-use Rattle.hba_driver.proofs.events.EventLemmas.{same_sizes, sound_beside}
+use Rattle.hba_driver.specs.{Events.{IsSoundHostIn, events_of_effect, events_of_effects}, HostTurns.{Host, sight_in}, Modes.is_switching}
+use Rattle.hba_driver.specs.{Paths.reset_if_there, Sights.{faulty_in, px_cmd, px_fbs, px_is, shown, sight_of}}
+use Rattle.hba_driver.specs.Ticks.{acted, cleared_plan, done_ended, effects_due, entries_after, from_reset, is_open, is_open_of, plan_after}
+use Rattle.hba_driver.specs.{Ticks.{recovering, stopped_plan, turn}, Between.{Due, From, MayClear, MayEnd, MayStop, Runs, beside}}
+use Rattle.hba_driver.specs.declared.effect.Effect.TheVariants as effect
+use Rattle.hba_driver.specs.declared.turn.Act.TheVariants as act
+use Rattle.hba_driver.proofs.{events.DrivenLemmas.not_below, ticks.DueLemmas.{due_turn, runs_turn}, events.EventLemmas.{same_sizes, sound_beside}}
 use Rattle.hba_driver.proofs.requests.HistoryLemmas.{back_of}
 use Rattle.hba_driver.proofs.ticks.LifeLemmas.{entry_of_rephased, keeps_set_aside, keeps_stopped, length_of_rephased}
 use Rattle.hba_driver.proofs.issued.ServingLemmas.{Follows, Goes, first_goes, from_moves, not_flushed, taken_goes, write_goes}
@@ -300,12 +275,9 @@ each_act D d v file fs c mode other old new before after may due drives ours rul
 -- ---- an act that ends a fault is due only while the port runs
 
 may_of : (mode : Mode) (h : Host) (plan : Plan) (entries : List (Option Entry)) (a : Option Act) → IsSoundHostIn mode h → Due (sight_in h) plan entries a → Runs h.driver.plan a → MayEnd mode a h.port
-may_of mode h plan entries None s due runs = tt
-may_of mode h plan entries (Some (act.Opens k)) s due runs = tt
 may_of mode h plan entries (Some act.Stops) s due runs =
     let opened : 7 ≤ h.driver.plan.opened = not_below h.driver.plan.opened 7 runs.0 in
     record { receives = s.registers.receives (omega (arith, opened)); started = s.registers.starts opened (not_below h.driver.plan.restarted 2 runs.1) }
-may_of mode h plan entries (Some (act.Restarts k)) s due runs = tt
 may_of mode h plan entries (Some (act.Clears dev)) s due runs =
     let shown_is = faulty_is h.driver.plan.mode h.port h.memory dev s.ruled due in
     let on : mode ≡ Switching = sym s.drives ∙ shown_is.0 in (
@@ -316,7 +288,6 @@ may_of mode h plan entries (Some (act.Clears dev)) s due runs =
         faulty = shown_is.1.0;
       },
     )
-may_of mode h plan entries (Some (act.Orders order)) s due runs = tt
 may_of mode h plan entries other s due runs = tt
 
 pub may_end : {mode : Mode} (h : Host) → IsSoundHostIn mode h → MayEnd mode (turn (sight_in h) h.driver).act h.port

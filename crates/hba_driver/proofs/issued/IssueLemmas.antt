@@ -1,36 +1,22 @@
 -- For `turns_serve`. After one event, everything that is issued is still the driver's.
 use Rattle.std.proofs.Common.{◌≡◌, ℕ, ◌+◌, ◌*◌, ◌<◌, ◌≤◌, true, List, [], ◌∷◌, ◌++◌, length, take, drop, refl, sym, ◌∙◌, ap, subst, inl, inr, arith, Option, Some, None}
-use Rattle.std.specs.Prelude.{MatchOption, is_some, slice_index}
-use Rattle.std.specs.Option.{option_map}
-use Rattle.std.proofs.lemmas.Bool.{cases_lt}
-use Rattle.std.proofs.lemmas.List.{ext_get_or, get_or-drop, get_or-take, get_or_past, length-drop, length-take}
-use Rattle.fis_view.specs.Built.{IsBuilt, h2d_given}
-use Rattle.fis_view.specs.Table.{H2d}
-use Rattle.host_memory.specs.Memory.{Memory}
-use Rattle.host_memory.specs.Reading.{AgreeFrom}
+use Rattle.std.specs.{Prelude.{MatchOption, is_some, slice_index}, Option.option_map}
+use Rattle.std.proofs.lemmas.{Bool.cases_lt, List.{ext_get_or, get_or-drop, get_or-take, get_or_past, length-drop, length-take}}
+use Rattle.fis_view.specs.{Built.{IsBuilt, h2d_given}, Table.H2d}
+use Rattle.host_memory.specs.{Memory.Memory, Reading.AgreeFrom}
 use Rattle.host_memory.proofs.Door.{says_the_same}
-use Rattle.hba_commands.specs.Commands.{cfis_at}
-use Rattle.hba_commands.specs.Requests.{request_at}
+use Rattle.hba_commands.specs.{Commands.cfis_at, Requests.request_at}
 use Rattle.hba_commands.proofs.Door.{header_same}
-use Rattle.slots.specs.Slots.{Issue, issue_at, own_issue, slots_of}
-use Rattle.slots.specs.Table.{IsIssue, IsTable}
+use Rattle.slots.specs.{Slots.{Issue, issue_at, own_issue, slots_of}, Table.{IsIssue, IsTable}}
 use Rattle.hba_fbs.specs.Views.{last_command}
-use Rattle.hba_laws.specs.Agreement.{AreHistoriesOf, work_of_issue, work_of_transfer}
-use Rattle.hba_laws.specs.Client.{IsKept, Touches, own}
-use Rattle.hba_laws.specs.Delivering.{AreSpared, IsFramed, SparesTables, touched, touches_after}
-use Rattle.hba_laws.specs.History.{Transfer, issued}
+use Rattle.hba_laws.specs.{Agreement.{AreHistoriesOf, work_of_issue, work_of_transfer}, Client.{IsKept, Touches, own}}
+use Rattle.hba_laws.specs.{Delivering.{AreSpared, IsFramed, SparesTables, touched, touches_after}, History.{Transfer, issued}}
+use Rattle.hba_laws.specs.{Hosts.{HostEvent, Runs}, Between.NoneIssues}
 use Rattle.hba_laws.specs.Hosts as event
-use Rattle.hba_laws.specs.Hosts.{HostEvent, Runs}
 use Rattle.hba_laws.specs.Sound as sound
-use Rattle.hba_laws.specs.Between.{NoneIssues}
 use Rattle.hba_laws.proofs.Door.{histories_step, own_here, own_in, the_transfer, was_there}
-use Rattle.hba_driver.specs.declared.mode.Mode.{Mode}
-use Rattle.hba_driver.specs.declared.mode.Mode.TheVariants.{Switching, CommandBased}
-use Rattle.hba_driver.specs.Drivers.{Driver, Entry}
-use Rattle.hba_driver.specs.Effects.{table_of}
-use Rattle.hba_driver.specs.Laws.{Stands}
-use Rattle.hba_driver.specs.Orders.{request_fields}
-use Rattle.hba_driver.specs.Served.{AreOfOne, HasCommand, HaveCommands, IsServed}
+use Rattle.hba_driver.specs.{declared.mode.Mode.{Mode, TheVariants.{Switching, CommandBased}}, Drivers.{Driver, Entry}, Effects.table_of, Laws.Stands}
+use Rattle.hba_driver.specs.{Orders.request_fields, Served.{AreOfOne, HasCommand, HaveCommands, IsServed}}
 
 -- ---- lists of events that serve
 

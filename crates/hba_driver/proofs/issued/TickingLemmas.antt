@@ -1,63 +1,42 @@
 -- For `turns_serve`. After a tick, everything that is issued is still the driver's.
 use Rattle.std.proofs.Common.{◌≡◌, ◌≢◌, ℕ, ◌+◌, ◌*◌, ◌^◌, ◌<◌, ◌⊎◌, Bool, true, false, ◌&&◌, List, [], ◌∷◌, ◌++◌, length, set, refl, sym, ◌∙◌, ap, subst, inl, inr, arith, Option, Some, None}
-use Rattle.std.specs.Prelude.{MatchOption, if◌then◌else◌, not, ◌%◌, ◌==◌}
-use Rattle.std.specs.List.{list_all}
-use Rattle.std.specs.Option.{option_map}
-use Rattle.std.proofs.lemmas.Bool.{cases_eq, false≢true, ne_eqb, true≢false}
-use Rattle.std.proofs.lemmas.List.{get_or-set_other, get_or-set_same, length-set}
+use Rattle.std.specs.{Prelude.{MatchOption, if◌then◌else◌, not, ◌%◌, ◌==◌}, List.list_all, Option.option_map}
+use Rattle.std.proofs.lemmas.{Bool.{cases_eq, false≢true, ne_eqb, true≢false}, List.{get_or-set_other, get_or-set_same, length-set}}
 use Rattle.fis_view.specs.declared.build.H2dFields.{H2dFields}
-use Rattle.host_memory.specs.Memory.{IsHostMemory, Memory}
-use Rattle.host_memory.specs.declared.table.Prd.{Prd}
+use Rattle.host_memory.specs.{Memory.{IsHostMemory, Memory}, declared.table.Prd.Prd}
 use Rattle.hba_commands.specs.Requests.{request_of, work_of}
 use Rattle.slots.specs.Slots.{match_some}
 use Rattle.slots.specs.Work as moved
 use Rattle.slots.specs.declared.work.Work as slot_work
-use Rattle.hba_fbs.specs.declared.register.Register.{Register}
-use Rattle.hba_fbs.specs.declared.registers.Registers.{Registers}
-use Rattle.hba_fbs.specs.Offsets.{register_at}
-use Rattle.hba_fbs.specs.Views.{Port}
-use Rattle.hba_laws.specs.History.{Transfer}
+use Rattle.hba_fbs.specs.{declared.{register.Register.Register, registers.Registers.Registers}, Offsets.register_at, Views.Port}
+use Rattle.hba_laws.specs.{History.Transfer, Hosts.HostEvent}
 use Rattle.hba_laws.specs.Hosts as event
-use Rattle.hba_laws.specs.Hosts.{HostEvent}
 use Rattle.hba_laws.proofs.Door.{some_inj}
-use Rattle.hba_driver.specs.declared.effect.Effect.{Effect}
-use Rattle.hba_driver.specs.declared.effect.Effect.TheVariants as effect
-use Rattle.hba_driver.specs.declared.mode.Mode.{Mode}
-use Rattle.hba_driver.specs.declared.mode.Mode.TheVariants.{Switching, CommandBased}
+use Rattle.hba_driver.specs.declared.{effect.Effect.Effect, mode.Mode.{Mode, TheVariants.{Switching, CommandBased}}}
 use Rattle.hba_driver.specs.declared.order.Order.{Order}
 use Rattle.hba_driver.specs.declared.order.Order.TheVariants.{ResetOn, ResetOff, AwaitSignature, CountPorts, SetMask, Enable, Open, Scan, Clear, Detect, Watch}
-use Rattle.hba_driver.specs.declared.path.Path.{Path}
-use Rattle.hba_driver.specs.declared.path.Stage.{Stage}
-use Rattle.hba_driver.specs.declared.path.Stage.TheVariants.{Identify, ReadLog, AssertReset, ReleaseReset}
-use Rattle.hba_driver.specs.declared.path.Stage.TheVariants as stage
-use Rattle.hba_driver.specs.declared.path.TaskFile.{TaskFile}
-use Rattle.hba_driver.specs.Seeing.{Sight}
-use Rattle.hba_driver.specs.declared.request.Outcome.TheVariants.{Aborted, Removed}
-use Rattle.hba_driver.specs.declared.request.Work.{Work}
-use Rattle.hba_driver.specs.declared.request.Work.TheVariants as work
-use Rattle.hba_driver.specs.declared.slot.Head.{Head}
-use Rattle.hba_driver.specs.declared.slot.Phase.{Phase}
-use Rattle.hba_driver.specs.declared.slot.Phase.TheVariants.{Issued, Aside, Ended}
-use Rattle.hba_driver.specs.declared.turn.Act.{Act}
-use Rattle.hba_driver.specs.declared.turn.Act.TheVariants as act
-use Rattle.hba_driver.specs.Drivers.{Driver, Entry, IsPath, entry_at, is_issued, is_issued_in, is_read, rephase, rephase_all, rephased, waits, waits_in}
-use Rattle.hba_driver.specs.Effects.{ActsAll, IsRuled, effects_of, is_effect, issuing, opening_write, opening_writes, order_command, order_effects, prds_with, restart_write, restart_writes, sending, stage_effects}
-use Rattle.hba_driver.specs.Events.{events_of_effect, events_of_effects}
-use Rattle.hba_driver.specs.Modes.{is_switching}
-use Rattle.hba_driver.specs.Orders.{control_port, order_fields, request_fields, work_fields}
-use Rattle.hba_driver.specs.Paths.{reads_page, stage_fields}
+use Rattle.hba_driver.specs.declared.{path.Path.Path, path.Stage.{Stage, TheVariants.{Identify, ReadLog, AssertReset, ReleaseReset}}}
+use Rattle.hba_driver.specs.{declared.path.TaskFile.TaskFile, Seeing.Sight, declared.request.Outcome.TheVariants.{Aborted, Removed}}
+use Rattle.hba_driver.specs.declared.{request.Work.Work, slot.Head.Head, slot.Phase.{Phase, TheVariants.{Issued, Aside, Ended}}, turn.Act.Act}
+use Rattle.hba_driver.specs.Drivers.{Driver, Entry, IsPath, entry_at, is_issued, is_issued_in, is_read, rephase, rephase_all, rephased, waits}
+use Rattle.hba_driver.specs.Drivers.{waits_in}
+use Rattle.hba_driver.specs.Effects.{ActsAll, IsRuled, effects_of, is_effect, issuing, opening_write, opening_writes, order_command, order_effects}
+use Rattle.hba_driver.specs.{Effects.{prds_with, restart_write, restart_writes, sending, stage_effects}, Events.{events_of_effect, events_of_effects}}
+use Rattle.hba_driver.specs.{Modes.is_switching, Orders.{control_port, order_fields, request_fields, work_fields}, Paths.{reads_page, stage_fields}}
 use Rattle.hba_driver.specs.Sights.{px_ci, px_fbs, px_sact, px_sntf}
 use Rattle.hba_driver.specs.Ticks.{acted, effects_due, entries_after, is_aside_of, is_open_of, plan_after, plan_without, removed, stage_ended, unless}
 use Rattle.hba_driver.specs.Between.{Due, From, IsFree, MayStep, Waiting, beside}
-use Rattle.hba_driver.proofs.events.DrivenLemmas.{SamePlace, en_chosen, place_effect}
-use Rattle.hba_driver.proofs.calls.EffectLemmas.{all_at}
-use Rattle.hba_driver.proofs.events.EventLemmas.{beside_same, same_sizes, sized_effect, sound_beside}
-use Rattle.hba_driver.proofs.requests.HistoryLemmas.{back_of}
+use Rattle.hba_driver.specs.declared.effect.Effect.TheVariants as effect
+use Rattle.hba_driver.specs.declared.path.Stage.TheVariants as stage
+use Rattle.hba_driver.specs.declared.request.Work.TheVariants as work
+use Rattle.hba_driver.specs.declared.turn.Act.TheVariants as act
+use Rattle.hba_driver.proofs.{events.DrivenLemmas.{SamePlace, en_chosen, place_effect}, calls.EffectLemmas.all_at}
+use Rattle.hba_driver.proofs.{events.EventLemmas.{beside_same, same_sizes, sized_effect, sound_beside}, requests.HistoryLemmas.back_of}
 use Rattle.hba_driver.proofs.issued.IssuingLemmas.{MayIssue, Standing}
 use Rattle.hba_driver.proofs.ticks.LifeLemmas.{entry_of_rephased, keeps_removed, keeps_staged, length_of_rephased, length_staged}
 use Rattle.hba_driver.proofs.calls.RequestLemmas.{set_cases}
-use Rattle.hba_driver.proofs.issued.ServingLemmas.{Follows, Goes, ci_goes, command_goes, empties_goes, first_goes, flush_goes, from_moves, is_ci, moves_goes, write_goes}
-use Rattle.hba_driver.proofs.requests.StandLemmas.{both, lt_of}
+use Rattle.hba_driver.proofs.issued.ServingLemmas.{Follows, Goes, ci_goes, command_goes, empties_goes, first_goes, flush_goes, from_moves, is_ci}
+use Rattle.hba_driver.proofs.{issued.ServingLemmas.{moves_goes, write_goes}, requests.StandLemmas.{both, lt_of}}
 
 -- ---- lists of effects
 
@@ -260,24 +239,6 @@ order_act : (D d : Driver) (file : TaskFile) (fs : List HostEvent) (c : event.Ho
     → list_all is_effect (order_effects mode order) ≡ true → (acts : ActsAll (order_effects mode order) old before new after) → Goes D (acted (Some (act.Orders order)) file d) fs c (beside new after)
     → Goes D d (events_of_effects (order_effects mode order) old before new after acts ++ fs) c (beside old before)
 unfolding order_effects plan_after entries_after ActsAll events_of_effects register_at cleared
-order_act D d file fs c mode ResetOn old new before after free ours drives ruled m is acts go =
-    order_goes D d _ fs c mode (order_fields ResetOn) old new before after (port_of_order ResetOn) free (asks d) ours drives ruled m acts go
-order_act D d file fs c mode ResetOff old new before after free ours drives ruled m is acts go =
-    order_goes D d _ fs c mode (order_fields ResetOff) old new before after (port_of_order ResetOff) free (asks d) ours drives ruled m acts go
-order_act D d file fs c mode AwaitSignature old new before after free ours drives ruled m is acts go =
-    order_goes D d _ fs c mode (order_fields AwaitSignature) old new before after (port_of_order AwaitSignature) free (asks d) ours drives ruled m acts go
-order_act D d file fs c mode CountPorts old new before after free ours drives ruled m is acts go =
-    order_goes D d _ fs c mode (order_fields CountPorts) old new before after (port_of_order CountPorts) free (asks d) ours drives ruled m acts go
-order_act D d file fs c mode SetMask old new before after free ours drives ruled m is acts go =
-    order_goes D d _ fs c mode (order_fields SetMask) old new before after (port_of_order SetMask) free (asks d) ours drives ruled m acts go
-order_act D d file fs c mode Enable old new before after free ours drives ruled m is acts go =
-    order_goes D d _ fs c mode (order_fields Enable) old new before after (port_of_order Enable) free (asks d) ours drives ruled m acts go
-order_act D d file fs c mode (Open port) old new before after free ours drives ruled m is acts go =
-    order_goes D d _ fs c mode (order_fields (Open port)) old new before after (port_of_order (Open port)) free (asks d) ours drives ruled m acts go
-order_act D d file fs c mode (Detect port) old new before after free ours drives ruled m is acts go =
-    order_goes D d _ fs c mode (order_fields (Detect port)) old new before after (port_of_order (Detect port)) free (asks d) ours drives ruled m acts go
-order_act D d file fs c mode Watch old new before after free ours drives ruled m is acts go =
-    order_goes D d _ fs c mode (order_fields Watch) old new before after (port_of_order Watch) free (asks d) ours drives ruled m acts go
 order_act D d file fs c mode Scan old new before after free ours drives ruled m is acts go =
     let place = place_effect mode (effect.Writes px_sntf 32768) old acts.0 before acts.1 refl acts.2 in
     let effects : List Effect = order_command mode Scan in
@@ -308,6 +269,8 @@ order_act D d file fs c CommandBased (Clear port) old new before after free ours
     let es : List HostEvent = events_of_effects effects acts.0 acts.1 new after acts.4 in
     first_goes D d fs c (beside old before) (events_of_effect (effect.Flushes port) old before acts.1) es
     (flush_goes D d (cleared port d) (es ++ fs) c port old acts.0 before acts.1 (cleared_follows port d) (cleared_moves port d) (sound_beside old before ruled m) acts.2 second)
+order_act D d file fs c mode other old new before after free ours drives ruled m is acts go =
+    order_goes D d _ fs c mode (order_fields other) old new before after (port_of_order other) free (asks d) ours drives ruled m acts go
 
 -- ---- the command of a stage, for a device
 
@@ -536,7 +499,6 @@ plain_goes D d fs c (effect.Writes offset value) old new before after is ruled m
     first_goes D d fs c (beside old before) (events_of_effect (effect.Writes offset value) old before acts.1) []
     (write_goes D d fs c offset value old acts.0 before acts.1 (not_ci (register_at offset) is) (sound_beside old before ruled m) acts.2
     (subst (λ (h : event.Host). Goes D d fs c h) (beside_same acts.0 new acts.1 after acts.4.0 acts.4.1) go))
-plain_goes D d fs c (effect.Flushes dev) old new before after is ruled m acts go = absurd (false≢true is)
 plain_goes D d fs c other old new before after is ruled m acts go = absurd (false≢true is)
 
 opening_act : (D d : Driver) (file : TaskFile) (fs : List HostEvent) (c : event.Host) (mode : Mode) (k : ℕ) (old new : Port) (before after : Memory) → IsRuled old → IsHostMemory before → (acts : ActsAll (opening_write mode k ∷ []) old before new after)

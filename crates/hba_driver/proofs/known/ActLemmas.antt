@@ -1,15 +1,10 @@
 -- For `devices_are_known`. What an act does to the command of slot 30: only a stage of a path issues one there.
 use Rattle.std.proofs.Common.{◌≡◌, ◌≢◌, ℕ, Bool, true, false, refl, sym, ap, arith}
-use Rattle.std.specs.Prelude.{not}
-use Rattle.std.specs.List.{list_all}
+use Rattle.std.specs.{Prelude.not, List.list_all}
 use Rattle.hba_fbs.specs.Offsets.{register_at}
-use Rattle.hba_driver.specs.declared.mode.Mode.TheVariants.{Switching}
-use Rattle.hba_driver.specs.declared.path.Stage.{Stage}
-use Rattle.hba_driver.specs.declared.turn.Act.{Act}
+use Rattle.hba_driver.specs.{declared.{mode.Mode.TheVariants.Switching, path.Stage.Stage, turn.Act.Act}, Effects.{effects_of, issuing}}
 use Rattle.hba_driver.specs.declared.turn.Act.TheVariants as act
-use Rattle.hba_driver.specs.Effects.{effects_of, issuing}
-use Rattle.hba_driver.proofs.known.AwaitLemmas.{keeps_here}
-use Rattle.hba_driver.proofs.calls.EffectLemmas.{issuing_pass, opens_pass, order_pass, restarts_pass}
+use Rattle.hba_driver.proofs.{known.AwaitLemmas.keeps_here, calls.EffectLemmas.{issuing_pass, opens_pass, order_pass, restarts_pass}}
 use Rattle.hba_driver.proofs.issued.IssuingLemmas.{bit_other}
 
 -- ---- effects that issue nothing in slot 30

@@ -6,14 +6,9 @@ use Rattle.std.specs.Prelude.{◌%◌, slice_index}
 use Rattle.std.proofs.lemmas.Bool.{true_from_ne_false}
 use Rattle.fis_view.specs.Frames.{Stamped}
 use Rattle.host_memory.specs.Memory.{IsHostMemory, Memory}
-use Rattle.hba_driver.specs.Events.{opening_host}
-use Rattle.hba_driver.specs.HostTurns.{Does, Host, HostTurn, Pushed}
-use Rattle.hba_driver.specs.Known.{is_request, known_after}
-use Rattle.hba_driver.specs.Between.{IsAsking}
-use Rattle.hba_driver.proofs.accepted.AcceptLemmas.{way_opens, way_turn}
-use Rattle.hba_driver.proofs.addresses.AddressLemmas.{none_issued, turn_addressed, turn_their}
-use Rattle.hba_driver.proofs.known.KnownRuns.{known_turn, opening_unknown}
-use Rattle.hba_driver.proofs.known.PushedLemmas.{opening_plain, plain_turn, request_known}
+use Rattle.hba_driver.specs.{Events.opening_host, HostTurns.{Does, Host, HostTurn, Pushed}, Known.{is_request, known_after}, Between.IsAsking}
+use Rattle.hba_driver.proofs.{accepted.AcceptLemmas.{way_opens, way_turn}, addresses.AddressLemmas.{none_issued, turn_addressed, turn_their}}
+use Rattle.hba_driver.proofs.known.{KnownRuns.{known_turn, opening_unknown}, PushedLemmas.{opening_plain, plain_turn, request_known}}
 
 pub asking_opens : (n given : ℕ) (start : Memory) → IsHostMemory start → IsAsking n false (opening_host given start)
 asking_opens n given start size = record {

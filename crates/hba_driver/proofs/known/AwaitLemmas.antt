@@ -1,44 +1,26 @@
 -- For `devices_are_known`. While slot 30 awaits the data of an IDENTIFY DEVICE, and none has come, it still does so
 -- after each turn.
 use Rattle.std.proofs.Common.{◌≡◌, ℕ, Bool, true, false, ◌&&◌, List, [], ◌∷◌, length, refl, sym, ◌∙◌, ap, subst, inl, inr, arith, Option, Some, None}
-use Rattle.std.specs.Prelude.{if◌then◌else◌, ◌==◌, not}
-use Rattle.std.specs.List.{list_all}
-use Rattle.std.specs.Option.{option_or}
-use Rattle.std.proofs.lemmas.Bool.{cases_eq, cases_lt, eq-eqb, eqb-true, false≢true, true≢false}
-use Rattle.std.proofs.lemmas.List.{get_or_past}
+use Rattle.std.specs.{Prelude.{if◌then◌else◌, ◌==◌, not}, List.list_all, Option.option_or}
+use Rattle.std.proofs.lemmas.{Bool.{cases_eq, cases_lt, eq-eqb, eqb-true, false≢true, true≢false}, List.get_or_past}
 use Rattle.std.proofs.lemmas.List.FromFn.{get_or-map-range_with_len, length-map-range_with_len}
-use Rattle.fis_view.specs.Frames.{Stamped}
-use Rattle.fis_view.specs.Seen.{seen}
-use Rattle.fis_view.specs.declared.view.Fis.{Fis}
+use Rattle.fis_view.specs.{Frames.Stamped, Seen.seen, declared.view.Fis.Fis}
 use Rattle.host_memory.specs.Memory.{Memory}
-use Rattle.hba_commands.specs.declared.command.Command.{Command}
-use Rattle.hba_commands.specs.Commands.{command_at}
+use Rattle.hba_commands.specs.{declared.command.Command.Command, Commands.command_at}
 use Rattle.rx_area.specs.declared.area.Posted.{Posted}
-use Rattle.slots.specs.Slots.{has_bit, match_some, slots_of}
-use Rattle.slots.specs.Table.{IsTable}
+use Rattle.slots.specs.{Slots.{has_bit, match_some, slots_of}, Table.IsTable}
 use Rattle.hba_fbs.specs.declared.error.WriteError.TheVariants as refusal
-use Rattle.hba_fbs.specs.declared.hearing.Heard.{Heard}
-use Rattle.hba_fbs.specs.declared.register.Register.{Register}
-use Rattle.hba_fbs.specs.declared.register.Register.TheVariants.{Ci}
-use Rattle.hba_fbs.specs.declared.report.TakeReport.{TakeReport}
-use Rattle.hba_fbs.specs.declared.report.Wrote.{Wrote}
-use Rattle.hba_fbs.specs.Issuing.{asked, commands_with}
-use Rattle.hba_fbs.specs.Offsets.{register_at}
-use Rattle.hba_fbs.specs.Sending.{Outgoing, outgoing}
-use Rattle.hba_fbs.specs.Sending as out
+use Rattle.hba_fbs.specs.declared.{hearing.Heard.Heard, register.Register.{Register, TheVariants.Ci}, report.TakeReport.TakeReport}
+use Rattle.hba_fbs.specs.{declared.report.Wrote.Wrote, Issuing.{asked, commands_with}, Offsets.register_at, Sending.{Outgoing, outgoing}}
 use Rattle.hba_fbs.specs.Tables.{is_sound}
 use Rattle.hba_fbs.specs.Taking.{admitted, heard, heard_now, heard_report, heard_view, ignores, place_in, port_of, row_for, wrote_by}
-use Rattle.hba_fbs.specs.Views.{DeviceView, Port, last_command, view_of}
-use Rattle.hba_fbs.specs.Writing.{commands_after, refusal_of, write_refusal}
+use Rattle.hba_fbs.specs.{Views.{DeviceView, Port, last_command, view_of}, Writing.{commands_after, refusal_of, write_refusal}}
+use Rattle.hba_fbs.specs.Sending as out
 use Rattle.hba_laws.proofs.Door.{data_is_own, is_own}
-use Rattle.hba_driver.specs.declared.effect.Effect.{Effect}
+use Rattle.hba_driver.specs.{declared.effect.Effect.Effect, Effects.{Acts, ActsAll, Tries}, HostTurns.{Host, Pushes, Took, Tooks}}
+use Rattle.hba_driver.specs.{Known.{identifies, is_identify, is_identity}, Between.{IsAwaited, IsShort}}
 use Rattle.hba_driver.specs.declared.effect.Effect.TheVariants as effect
-use Rattle.hba_driver.specs.Effects.{Acts, ActsAll, Tries}
-use Rattle.hba_driver.specs.HostTurns.{Host, Pushes, Took, Tooks}
-use Rattle.hba_driver.specs.Known.{identifies, is_identify, is_identity}
-use Rattle.hba_driver.specs.Between.{IsAwaited, IsShort}
-use Rattle.hba_driver.proofs.events.DrivenLemmas.{tried_at}
-use Rattle.hba_driver.proofs.known.IdentityLemmas.{is_here, short_fed, short_sent, stays_heard}
+use Rattle.hba_driver.proofs.{events.DrivenLemmas.tried_at, known.IdentityLemmas.{is_here, short_fed, short_sent, stays_heard}}
 
 -- ---- slot 30 awaits the data of an IDENTIFY DEVICE of device n
 
@@ -124,12 +106,11 @@ awaited_pushed n old new frame does rules h = by_out (outgoing old.port old.memo
       own = subst (λ (p : Port). IsShort (slots_of n p.slots)) (sym gives.1) h.own;
       command = ap (λ (p : Port). is_identify (last_command p.commands 30)) gives.1 ∙ h.command;
     }
-    by_out (out.Data dev offset len command) is None gives = absurd gives
     by_out (out.Data dev offset len command) is (Some f) gives = sent dev _ _ f gives (λ same.
         let some = data_is_own old.port old.memory dev offset len command is in
         short_fed dev (slots_of dev old.port.slots) (is_own dev old.port.slots rules) some (subst (λ (k : ℕ). IsShort (slots_of k old.port.slots)) (sym same) h.own))
-    by_out (out.Order dev slot command) is None gives = absurd gives
     by_out (out.Order dev slot command) is (Some f) gives = sent dev _ _ f gives (λ same. short_sent (slots_of dev old.port.slots) slot (subst (λ (k : ℕ). IsShort (slots_of k old.port.slots)) (sym same) h.own))
+    by_out other is None gives = absurd gives
 
 -- ---- effects that leave the command of slot 30
 

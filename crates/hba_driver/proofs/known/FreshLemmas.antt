@@ -1,34 +1,21 @@
 -- For `devices_are_known`. The tick that issues IDENTIFY DEVICE leaves it in slot 30, with none of its bytes come.
 use Rattle.std.proofs.Common.{◌≡◌, ℕ, suc, ◌/◌, ◌^◌, ◌<◌, Bool, true, false, ◌&&◌, List, ◌∷◌, length, replicate, refl, sym, ◌∙◌, ap, subst, inl, inr, arith, Option, Some, None}
-use Rattle.std.specs.Prelude.{◌==◌, ◌%◌}
-use Rattle.std.specs.List.{list_all, range_with_len}
-use Rattle.std.specs.Option.{option_or}
-use Rattle.std.proofs.lemmas.Bool.{cases_lt}
-use Rattle.std.proofs.lemmas.List.{get_or_past, get_or-replicate, length-replicate}
+use Rattle.std.specs.{Prelude.{◌==◌, ◌%◌}, List.{list_all, range_with_len}, Option.option_or}
+use Rattle.std.proofs.lemmas.{Bool.cases_lt, List.{get_or_past, get_or-replicate, length-replicate}}
 use Rattle.std.proofs.lemmas.List.FromFn.{get_or-map-range_with_len, length-map-range_with_len}
 use Rattle.fis_view.specs.declared.build.H2dFields.{H2dFields}
 use Rattle.host_memory.specs.Memory.{IsHostMemory, Memory}
-use Rattle.hba_commands.specs.Commands.{cfis_at}
-use Rattle.hba_commands.specs.Requests.{request_at, request_of, work_of}
-use Rattle.hba_commands.specs.Writing.{total_if_usable}
+use Rattle.hba_commands.specs.{Commands.cfis_at, Requests.{request_at, request_of, work_of}, Writing.total_if_usable}
 use Rattle.hba_commands.specs.declared.command.Command.{Command}
-use Rattle.slots.specs.Bytes.{is_over, is_whole}
-use Rattle.slots.specs.Slots.{has_bit, issue_at, match_some, new_issue}
-use Rattle.hba_fbs.specs.declared.register.Register.TheVariants.{Ci}
-use Rattle.hba_fbs.specs.Issuing.{asked, commands_with}
-use Rattle.hba_fbs.specs.Offsets.{register_at}
-use Rattle.hba_fbs.specs.Views.{Port, last_command}
+use Rattle.slots.specs.{Bytes.{is_over, is_whole}, Slots.{has_bit, issue_at, match_some, new_issue}}
+use Rattle.hba_fbs.specs.{declared.register.Register.TheVariants.Ci, Issuing.{asked, commands_with}, Offsets.register_at, Views.{Port, last_command}}
 use Rattle.hba_fbs.specs.Writing.{commands_after}
 use Rattle.hba_laws.proofs.Door.{own_in}
-use Rattle.hba_driver.specs.declared.mode.Mode.TheVariants.{Switching}
-use Rattle.hba_driver.specs.Effects.{ActsAll, prds_with, sending, table_of}
-use Rattle.hba_driver.specs.Known.{is_identify}
-use Rattle.hba_driver.specs.Orders.{identify_fields}
-use Rattle.hba_driver.specs.Sights.{px_ci}
-use Rattle.hba_driver.specs.Between.{IsAwaited, IsIssuedAt, IsUp}
-use Rattle.hba_driver.proofs.accepted.AcceptLemmas.{buffer_usable, identify_proper}
-use Rattle.hba_driver.proofs.events.DrivenLemmas.{tried_at}
-use Rattle.hba_driver.proofs.accepted.UpLemmas.{Issues, Placed, Ready, asks, ci_taken, command_placed, fbs_step, issuing_taken, no_bit, placed_as, same_free}
+use Rattle.hba_driver.specs.{declared.mode.Mode.TheVariants.Switching, Effects.{ActsAll, prds_with, sending, table_of}, Known.is_identify}
+use Rattle.hba_driver.specs.{Orders.identify_fields, Sights.px_ci, Between.{IsAwaited, IsIssuedAt, IsUp}}
+use Rattle.hba_driver.proofs.{accepted.AcceptLemmas.{buffer_usable, identify_proper}, events.DrivenLemmas.tried_at}
+use Rattle.hba_driver.proofs.accepted.UpLemmas.{Issues, Placed, Ready, asks, ci_taken, command_placed, fbs_step, issuing_taken, no_bit, placed_as}
+use Rattle.hba_driver.proofs.accepted.UpLemmas.{same_free}
 
 -- ---- none of the bytes came
 

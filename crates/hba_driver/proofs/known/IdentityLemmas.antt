@@ -1,38 +1,29 @@
 -- For `devices_are_known`. The IDENTIFY DEVICE of a device stays in slot 30 until data of it came, whatever the device
 -- sends and whatever goes out.
 use Rattle.std.proofs.Common.{List, ◌≡◌, ◌≢◌, ℕ, ◌<◌, Bool, true, false, ◌&&◌, set, length, refl, sym, ◌∙◌, ap, subst, inl, inr, Option, Some, None, get_or-set_other, get_or-set_same}
-use Rattle.std.specs.Prelude.{if◌then◌else◌, ◌==◌, ◌-◌, is_some, nat_lt, not, is_ok, Result, Ok, Err}
-use Rattle.std.specs.Option.{option_map}
-use Rattle.std.proofs.lemmas.List.{get_or_past}
-use Rattle.std.proofs.lemmas.Bool.{cases_eq, cases_lt, eq-eqb, false≢true, ne_eqb, true≢false}
+use Rattle.std.specs.{Prelude.{if◌then◌else◌, ◌==◌, ◌-◌, is_some, nat_lt, not, is_ok, Result, Ok, Err}, Option.option_map}
+use Rattle.std.proofs.lemmas.{List.get_or_past, Bool.{cases_eq, cases_lt, eq-eqb, false≢true, ne_eqb, true≢false}}
 use Rattle.fis_view.specs.Table as table
-use Rattle.fis_view.specs.Table.{field}
-use Rattle.fis_view.specs.declared.view.Fis.{Fis}
+use Rattle.fis_view.specs.{Table.field, declared.view.Fis.Fis}
 use Rattle.fis_view.specs.declared.view.Fis.TheVariants as view
 use Rattle.slots.specs.Commands.{after_complete, after_sent, answer_for, answer_of, answered_as, is_done, is_slot, sent_issue, with_sent}
 use Rattle.slots.specs.Data.{after_activate, after_arrive, after_payload, arrive_answer, gone_over, may_activate, moved_over, payload, payload_len}
-use Rattle.slots.specs.Setup.{after_setup_pio, begun, dma_context, new_context, out_setup, pio_fault, pio_issue, setup_fault, whole_context, with_own_context}
-use Rattle.slots.specs.Slots.{DeviceSlots, Issue, freed, has_bit, holds, is_control, is_done_issue, is_pio, is_queued_issue, is_whole_issue, match_some, own_issue, sent_pio, waiting}
-use Rattle.slots.specs.Work.{is_dma, is_queued, is_read, needs_all}
-use Rattle.slots.specs.declared.answer.Answered.{Answered}
+use Rattle.slots.specs.Setup.{after_setup_pio, begun, dma_context, new_context, out_setup, pio_fault, pio_issue, setup_fault, whole_context}
+use Rattle.slots.specs.Setup.{with_own_context}
+use Rattle.slots.specs.Slots.{DeviceSlots, Issue, freed, has_bit, holds, is_control, is_done_issue, is_pio, is_queued_issue, is_whole_issue}
+use Rattle.slots.specs.{Slots.{match_some, own_issue, sent_pio, waiting}, Work.{is_dma, is_queued, is_read, needs_all}}
+use Rattle.slots.specs.declared.{answer.Answered.Answered, answer.SetupError.SetupError, table.Context.Context}
+use Rattle.slots.specs.declared.work.Kind.{Kind, TheVariants.{PioIn, Control}}
 use Rattle.slots.specs.declared.answer.Answered.TheVariants as answer
-use Rattle.slots.specs.declared.answer.SetupError.{SetupError}
-use Rattle.slots.specs.declared.table.Context.{Context}
-use Rattle.slots.specs.declared.work.Kind.{Kind}
-use Rattle.slots.specs.declared.work.Kind.TheVariants.{PioIn, Control}
 use Rattle.port_errors.specs.declared.cause.DeviceCause.TheVariants as cause
-use Rattle.hba_fbs.specs.declared.hearing.Happening.{Happening}
-use Rattle.hba_fbs.specs.declared.hearing.Happening.TheVariants as happening
-use Rattle.hba_fbs.specs.declared.hearing.Heard.{Heard}
-use Rattle.hba_fbs.specs.declared.report.Wrote.{Wrote}
-use Rattle.hba_fbs.specs.declared.state.DeviceState.{DeviceState}
+use Rattle.hba_fbs.specs.declared.{hearing.Happening.Happening, hearing.Heard.Heard, report.Wrote.Wrote, state.DeviceState.DeviceState}
 use Rattle.hba_fbs.specs.declared.status.Block.{Block}
-use Rattle.hba_fbs.specs.Hearing.{answered, block_ended, bus_failed, ended, faulty, heard_activate, heard_bits, heard_bytes, heard_d2h, heard_data, heard_data_of, heard_fis, heard_out, heard_pio, heard_register, heard_setup, moved, overflowed, quietly, set_up}
+use Rattle.hba_fbs.specs.Hearing.{answered, block_ended, bus_failed, ended, faulty, heard_activate, heard_bits, heard_bytes, heard_d2h, heard_data}
+use Rattle.hba_fbs.specs.Hearing.{heard_data_of, heard_fis, heard_out, heard_pio, heard_register, heard_setup, moved, overflowed, quietly, set_up}
+use Rattle.hba_fbs.specs.{Status.{is_busy, is_error, is_quiet, with_file}, Taking.wrote_by}
+use Rattle.hba_fbs.specs.declared.hearing.Happening.TheVariants as happening
 use Rattle.hba_fbs.specs.Hearing as hearing
-use Rattle.hba_fbs.specs.Status.{is_busy, is_error, is_quiet, with_file}
-use Rattle.hba_fbs.specs.Taking.{wrote_by}
-use Rattle.hba_laws.specs.History.{unless}
-use Rattle.hba_laws.specs.Between.{IsOwn}
+use Rattle.hba_laws.specs.{History.unless, Between.IsOwn}
 use Rattle.hba_driver.specs.Between.{IsShort}
 use Rattle.hba_laws.proofs.Door.{own_freed, some_inj}
 

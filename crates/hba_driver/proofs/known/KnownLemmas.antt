@@ -1,38 +1,24 @@
 -- For `devices_are_known`. A device that is not known stays unknown in a tick, unless its IDENTIFY DEVICE came back.
 use Rattle.std.proofs.Common.{◌≡◌, ◌≢◌, ℕ, zero, suc, Bool, true, false, ◌&&◌, List, [], ◌∷◌, map, get_or, set, refl, sym, ◌∙◌, ap, subst, inl, inr, Option, Some, None}
-use Rattle.std.specs.Prelude.{if◌then◌else◌, ◌==◌, nat_lt}
-use Rattle.std.specs.Option.{option_map}
+use Rattle.std.specs.{Prelude.{if◌then◌else◌, ◌==◌, nat_lt}, Option.option_map}
 use Rattle.std.proofs.lemmas.Bool.{and_parts, eq-eqb, eqb-true, false≢true, true≢false}
 use Rattle.slots.specs.Slots.{match_some}
-use Rattle.hba_driver.specs.declared.order.Order.{Order}
-use Rattle.hba_driver.specs.declared.order.Order.TheVariants.{CountPorts, Scan, Clear, Detect}
-use Rattle.hba_driver.specs.declared.path.Path.{Path}
+use Rattle.hba_driver.specs.declared.{order.Order.{Order, TheVariants.{CountPorts, Scan, Clear, Detect}}, path.Path.Path}
 use Rattle.hba_driver.specs.declared.path.Recovery.TheVariants.{Log, Reset}
-use Rattle.hba_driver.specs.declared.path.Stage.{Stage}
-use Rattle.hba_driver.specs.declared.path.Stage.TheVariants.{Identify, ReadLog, AssertReset, AwaitReset}
-use Rattle.hba_driver.specs.declared.path.TaskFile.{TaskFile}
-use Rattle.hba_driver.specs.declared.plan.Device.{Device}
-use Rattle.hba_driver.specs.declared.plan.Device.TheVariants.{Absent, Starting, Ready, Unusable, Recovering}
-use Rattle.hba_driver.specs.declared.plan.Plan.{Plan}
-use Rattle.hba_driver.specs.declared.request.Outcome.TheVariants.{Aborted, Done, PortError, Removed}
-use Rattle.hba_driver.specs.declared.sight.ErrorLog.{ErrorLog}
-use Rattle.hba_driver.specs.Seeing.{Sight}
-use Rattle.hba_driver.specs.declared.slot.Head.{Head}
-use Rattle.hba_driver.specs.declared.slot.Phase.{Phase}
-use Rattle.hba_driver.specs.declared.slot.Phase.TheVariants.{Aside, Ended, Issued}
-use Rattle.hba_driver.specs.declared.turn.Act.{Act}
-use Rattle.hba_driver.specs.declared.turn.Act.TheVariants as act
-use Rattle.hba_driver.specs.declared.turn.Logged.{Logged}
+use Rattle.hba_driver.specs.declared.{path.Stage.{Stage, TheVariants.{Identify, ReadLog, AssertReset, AwaitReset}}, path.TaskFile.TaskFile}
+use Rattle.hba_driver.specs.declared.{plan.Device.{Device, TheVariants.{Absent, Starting, Ready, Unusable, Recovering}}, plan.Plan.Plan}
+use Rattle.hba_driver.specs.{declared.{request.Outcome.TheVariants.{Aborted, Done, PortError, Removed}, sight.ErrorLog.ErrorLog}, Seeing.Sight}
+use Rattle.hba_driver.specs.declared.{slot.Head.Head, slot.Phase.{Phase, TheVariants.{Aside, Ended, Issued}}, turn.Act.Act, turn.Logged.Logged}
 use Rattle.hba_driver.specs.declared.turn.Turn.{Turn}
 use Rattle.hba_driver.specs.Drivers.{Driver, Entry, device_at, entry_at, is_issued, is_issued_in, rephase, rephase_all, rephased, waits}
 use Rattle.hba_driver.specs.Paths.{first_stage, next_stage, recovery, reset_if_there}
-use Rattle.hba_driver.specs.Ticks.{acted, after_tick, done_ended, entries_after, from_reset, is_aside_of, is_done, is_named_of, is_open, is_open_of, log_outcome, logged_ended, ordered, plan_after, recovering, removed, seen, stage_ended, turn, unless}
-use Rattle.hba_driver.specs.Turns.{advanced, answered, control_seen, detected, device_seen, found_of, found_there, is_back, is_in_reset, is_ready, is_there, may_issue, met, met_order}
-use Rattle.hba_driver.specs.Turns.{met_path, met_stage, noted, path_answered, path_to, turn_of, with_next}
-use Rattle.hba_driver.specs.Between.{Due, IsNew, IsUnknown, NoneIssued, Waiting, is_logging, is_named, is_reading}
-use Rattle.hba_driver.specs.Between.{is_trusted}
-use Rattle.hba_driver.proofs.ticks.DueLemmas.{StepsBy, early_by, late_by, order_allowed_by, turn_by}
-use Rattle.hba_driver.proofs.ticks.LifeLemmas.{due_seen, entry_of_rephased}
+use Rattle.hba_driver.specs.Ticks.{acted, after_tick, done_ended, entries_after, from_reset, is_aside_of, is_done, is_named_of, is_open, is_open_of}
+use Rattle.hba_driver.specs.Ticks.{log_outcome, logged_ended, ordered, plan_after, recovering, removed, seen, stage_ended, turn, unless}
+use Rattle.hba_driver.specs.Turns.{advanced, answered, control_seen, detected, device_seen, found_of, found_there, is_back, is_in_reset, is_ready}
+use Rattle.hba_driver.specs.Turns.{is_there, may_issue, met, met_order, met_path, met_stage, noted, path_answered, path_to, turn_of, with_next}
+use Rattle.hba_driver.specs.Between.{Due, IsNew, IsUnknown, NoneIssued, Waiting, is_logging, is_named, is_reading, is_trusted}
+use Rattle.hba_driver.specs.declared.turn.Act.TheVariants as act
+use Rattle.hba_driver.proofs.ticks.{DueLemmas.{StepsBy, early_by, late_by, order_allowed_by, turn_by}, LifeLemmas.{due_seen, entry_of_rephased}}
 use Rattle.hba_driver.proofs.calls.RequestLemmas.{set_cases}
 
 -- ---- a device that is not known
@@ -62,10 +48,7 @@ if_new n false p q h k = k
 
 shown_new : (device : Device) → is_trusted device ≡ false → is_trusted (found_there device) ≡ false
 shown_new Absent new = new
-shown_new Starting new = new
-shown_new Ready new = new
-shown_new Unusable new = new
-shown_new (Recovering way) new = new
+shown_new other new = new
 
 detected_new : (status : ℕ) (device : Device) → is_trusted device ≡ false → is_trusted (detected status device) ≡ false
 detected_new status device new = by_test (is_there status)
@@ -88,8 +71,6 @@ new_noted n v order plan h = h
 path_noted : (v : Sight) (order : Order) (plan : Plan) → (noted v order plan).path ≡ plan.path
 unfolding noted
 path_noted v CountPorts plan = refl
-path_noted v Scan plan = refl
-path_noted v (Detect port) plan = refl
 path_noted v order plan = refl
 
 path_if : (b : Bool) (p q : Plan) (o : Option Path) → p.path ≡ o → q.path ≡ o → (if b then p else q).path ≡ o
@@ -189,7 +170,6 @@ first_new (Recovering Reset) signed stage h e = ap is_logging (sym (same_stage A
   where
     same_stage : (x y : Stage) → Some x ≡ Some y → x ≡ y
     same_stage x y e = cc
-first_new Absent signed stage h e = absurd (cc)
 first_new other signed stage h e = absurd (cc)
 
 fits_step : (n : ℕ) (v : Sight) (plan : Plan) (dev : ℕ) (stage : Stage) → IsNew n plan → StepsBy v plan dev stage → ((dev == n) && is_logging stage) ≡ false
@@ -230,10 +210,7 @@ unless_new n dev (Some path) h = by_test (path.dev == dev)
 there_new : (devices : List Device) (n : ℕ) → is_trusted (get_or (map reset_if_there devices) n Absent) ≡ false
 there_new [] n = refl
 there_new (Absent ∷ devices) zero = refl
-there_new (Starting ∷ devices) zero = refl
-there_new (Ready ∷ devices) zero = refl
-there_new (Unusable ∷ devices) zero = refl
-there_new (Recovering r ∷ devices) zero = refl
+there_new (other ∷ devices) zero = refl
 there_new (d ∷ devices) (suc n) = there_new devices n
 
 recovery_new : (d : Device) (file : TaskFile) → is_trusted d ≡ false → is_trusted (Recovering (recovery d file)) ≡ false

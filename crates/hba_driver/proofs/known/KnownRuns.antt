@@ -1,56 +1,33 @@
 -- For `devices_are_known`. Over turns of the host, a device that is ready is known, and so is one of which a request is
 -- issued.
 use Rattle.std.proofs.Common.{◌≡◌, ◌≢◌, ℕ, zero, suc, ◌+◌, ◌<◌, Bool, true, false, ◌&&◌, ◌||◌, List, [], ◌∷◌, get_or, replicate, set, refl, sym, ◌∙◌, ap, subst, inl, inr, arith, Option, Some, None}
-use Rattle.std.specs.Prelude.{if◌then◌else◌, ◌==◌, not, nat_lt}
-use Rattle.std.specs.List.{list_any}
+use Rattle.std.specs.{Prelude.{if◌then◌else◌, ◌==◌, not, nat_lt}, List.list_any}
 use Rattle.std.proofs.lemmas.Bool.{eq-eqb, eqb-true, false_from_ne_true, false≢true, lt-ltb, ne_eqb, or_parts, true_from_ne_false, true≢false}
 use Rattle.host_memory.specs.Memory.{IsHostMemory, Memory}
 use Rattle.slots.specs.Slots.{Issue, has_bit, issue_at, match_some}
 use Rattle.hba_fbs.specs.Views.{Port}
 use Rattle.hba_laws.proofs.Door.{own_in}
-use Rattle.hba_driver.specs.declared.mode.Mode.TheVariants.{Switching}
-use Rattle.hba_driver.specs.declared.mode.Mode.{Mode}
-use Rattle.hba_driver.specs.declared.order.Order.{Order}
-use Rattle.hba_driver.specs.declared.order.Order.TheVariants.{ResetOn, Clear}
-use Rattle.hba_driver.specs.declared.path.Path.{Path}
-use Rattle.hba_driver.specs.declared.path.Stage.{Stage}
-use Rattle.hba_driver.specs.declared.path.Stage.TheVariants.{Identify}
-use Rattle.hba_driver.specs.declared.path.TaskFile.{TaskFile}
-use Rattle.hba_driver.specs.declared.plan.Device.TheVariants.{Absent}
-use Rattle.hba_driver.specs.declared.plan.Plan.{Plan}
-use Rattle.hba_driver.specs.Seeing.{Sight}
-use Rattle.hba_driver.specs.declared.turn.Act.{Act}
-use Rattle.hba_driver.specs.declared.turn.Act.TheVariants as act
+use Rattle.hba_driver.specs.declared.{mode.Mode.{Mode, TheVariants.Switching}, order.Order.{Order, TheVariants.{ResetOn, Clear}}, path.Path.Path}
+use Rattle.hba_driver.specs.declared.{path.Stage.{Stage, TheVariants.Identify}, path.TaskFile.TaskFile, plan.Device.TheVariants.Absent}
+use Rattle.hba_driver.specs.{declared.plan.Plan.Plan, Seeing.Sight, declared.turn.Act.Act}
 use Rattle.hba_driver.specs.Drivers.{Driver, Entry, has_ended, has_ended_in, is_issued, is_issued_in}
-use Rattle.hba_driver.specs.declared.slot.Phase.{Phase}
-use Rattle.hba_driver.specs.declared.slot.Phase.TheVariants.{Ended}
-use Rattle.hba_driver.specs.Effects.{ActsAll, effects_of, opening_write}
-use Rattle.hba_driver.specs.Events.{opening_host}
+use Rattle.hba_driver.specs.{declared.slot.Phase.{Phase, TheVariants.Ended}, Effects.{ActsAll, effects_of, opening_write}, Events.opening_host}
 use Rattle.hba_driver.specs.HostTurns.{Does, DoesAll, Host, HostTurn, Took, Pushed, Ticked, Submitted, Polled, Put, sight_in}
-use Rattle.hba_driver.specs.Known.{DevicesAreKnown, identifies, is_identify, known_after, known_over}
-use Rattle.hba_driver.specs.Laws.{flushes}
-use Rattle.hba_driver.specs.Paths.{stage_fields}
-use Rattle.hba_driver.specs.Sights.{file_shown}
-use Rattle.hba_driver.specs.Submits.{after_poll, lowest_ended, new_entry, next_slot}
-use Rattle.hba_driver.specs.Ticks.{acted, after_tick, done_ended, due, effects, effects_due, from_reset, ordered, plan_after, recovering, seen, turn, unless}
-use Rattle.hba_driver.specs.Between.{Awaits, Due, HostUnknown, IsAwaited, IsIssuedAt, IsOnWay, IsUnknown, IsUpIn, MayClear}
-use Rattle.hba_driver.specs.Between.{MayEnd, NoneIssued, Runs, is_logging, is_named, is_reading, is_trusted}
-use Rattle.hba_driver.proofs.accepted.AcceptLemmas.{Goes, free_here, goes_on, is_up, none_here, way_opens, way_turn}
-use Rattle.hba_driver.proofs.known.ActLemmas.{here_act}
-use Rattle.hba_driver.proofs.known.AwaitLemmas.{awaited_pushed, awaited_took, here_effects}
-use Rattle.hba_driver.proofs.ends.DoneLemmas as done
-use Rattle.hba_driver.proofs.events.DrivenLemmas.{not_below}
-use Rattle.hba_driver.proofs.ticks.DueLemmas.{goes_turn, runs_turn}
-use Rattle.hba_driver.proofs.issued.EndingLemmas.{may_end}
-use Rattle.hba_driver.proofs.known.FreshLemmas.{fresh_identify}
-use Rattle.hba_driver.proofs.known.KnownLemmas.{comes_back, unknown_tick}
-use Rattle.hba_driver.proofs.ticks.LifeLemmas.{due_seen}
+use Rattle.hba_driver.specs.{Known.{DevicesAreKnown, identifies, is_identify, known_after, known_over}, Laws.flushes, Paths.stage_fields}
+use Rattle.hba_driver.specs.{Sights.file_shown, Submits.{after_poll, lowest_ended, new_entry, next_slot}}
+use Rattle.hba_driver.specs.Ticks.{acted, after_tick, done_ended, due, effects, effects_due, from_reset, ordered, plan_after, recovering, seen, turn}
+use Rattle.hba_driver.specs.Ticks.{unless}
+use Rattle.hba_driver.specs.Between.{Awaits, Due, HostUnknown, IsAwaited, IsIssuedAt, IsOnWay, IsUnknown, IsUpIn, MayClear, MayEnd, NoneIssued, Runs}
+use Rattle.hba_driver.specs.Between.{is_logging, is_named, is_reading, is_trusted}
+use Rattle.hba_driver.specs.declared.turn.Act.TheVariants as act
+use Rattle.hba_driver.proofs.{accepted.AcceptLemmas.{Goes, free_here, goes_on, is_up, none_here, way_opens, way_turn}, known.ActLemmas.here_act}
+use Rattle.hba_driver.proofs.{known.AwaitLemmas.{awaited_pushed, awaited_took, here_effects}, events.DrivenLemmas.not_below}
+use Rattle.hba_driver.proofs.{ticks.DueLemmas.{goes_turn, runs_turn}, issued.EndingLemmas.may_end, known.FreshLemmas.fresh_identify}
+use Rattle.hba_driver.proofs.{known.KnownLemmas.{comes_back, unknown_tick}, ticks.LifeLemmas.due_seen}
 use Rattle.hba_driver.proofs.done.OutLemmas.{kept_clear, kept_effects, kept_stopped, lasting_act, opening_is}
-use Rattle.hba_driver.proofs.known.PushedLemmas.{plain_at, request_known}
-use Rattle.hba_driver.proofs.calls.RequestLemmas.{set_cases}
-use Rattle.hba_driver.proofs.ticks.ServeLemmas.{act_clears, cleared, ticks_serve}
-use Rattle.hba_driver.proofs.modes.SwitchLemmas.{tick_acts}
-use Rattle.hba_driver.proofs.issued.TickingLemmas.{free_slot}
+use Rattle.hba_driver.proofs.{known.PushedLemmas.{plain_at, request_known}, calls.RequestLemmas.set_cases}
+use Rattle.hba_driver.proofs.{ticks.ServeLemmas.{act_clears, cleared, ticks_serve}, modes.SwitchLemmas.tick_acts, issued.TickingLemmas.free_slot}
+use Rattle.hba_driver.proofs.ends.DoneLemmas as done
 
 -- ---- a device that is not known
 
@@ -80,7 +57,6 @@ leaves_order (Clear port) plan p e =
   where
     port_is : (k : ℕ) → Clear port ≡ Clear k → port ≡ k
     port_is k e = cc
-leaves_order ResetOn plan p e = (e, λ k same. absurd (cc))
 leaves_order other plan p e = (e, λ k same. absurd (cc))
 
 leaves_clear : (dev : ℕ) (file : TaskFile) (plan : Plan) (p : Path) → p.dev < 15 → (if nat_lt dev 15 then recovering dev file plan else from_reset plan).path ≡ Some p → (plan.path ≡ Some p) × (p.dev ≢ dev)
@@ -148,15 +124,9 @@ module _ (n : ℕ) (below : n < 15) (old new : Host) (w : IsOnWay old) where
   kept_issue (act.Clears k) i is stops clears orders acts here =
       let may : MayClear k old.port = (subst (λ (a : Option Act). MayEnd Switching a old.port) is (may_end old w.sound)).1 in
       kept_clear old.port new.port old.memory new.memory 30 n k i sixteen (clears k refl) may w.sound.ruled.table acts here
-  kept_issue (act.Restarts k) i is stops clears orders acts here =
-      kept_effects (effects_due Switching (Some (act.Restarts k))) old.port new.port old.memory new.memory n 30 i (lasting_act Switching (Some (act.Restarts k)) refl (λ j e. absurd (cc))) (flushes_none (act.Restarts k) orders) sixteen acts w.sound.ruled.table here
-  kept_issue (act.Orders order) i is stops clears orders acts here =
-      kept_effects (effects_due Switching (Some (act.Orders order))) old.port new.port old.memory new.memory n 30 i (lasting_act Switching (Some (act.Orders order)) refl (λ j e. absurd (cc))) (flushes_none (act.Orders order) orders) sixteen acts w.sound.ruled.table here
-  kept_issue (act.Steps dev stage) i is stops clears orders acts here =
-      kept_effects (effects_due Switching (Some (act.Steps dev stage))) old.port new.port old.memory new.memory n 30 i (lasting_act Switching (Some (act.Steps dev stage)) refl (λ j e. absurd (cc))) (flushes_none (act.Steps dev stage) orders) sixteen acts w.sound.ruled.table here
-  kept_issue (act.Issues slot dev queued) i is stops clears orders acts here =
-      kept_effects (effects_due Switching (Some (act.Issues slot dev queued))) old.port new.port old.memory new.memory n 30 i (lasting_act Switching (Some (act.Issues slot dev queued)) refl (λ j e. absurd (cc))) (flushes_none (act.Issues slot dev queued) orders) sixteen acts
-      w.sound.ruled.table here
+  kept_issue other i is stops clears orders acts here =
+      kept_effects (effects_due Switching (Some other)) old.port new.port old.memory new.memory n 30 i
+      (lasting_act Switching (Some other) refl (λ j e. absurd (cc))) (flushes_none other orders) sixteen acts w.sound.ruled.table here
 
   slot_below : (slot dev : ℕ) (queued : Bool) → due v old.driver ≡ Some (act.Issues slot dev queued) → slot ≢ 30
   slot_below slot dev queued is same =
@@ -326,7 +296,6 @@ known_turn n below known old (Ticked did) new does w h e = by_flush (list_any (f
 known_turn n below known old (Took frame report) new does w h e =
     let both = or_parts known (identifies n old (Took frame report)) e in
     unknown_turn n below old (Took frame report) new does w both.1 (h both.0)
-known_turn n below known old (Pushed frame) new does w h e = unknown_turn n below old (Pushed frame) new does w refl (h (or_parts known false e).0)
 known_turn n below known old other new does w h e = unknown_turn n below old other new does w refl (h (or_parts known false e).0)
 
 -- ---- over turns

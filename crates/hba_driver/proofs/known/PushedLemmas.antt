@@ -1,56 +1,29 @@
 -- For `devices_are_known`. The command of a request goes out only to a known device: slot 30 has none, and slot 31
 -- belongs to the control port.
 use Rattle.std.proofs.Common.{◌≡◌, ◌≢◌, ◌⊎◌, ℕ, zero, suc, ◌*◌, ◌+◌, ◌^◌, ◌<◌, Bool, true, false, List, [], ◌∷◌, length, get_or, replicate, refl, sym, ◌∙◌, ap, subst, inl, inr, arith, Option, Some, None}
-use Rattle.std.specs.Prelude.{if◌then◌else◌}
-use Rattle.std.specs.Option.{option_or}
-use Rattle.std.proofs.lemmas.Bool.{cases_eq, cases_lt, true≢false}
-use Rattle.std.proofs.lemmas.List.{get_or_past}
+use Rattle.std.specs.{Prelude.if◌then◌else◌, Option.option_or}
+use Rattle.std.proofs.lemmas.{Bool.{cases_eq, cases_lt, true≢false}, List.get_or_past}
 use Rattle.std.proofs.lemmas.List.FromFn.{get_or-map-range_with_len, length-map-range_with_len}
-use Rattle.fis_view.specs.Frames.{Stamped}
-use Rattle.fis_view.specs.declared.build.H2dFields.{H2dFields}
+use Rattle.fis_view.specs.{Frames.Stamped, declared.build.H2dFields.H2dFields}
 use Rattle.host_memory.specs.Memory.{Memory}
-use Rattle.hba_commands.specs.Commands.{cfis_at, command_at, command_in, command_under, has_table, is_proper, total_at}
-use Rattle.hba_commands.specs.Headers.{header_at}
-use Rattle.hba_commands.specs.Requests.{kind_of, request_at, request_of, work_of}
-use Rattle.hba_commands.specs.declared.command.Command.{Command}
-use Rattle.slots.specs.Slots.{Issue, has_bit, issue_at, match_some, own_issue, slots_of}
-use Rattle.slots.specs.Between.{Owns}
-use Rattle.hba_fbs.specs.declared.register.Register.TheVariants.{Ci, Fbs}
-use Rattle.hba_fbs.specs.declared.registers.Registers.{Registers}
-use Rattle.hba_fbs.specs.Issuing.{asked, commands_with}
-use Rattle.hba_fbs.specs.Offsets.{register_at}
-use Rattle.hba_fbs.specs.Registers.{written}
-use Rattle.hba_fbs.specs.Sending.{Outgoing, outgoing}
-use Rattle.hba_fbs.specs.Sending as out
-use Rattle.hba_fbs.specs.Taking.{ignores, port_of}
-use Rattle.hba_fbs.specs.Views.{Port, last_command}
+use Rattle.hba_commands.specs.{Commands.{cfis_at, command_at, command_in, command_under, has_table, is_proper, total_at}, Headers.header_at}
+use Rattle.hba_commands.specs.{Requests.{kind_of, request_at, request_of, work_of}, declared.command.Command.Command}
+use Rattle.slots.specs.{Slots.{Issue, has_bit, issue_at, match_some, own_issue, slots_of}, Between.Owns}
+use Rattle.hba_fbs.specs.{declared.{register.Register.TheVariants.{Ci, Fbs}, registers.Registers.Registers}, Issuing.{asked, commands_with}}
+use Rattle.hba_fbs.specs.{Offsets.register_at, Registers.written, Sending.{Outgoing, outgoing}, Taking.{ignores, port_of}, Views.{Port, last_command}}
 use Rattle.hba_fbs.specs.Writing.{commands_after}
-use Rattle.hba_laws.specs.Client.{own}
-use Rattle.hba_laws.specs.History.{Transfer, issued}
+use Rattle.hba_fbs.specs.Sending as out
+use Rattle.hba_laws.specs.{Client.own, History.{Transfer, issued}}
 use Rattle.hba_laws.proofs.Door.{gives_commands, order_is, own_here, some_inj, the_transfer}
 use Rattle.hba_driver.specs.declared.mode.Mode.TheVariants.{Switching}
-use Rattle.hba_driver.specs.declared.path.Stage.{Stage}
-use Rattle.hba_driver.specs.declared.path.Stage.TheVariants.{Identify, ReadLog, AssertReset, ReleaseReset, AwaitReset}
-use Rattle.hba_driver.specs.declared.turn.Act.{Act}
+use Rattle.hba_driver.specs.declared.{path.Stage.{Stage, TheVariants.{Identify, ReadLog, AssertReset, ReleaseReset, AwaitReset}}, turn.Act.Act}
+use Rattle.hba_driver.specs.{Drivers.{Entry, entry_at, is_issued}, Effects.{ActsAll, Tries, effects_of, sending, table_of}, Events.opening_host}
+use Rattle.hba_driver.specs.{HostTurns.{Does, DoesAll, Host, HostTurn, Took, Pushed, Ticked, sight_in}, Known.{is_asked, is_request}}
+use Rattle.hba_driver.specs.{Orders.{identify_fields, log_fields, control}, Paths.stage_fields, Queued.IsSomeCommand, Served.IsIssueOf}
+use Rattle.hba_driver.specs.{Sights.{px_ci, px_fbs}, Ticks.{due, effects_due, seen}, Between.{Due, IsOnWay, IsPlain}}
 use Rattle.hba_driver.specs.declared.turn.Act.TheVariants as act
-use Rattle.hba_driver.specs.Drivers.{Entry, entry_at, is_issued}
-use Rattle.hba_driver.specs.Effects.{ActsAll, Tries, effects_of, sending, table_of}
-use Rattle.hba_driver.specs.Events.{opening_host}
-use Rattle.hba_driver.specs.HostTurns.{Does, DoesAll, Host, HostTurn, Took, Pushed, Ticked, sight_in}
-use Rattle.hba_driver.specs.Known.{is_asked, is_request}
-use Rattle.hba_driver.specs.Orders.{identify_fields, log_fields, control}
-use Rattle.hba_driver.specs.Paths.{stage_fields}
-use Rattle.hba_driver.specs.Queued.{IsSomeCommand}
-use Rattle.hba_driver.specs.Served.{IsIssueOf}
-use Rattle.hba_driver.specs.Sights.{px_ci, px_fbs}
-use Rattle.hba_driver.specs.Ticks.{due, effects_due, seen}
-use Rattle.hba_driver.specs.Between.{Due, IsOnWay, IsPlain}
-use Rattle.hba_driver.proofs.accepted.AcceptLemmas.{way_turn}
-use Rattle.hba_driver.proofs.known.ActLemmas.{here_act}
-use Rattle.hba_driver.proofs.known.AwaitLemmas.{here_effects}
-use Rattle.hba_driver.proofs.events.DrivenLemmas.{tried_at}
-use Rattle.hba_driver.proofs.ticks.LifeLemmas.{due_seen}
-use Rattle.hba_driver.proofs.modes.SwitchLemmas.{tick_acts}
+use Rattle.hba_driver.proofs.{accepted.AcceptLemmas.way_turn, known.{ActLemmas.here_act, AwaitLemmas.here_effects}, events.DrivenLemmas.tried_at}
+use Rattle.hba_driver.proofs.{ticks.LifeLemmas.due_seen, modes.SwitchLemmas.tick_acts}
 
 -- ---- slot 30 has no command of a request
 

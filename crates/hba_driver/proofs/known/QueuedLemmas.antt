@@ -1,27 +1,15 @@
 -- For `requests_stay_with_their_device`. A request stays with its device from its submit on, and its command is known
 -- by its slot.
 use Rattle.std.proofs.Common.{◌≡◌, ℕ, true, false, List, [], ◌∷◌, refl, sym, ◌∙◌, ap, subst, inl, inr, Some}
-use Rattle.std.specs.Prelude.{◌||◌}
-use Rattle.std.specs.List.{list_any}
+use Rattle.std.specs.{Prelude.◌||◌, List.list_any}
 use Rattle.std.proofs.lemmas.Bool.{cases_Bool, false≢true}
-use Rattle.hba_driver.specs.declared.slot.Phase.{Phase}
-use Rattle.hba_driver.specs.declared.slot.Phase.TheVariants.{Aside, Ended, Waits}
-use Rattle.hba_driver.specs.Drivers.{Entry, entry_at, has_ended_in, is_issued_in, rephased, waits_in}
-use Rattle.hba_driver.specs.Events.{opening_host}
-use Rattle.hba_driver.specs.HostTurns.{Does, DoesAll, Host, HostTurn, Submitted, Ticked, Took, sight_in}
-use Rattle.hba_driver.specs.Known.{is_flushed}
-use Rattle.hba_driver.specs.Laws.{Goes, flushes}
-use Rattle.hba_driver.specs.Queued.{IsQueuedBy, RequestsStay, Stood, Taken}
-use Rattle.hba_driver.specs.Sights.{file_shown}
-use Rattle.hba_driver.specs.Submits.{new_entry}
-use Rattle.hba_driver.specs.Tended.{IsLiveAt}
-use Rattle.hba_driver.specs.Ticks.{after_tick, effects}
-use Rattle.hba_driver.specs.Between.{Fresh, IsOnWay, Stood as StoodOn}
-use Rattle.hba_driver.proofs.accepted.AcceptLemmas.{way_opens, way_turn}
-use Rattle.hba_driver.proofs.requests.ComeLemmas.{comes_from}
-use Rattle.hba_driver.proofs.known.PushedLemmas.{plain_at, request_of_slot}
-use Rattle.hba_driver.proofs.ticks.ServeLemmas.{ticks_serve}
-use Rattle.hba_driver.proofs.steady.SteadyTurns.{is_ready_dev}
+use Rattle.hba_driver.specs.declared.slot.Phase.{Phase, TheVariants.{Aside, Ended, Waits}}
+use Rattle.hba_driver.specs.{Drivers.{Entry, entry_at, has_ended_in, is_issued_in, rephased, waits_in}, Events.opening_host}
+use Rattle.hba_driver.specs.{HostTurns.{Does, DoesAll, Host, HostTurn, Submitted, Ticked, Took, sight_in}, Known.is_flushed, Laws.{Goes, flushes}}
+use Rattle.hba_driver.specs.{Queued.{IsQueuedBy, RequestsStay, Stood, Taken}, Sights.file_shown, Submits.new_entry, Tended.IsLiveAt}
+use Rattle.hba_driver.specs.{Ticks.{after_tick, effects}, Between.{Fresh, IsOnWay, Stood as StoodOn}}
+use Rattle.hba_driver.proofs.{accepted.AcceptLemmas.{way_opens, way_turn}, requests.ComeLemmas.comes_from}
+use Rattle.hba_driver.proofs.{known.PushedLemmas.{plain_at, request_of_slot}, ticks.ServeLemmas.ticks_serve, steady.SteadyTurns.is_ready_dev}
 
 -- ---- a turn
 
@@ -44,7 +32,6 @@ module _ (n s : ℕ) (old : Host) (new : Host) (e : Entry) (live : IsLiveAt n s 
         let here : entry_at (after_tick (sight_in old) (file_shown new.port) old.driver).entries s ≡ Some e = ap (λ d. entry_at d.entries s) (sym does.driver) ∙ live.stands in
         absurd (live_open e.head.phase live.lives (ticks_serve.ends (sight_in old) (file_shown new.port) old.driver n s e flushed here live.of_dev))
   ]
-  unflushed (Took frame report) does = refl
   unflushed other does = refl
 
   stood : (turn : HostTurn) → Does old turn new → StoodOn old.driver turn s e → IsQueuedBy n s old turn e
@@ -63,7 +50,6 @@ module _ (n s : ℕ) (old : Host) (new : Host) (e : Entry) (live : IsLiveAt n s 
       let of : dev ≡ n = ap (λ (x : Entry). x.head.dev) is ∙ live.of_dev in
       subst (λ (k : ℕ). IsQueuedBy k s old (Submitted dev request ticket) e) of
       (Taken request ticket refl (is_ready_dev old.driver old.memory dev request does.accepted) is refl)
-  fresh (Took frame report) does it = absurd it
   fresh other does it = absurd it
 
   queued : (turn : HostTurn) → Does old turn new → IsQueuedBy n s old turn e

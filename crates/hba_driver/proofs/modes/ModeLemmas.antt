@@ -1,21 +1,13 @@
 -- For `turns_are_steady`. With FIS-based switching: what the words of the port that tell the modes apart come to.
 use Rattle.std.proofs.Common.{◌≡◌, ℕ, Bool, true, false, List, [], ◌∷◌, ap, subst, Option, Some, None}
 use Rattle.std.specs.Prelude.{◌==◌, ◌||◌, if◌then◌else◌, is_some, Result}
-use Rattle.fis_view.specs.Seen.{seen}
-use Rattle.fis_view.specs.declared.view.Fis.{Fis}
-use Rattle.fis_view.specs.declared.view.FisFault.{FisFault}
+use Rattle.fis_view.specs.{Seen.seen, declared.{view.Fis.Fis, view.FisFault.FisFault}}
 use Rattle.rx_area.specs.Area.{row_of}
-use Rattle.hba_fbs.specs.declared.hearing.Fault.{Fault}
-use Rattle.hba_fbs.specs.declared.register.Register.TheVariants.{Ci}
-use Rattle.hba_fbs.specs.Issuing.{asked}
-use Rattle.hba_fbs.specs.Posting.{area_at}
-use Rattle.hba_fbs.specs.Reading.{shown_device}
+use Rattle.hba_fbs.specs.{declared.{hearing.Fault.Fault, register.Register.TheVariants.Ci}, Issuing.asked, Posting.area_at, Reading.shown_device}
 use Rattle.hba_fbs.specs.Taking.{PostsIn, PostsOf, ignores, is_ignored, is_running, passes_over, port_cause, row_for, stops_with}
 use Rattle.hba_fbs.specs.Views.{DeviceView, Port, view_of}
 use Rattle.hba_fbs.proofs.Door.{aimed_chosen}
-use Rattle.hba_laws.specs.Hosts.{Host}
-use Rattle.hba_laws.specs.Isolation.{Issued, written_to}
-use Rattle.hba_laws.specs.Parts.{own_row}
+use Rattle.hba_laws.specs.{Hosts.Host, Isolation.{Issued, written_to}, Parts.own_row}
 
 -- ---- what a write of PxCI issues
 

@@ -4,13 +4,10 @@ use Rattle.std.specs.Prelude.{◌&&◌, not, is_some}
 use Rattle.std.proofs.lemmas.Bool.{cases_lt, false≢true, or_parts, or_right, true≢false}
 use Rattle.fis_view.specs.Seen.{seen}
 use Rattle.port_errors.specs.Errors.{Errors}
-use Rattle.hba_fbs.specs.declared.hearing.Fault.{Fault}
+use Rattle.hba_fbs.specs.declared.{hearing.Fault.Fault, registers.Registers.Registers}
+use Rattle.hba_fbs.specs.{Taking.{errors_in, ignores, is_ignored, is_running, passes_over, port_cause, stops_with}, Views.{Port, view_of}}
 use Rattle.hba_fbs.specs.declared.hearing.Fault.TheVariants as fault
-use Rattle.hba_fbs.specs.declared.registers.Registers.{Registers}
-use Rattle.hba_fbs.specs.Taking.{errors_in, ignores, is_ignored, is_running, passes_over, port_cause, stops_with}
-use Rattle.hba_fbs.specs.Views.{Port, view_of}
-use Rattle.hba_driver.specs.declared.mode.Mode.TheVariants.{Switching}
-use Rattle.hba_driver.specs.Events.{AreDriven}
+use Rattle.hba_driver.specs.{declared.mode.Mode.TheVariants.Switching, Events.AreDriven}
 
 -- ---- in both modes
 
@@ -25,11 +22,10 @@ pub spares_as : (on : Bool) (f : Option Fault) → stops_with on f ≡ false →
 spares_as on f h = (or_parts (not on && is_some f) (is_some (port_cause f)) h).1
 
 pub faultless_as : (on : Bool) (errors : Errors) (dev : ℕ) (f : Option Fault) → stops_with on f ≡ false → errors.port ≡ None → (errors_in on errors dev f).port ≡ None
-faultless_as true errors dev None spares h = h
-faultless_as true errors dev (Some (fault.Device c)) spares h = h
 faultless_as true errors dev (Some (fault.Port c)) spares h = absurd (true≢false spares)
 faultless_as false errors dev None spares h = h
 faultless_as false errors dev (Some f) spares h = absurd (true≢false spares)
+faultless_as true errors dev other spares h = h
 
 -- ---- the driver's mode
 

@@ -1,13 +1,8 @@
 -- For `turns_are_steady`. A host with FIS-based switching: what its tick does, and what it sees.
 use Rattle.std.proofs.Common.{◌≡◌, Bool, true, ap, subst}
 use Rattle.std.specs.List.{list_all}
-use Rattle.hba_driver.specs.declared.mode.Mode.{Mode}
-use Rattle.hba_driver.specs.declared.mode.Mode.TheVariants.{Switching}
-use Rattle.hba_driver.specs.Effects.{ActsAll, is_effect}
-use Rattle.hba_driver.specs.Events.{IsSoundHost}
-use Rattle.hba_driver.specs.HostTurns.{Does, Host, Ticked, sight_in}
-use Rattle.hba_driver.specs.Sights.{sight_of}
-use Rattle.hba_driver.specs.Ticks.{due, effects_due}
+use Rattle.hba_driver.specs.{declared.mode.Mode.{Mode, TheVariants.Switching}, Effects.{ActsAll, is_effect}, Events.IsSoundHost}
+use Rattle.hba_driver.specs.{HostTurns.{Does, Host, Ticked, sight_in}, Sights.sight_of, Ticks.{due, effects_due}}
 
 pub tick_acts : (h : Host) (a : Bool) (new : Host) → Does h (Ticked a) new → IsSoundHost h → ActsAll (effects_due Switching (due (sight_in h) h.driver)) h.port h.memory new.port new.memory
 tick_acts h a new does s = subst (λ (m : Mode). ActsAll (effects_due m (due (sight_in h) h.driver)) h.port h.memory new.port new.memory) s.drives does.does

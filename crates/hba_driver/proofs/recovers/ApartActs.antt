@@ -6,30 +6,16 @@ use Rattle.fis_view.specs.declared.build.H2dFields.{H2dFields}
 use Rattle.slots.specs.Slots.{match_some}
 use Rattle.hba_fbs.specs.Views.{Port}
 use Rattle.hba_laws.proofs.Door.{some_inj}
-use Rattle.hba_driver.specs.declared.order.Order.{Order}
-use Rattle.hba_driver.specs.declared.order.Order.TheVariants.{ResetOn, Clear}
-use Rattle.hba_driver.specs.declared.path.Path.{Path}
-use Rattle.hba_driver.specs.declared.path.Recovery.{Recovery}
-use Rattle.hba_driver.specs.declared.path.Recovery.TheVariants.{Log, Reset}
-use Rattle.hba_driver.specs.declared.path.Stage.{Stage}
-use Rattle.hba_driver.specs.declared.path.Stage.TheVariants.{ReadLog, AssertReset, ReleaseReset, AwaitReset}
-use Rattle.hba_driver.specs.declared.path.TaskFile.{TaskFile}
-use Rattle.hba_driver.specs.declared.plan.Device.{Device}
-use Rattle.hba_driver.specs.declared.plan.Device.TheVariants.{Absent, Recovering}
-use Rattle.hba_driver.specs.declared.plan.Plan.{Plan}
-use Rattle.hba_driver.specs.Seeing.{Sight}
-use Rattle.hba_driver.specs.declared.turn.Act.{Act}
+use Rattle.hba_driver.specs.declared.{order.Order.{Order, TheVariants.{ResetOn, Clear}}, path.Path.Path}
+use Rattle.hba_driver.specs.declared.path.Recovery.{Recovery, TheVariants.{Log, Reset}}
+use Rattle.hba_driver.specs.declared.{path.Stage.{Stage, TheVariants.{ReadLog, AssertReset, ReleaseReset, AwaitReset}}, path.TaskFile.TaskFile}
+use Rattle.hba_driver.specs.{declared.{plan.Device.{Device, TheVariants.{Absent, Recovering}}, plan.Plan.Plan}, Seeing.Sight, declared.turn.Act.Act}
+use Rattle.hba_driver.specs.{Drivers.{Entry, device_at}, Orders.{control, log_fields}, Paths.{first_stage, stage_fields}}
+use Rattle.hba_driver.specs.Slot30.{Asks, Cleared, Clears, Faulty, IsPlan30, IsSlot30, IsUnsent30, LogSent, Off, On, ReadsLog, Resets, Sets, Stage30}
+use Rattle.hba_driver.specs.{Slot30.{TicksOn30, is_faulty, is_resetting, path_of}, Steady.IsCalmAct}
+use Rattle.hba_driver.specs.{Ticks.{from_reset, ordered, plan_after, recovering}, Turns.is_ready, Between.{Due, DueOf, MayStep, Waiting}}
 use Rattle.hba_driver.specs.declared.turn.Act.TheVariants as act
-use Rattle.hba_driver.specs.Drivers.{Entry, device_at}
-use Rattle.hba_driver.specs.Orders.{control, log_fields}
-use Rattle.hba_driver.specs.Paths.{first_stage, stage_fields}
-use Rattle.hba_driver.specs.Slot30.{Asks, Cleared, Clears, Faulty, IsPlan30, IsSlot30, IsUnsent30, LogSent, Off, On, ReadsLog, Resets, Sets, Stage30, TicksOn30, is_faulty, is_resetting, path_of}
-use Rattle.hba_driver.specs.Steady.{IsCalmAct}
-use Rattle.hba_driver.specs.Ticks.{from_reset, ordered, plan_after, recovering}
-use Rattle.hba_driver.specs.Turns.{is_ready}
-use Rattle.hba_driver.specs.Between.{Due, DueOf, MayStep, Waiting}
-use Rattle.hba_driver.proofs.recovers.ApartPlans.{HasFields, recovers}
-use Rattle.hba_driver.proofs.steady.SteadyLemmas.{set_other}
+use Rattle.hba_driver.proofs.{recovers.ApartPlans.{HasFields, recovers}, steady.SteadyLemmas.set_other}
 use Rattle.hba_driver.proofs.issued.TickingLemmas.{unless_back, unless_other}
 
 -- ---- while the device's path is as it was
@@ -128,7 +114,6 @@ module _ (n : ℕ) (stage : Stage30) (v : Sight) (file : TaskFile) (q : Plan) (e
   orders (Clear port) other =
       let far : n ≢ port = λ e. other (ap Clear (sym e)) in
       rests _ _ (λ dev step e. absurd (cc)) (set_other q.devices port n Absent far) (λ x to here. unless_other port q.path x (λ e. far (sym to ∙ e)) here) (λ x to here. unless_back port q.path x here)
-  orders ResetOn other = plainly ResetOn
   orders rest other = plainly rest
 
   -- another device's fault is cleared

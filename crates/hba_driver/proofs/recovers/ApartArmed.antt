@@ -1,9 +1,6 @@
 -- For `none_is_armed`. No bit of PxSACT is left set between two turns.
 use Rattle.std.proofs.Common.{◌≡◌, List, [], ◌∷◌, ◌∙◌, ap}
-use Rattle.hba_driver.specs.Events.{opening_host}
-use Rattle.hba_driver.specs.HostTurns.{DoesAll, Host, HostTurn}
-use Rattle.hba_driver.specs.Slot30.{NoneIsArmed}
-use Rattle.hba_driver.specs.Between.{IsOnWay}
+use Rattle.hba_driver.specs.{Events.opening_host, HostTurns.{DoesAll, Host, HostTurn}, Slot30.NoneIsArmed, Between.IsOnWay}
 use Rattle.hba_driver.proofs.accepted.AcceptLemmas.{way_opens, way_turn}
 
 unarmed_over : (turns : List HostTurn) (old new : Host) → DoesAll old turns new → IsOnWay old → new.port.registers.armed ≡ 0

@@ -1,24 +1,14 @@
 -- For `devices_are_apart`. After the fault of a device was cleared, PxTFD shows that device's task file.
 use Rattle.std.proofs.Common.{◌≡◌, ℕ, ◌+◌, ◌*◌, ◌<◌, min, true, bit_and, ◌∙◌, ap, arith}
-use Rattle.std.specs.Prelude.{◌==◌, ◌%◌, ◌/◌}
-use Rattle.std.specs.Int.{bit_at}
-use Rattle.std.proofs.lemmas.Bool.{eqb-true}
-use Rattle.std.proofs.lemmas.Nat.Bits.{bit_at-lt, bit_at_and, bit_at_lowest}
+use Rattle.std.specs.{Prelude.{◌==◌, ◌%◌, ◌/◌}, Int.bit_at}
+use Rattle.std.proofs.lemmas.{Bool.eqb-true, Nat.Bits.{bit_at-lt, bit_at_and, bit_at_lowest}}
 use Rattle.host_memory.specs.Memory.{Memory}
 use Rattle.slots.specs.Slots.{has_bit}
-use Rattle.hba_fbs.specs.declared.register.Register.TheVariants.{Fbs}
-use Rattle.hba_fbs.specs.declared.registers.Registers.{Registers}
-use Rattle.hba_fbs.specs.declared.state.DeviceState.{DeviceState}
-use Rattle.hba_fbs.specs.Offsets.{register_at}
-use Rattle.hba_fbs.specs.Reading.{shown_device, value_of}
-use Rattle.hba_fbs.specs.Registers.{written}
-use Rattle.hba_fbs.specs.Views.{Port, state_at, stopped_state, view_of}
+use Rattle.hba_fbs.specs.declared.{register.Register.TheVariants.Fbs, registers.Registers.Registers, state.DeviceState.DeviceState}
+use Rattle.hba_fbs.specs.{Offsets.register_at, Reading.{shown_device, value_of}, Registers.written, Views.{Port, state_at, stopped_state, view_of}}
 use Rattle.hba_fbs.specs.Writing.{Accepts}
-use Rattle.hba_driver.specs.declared.mode.Mode.TheVariants.{Switching}
-use Rattle.hba_driver.specs.Effects.{ActsAll, clearing}
-use Rattle.hba_driver.specs.Sights.{file_shown, shown}
-use Rattle.hba_driver.proofs.issued.EndingLemmas.{clear_taken, has_en, is_accepted}
-use Rattle.hba_driver.proofs.modes.ModeLemmas.{shown_chosen}
+use Rattle.hba_driver.specs.{declared.mode.Mode.TheVariants.Switching, Effects.{ActsAll, clearing}, Sights.{file_shown, shown}}
+use Rattle.hba_driver.proofs.{issued.EndingLemmas.{clear_taken, has_en, is_accepted}, modes.ModeLemmas.shown_chosen}
 
 low_bit : (e s : ℕ) → (256 * e + s) % 256 % 2 ≡ s % 2
 low_bit e s = omega arith

@@ -2,46 +2,32 @@
 use Rattle.std.proofs.Common.{◌≡◌, ◌≢◌, ℕ, ◌-◌, ◌<◌, ◌≤◌, Bool, true, false, ◌&&◌, ◌||◌, List, length, refl, sym, ◌∙◌, ap, subst, inl, inr, arith, Option, Some, None}
 use Rattle.std.specs.Prelude.{if◌then◌else◌, ◌==◌, not, is_none, is_some, Result, Err}
 use Rattle.std.proofs.lemmas.Bool.{cases_Bool, cases_eq, cases_lt, false≢true, true≢false}
-use Rattle.fis_view.specs.Seen.{seen}
+use Rattle.fis_view.specs.{Seen.seen, Table.field, declared.view.Fis.Fis}
 use Rattle.fis_view.specs.Table as table
-use Rattle.fis_view.specs.Table.{field}
-use Rattle.fis_view.specs.declared.view.Fis.{Fis}
 use Rattle.fis_view.specs.declared.view.Fis.TheVariants as view
-use Rattle.hba_commands.specs.declared.command.Command.{Command}
-use Rattle.hba_commands.specs.Requests.{request_of, work_of}
+use Rattle.hba_commands.specs.{declared.command.Command.Command, Requests.{request_of, work_of}}
 use Rattle.slots.specs.Commands.{answer_for, answer_of, is_done}
-use Rattle.slots.specs.Setup.{dma_context, out_context, out_setup, pio_fault, pio_issue, setup_fault, transfer_fault}
-use Rattle.slots.specs.Data.{may_activate}
-use Rattle.slots.specs.Slots.{DeviceSlots, Issue, context_unless, has_bit, holds, is_done_issue, is_out_issue, is_sent_pio, is_waiting, match_some, new_issue, own_issue, sent_pio, waiting}
-use Rattle.slots.specs.Work.{is_queued}
-use Rattle.slots.specs.declared.answer.Answered.{Answered}
+use Rattle.slots.specs.{Setup.{dma_context, out_context, out_setup, pio_fault, pio_issue, setup_fault, transfer_fault}, Data.may_activate}
+use Rattle.slots.specs.Slots.{DeviceSlots, Issue, context_unless, has_bit, holds, is_done_issue, is_out_issue, is_sent_pio, is_waiting, match_some}
+use Rattle.slots.specs.{Slots.{new_issue, own_issue, sent_pio, waiting}, Work.is_queued, declared.answer.Answered.Answered}
+use Rattle.slots.specs.declared.{answer.SetupError.SetupError, table.Context.Context}
 use Rattle.slots.specs.declared.answer.Answered.TheVariants as answer
-use Rattle.slots.specs.declared.answer.SetupError.{SetupError}
 use Rattle.slots.specs.declared.answer.SetupError.TheVariants as refused
-use Rattle.slots.specs.declared.table.Context.{Context}
 use Rattle.slots.proofs.Door.{lowest_is}
 use Rattle.port_errors.specs.declared.cause.DeviceCause.TheVariants as cause
 use Rattle.hba_fbs.specs.declared.hearing.Happening.TheVariants as happening
-use Rattle.hba_fbs.specs.declared.hearing.Heard.{Heard}
-use Rattle.hba_fbs.specs.declared.report.TakeReport.{TakeReport}
-use Rattle.hba_fbs.specs.declared.state.DeviceState.{DeviceState}
-use Rattle.hba_fbs.specs.declared.status.Block.{Block}
+use Rattle.hba_fbs.specs.declared.{hearing.Heard.Heard, report.TakeReport.TakeReport, state.DeviceState.DeviceState, status.Block.Block}
 use Rattle.hba_fbs.specs.declared.hearing.Happening.{Happening}
-use Rattle.hba_fbs.specs.Hearing.{answered, block_of, faulty, heard_data, heard_data_of, heard_out, heard_pio, heard_setup, heard_d2h, heard_fis, quietly, set_up, tag_of, heard_register, signing}
-use Rattle.hba_fbs.specs.Posting.{signs}
-use Rattle.hba_fbs.specs.Status.{after_reset, is_busy, is_error, with_file}
-use Rattle.hba_fbs.specs.Taking.{heard_view, ignores, is_running, port_of, view_after_hearing}
+use Rattle.hba_fbs.specs.Hearing.{answered, block_of, faulty, heard_data, heard_data_of, heard_out, heard_pio, heard_setup, heard_d2h, heard_fis}
+use Rattle.hba_fbs.specs.{Hearing.{quietly, set_up, tag_of, heard_register, signing}, Posting.signs}
+use Rattle.hba_fbs.specs.{Status.{after_reset, is_busy, is_error, with_file}, Taking.{heard_view, ignores, is_running, port_of, view_after_hearing}}
 use Rattle.hba_fbs.specs.Views.{DeviceView, Port, last_command, view_of}
 use Rattle.hba_laws.specs.Client.{Touches}
 use Rattle.hba_laws.proofs.Door.{held, own_freed, some_inj}
-use Rattle.hba_driver.specs.Drivers.{Driver}
-use Rattle.hba_driver.specs.Events.{IsSoundHost, shared_by}
-use Rattle.hba_driver.specs.HostTurns.{Does, Host, Took}
-use Rattle.hba_driver.specs.Orders.{control}
-use Rattle.hba_driver.specs.Served.{IsServed}
-use Rattle.hba_driver.specs.Slot30.{Asks, Cleared, Faulty, IsAt30, IsSlot30, LogSent, MayCome30, On, Sets, Stage30, TakesLead30, TakesOn30, Turns30, is_faulty, is_resetting}
-use Rattle.hba_driver.proofs.recovers.ApartPushes.{IsDriven30, alone_issue, control_kind, driven_at, kept30}
-use Rattle.hba_driver.proofs.modes.RowMode.{skipped_as}
+use Rattle.hba_driver.specs.{Drivers.Driver, Events.{IsSoundHost, shared_by}, HostTurns.{Does, Host, Took}, Orders.control, Served.IsServed}
+use Rattle.hba_driver.specs.Slot30.{Asks, Cleared, Faulty, IsAt30, IsSlot30, LogSent, MayCome30, On, Sets, Stage30, TakesLead30, TakesOn30, Turns30}
+use Rattle.hba_driver.specs.Slot30.{is_faulty, is_resetting}
+use Rattle.hba_driver.proofs.{recovers.ApartPushes.{IsDriven30, alone_issue, control_kind, driven_at, kept30}, modes.RowMode.skipped_as}
 use Rattle.hba_driver.proofs.goes_on.StopLemmas.{either}
 
 -- ---- a device to which nothing went out and for which nothing queued is issued
@@ -287,7 +273,6 @@ module _ (n : ℕ) (past : Touches) (old : Host) (frame : List ℕ) (report : Ta
       (λ p issue commands. subst (λ (x : Stage30). IsSlot30 n x p) (sym is)
       (record { issued = issue ∙ u.issued; command = u.command; there = ap (λ (l : List (Option Command)). last_command l 30) commands ∙ u.there; work = u.work; built = u.built }))
       (subst (λ (x : Stage30). TakesOn30 x x) (sym is) (inl refl)) (subst (λ (x : Stage30). TakesOn30 x Faulty) (sym is) (inr refl))
-  own_by On is own may = same_stage On is (λ e. refl) (skipped (reset_skips own ((at.apart (ap is_faulty is)).resetting ∙ ap is_resetting is) may))
   own_by other is own may = same_stage other is (λ e. refl) (skipped (reset_skips own ((at.apart (ap is_faulty is)).resetting ∙ ap is_resetting is) may))
 
   pub took_turn : (port_of frame ≡ n → MayCome30 stage frame) → Turns30 n stage (Took frame report) new

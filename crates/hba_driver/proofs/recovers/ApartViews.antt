@@ -1,47 +1,28 @@
 -- For `devices_are_apart`. What an act leaves of the view of a device: everything, except for a command of its own in
 -- slot 30.
 use Rattle.std.proofs.Common.{◌≡◌, ◌≢◌, ℕ, ◌+◌, ◌*◌, ◌^◌, ◌<◌, ◌≤◌, Bool, true, false, List, [], length, refl, sym, ◌∙◌, ap, subst, inl, inr, arith, Option, Some, None}
-use Rattle.std.specs.Prelude.{if◌then◌else◌}
-use Rattle.std.specs.Option.{option_or}
-use Rattle.std.proofs.lemmas.Bool.{cases_lt, eq-eqb, ne_eqb}
-use Rattle.std.proofs.lemmas.List.{get_or_past}
-use Rattle.std.proofs.lemmas.List.FromFn.{get_or-map-range_with_len, length-map-range_with_len}
-use Rattle.fis_view.specs.Built.{IsBuilt, h2d_given}
-use Rattle.fis_view.specs.Table.{H2d}
-use Rattle.fis_view.specs.declared.build.H2dFields.{H2dFields}
-use Rattle.host_memory.specs.Memory.{IsHostMemory, Memory}
-use Rattle.host_memory.specs.Place.{total_of}
-use Rattle.hba_commands.specs.declared.command.Command.{Command}
-use Rattle.hba_commands.specs.Commands.{cfis_at, is_proper}
-use Rattle.hba_commands.specs.Requests.{request_of, work_of}
+use Rattle.std.specs.{Prelude.if◌then◌else◌, Option.option_or}
+use Rattle.std.proofs.lemmas.{Bool.{cases_lt, eq-eqb, ne_eqb}, List.get_or_past, List.FromFn.{get_or-map-range_with_len, length-map-range_with_len}}
+use Rattle.fis_view.specs.{Built.{IsBuilt, h2d_given}, Table.H2d, declared.build.H2dFields.H2dFields}
+use Rattle.host_memory.specs.{Memory.{IsHostMemory, Memory}, Place.total_of}
+use Rattle.hba_commands.specs.{declared.command.Command.Command, Commands.{cfis_at, is_proper}, Requests.{request_of, work_of}}
 use Rattle.hba_commands.specs.Writing.{header_for, total_if_usable}
 use Rattle.port_errors.specs.Errors.{cleared_device}
 use Rattle.slots.specs.Slots.{Issue, issue_at, match_some, new_issue, own_issue, slots_of}
-use Rattle.hba_fbs.specs.declared.register.Register.{Register}
-use Rattle.hba_fbs.specs.declared.register.Register.TheVariants.{Is, Sact, Ci, Fbs}
-use Rattle.hba_fbs.specs.declared.registers.Registers.{Registers}
-use Rattle.hba_fbs.specs.Issuing.{aimed, asked, commands_with}
-use Rattle.hba_fbs.specs.Offsets.{register_at}
-use Rattle.hba_fbs.specs.Registers.{written}
+use Rattle.hba_fbs.specs.declared.{register.Register.{Register, TheVariants.{Is, Sact, Ci, Fbs}}, registers.Registers.Registers}
+use Rattle.hba_fbs.specs.{Issuing.{aimed, asked, commands_with}, Offsets.register_at, Registers.written}
 use Rattle.hba_fbs.specs.Views.{DeviceView, Port, last_command, stopped_view, view_of}
 use Rattle.hba_fbs.specs.Writing.{Accepts, commands_after, errors_after, refusal_of, view_after, view_cleared}
 use Rattle.hba_fbs.proofs.Door.{aimed_chosen}
 use Rattle.hba_laws.proofs.Door.{own_in, some_inj}
 use Rattle.hba_driver.specs.declared.effect.Effect.TheVariants as effect
-use Rattle.hba_driver.specs.declared.mode.Mode.TheVariants.{Switching}
-use Rattle.hba_driver.specs.declared.order.Order.{Order}
-use Rattle.hba_driver.specs.declared.order.Order.TheVariants.{Scan, Clear}
-use Rattle.hba_driver.specs.declared.path.Stage.{Stage}
-use Rattle.hba_driver.specs.declared.path.Stage.TheVariants.{Identify, ReadLog, AssertReset, ReleaseReset, AwaitReset}
+use Rattle.hba_driver.specs.declared.{mode.Mode.TheVariants.Switching, order.Order.{Order, TheVariants.{Scan, Clear}}}
+use Rattle.hba_driver.specs.declared.path.Stage.{Stage, TheVariants.{Identify, ReadLog, AssertReset, ReleaseReset, AwaitReset}}
 use Rattle.hba_driver.specs.Effects.{Acts, ActsAll, IsRuled, clearing, issuing, order_effects, prds_with, sending, stage_effects, table_of}
-use Rattle.hba_driver.specs.Orders.{control, identify_fields, log_fields, order_fields}
-use Rattle.hba_driver.specs.Paths.{reads_page, stage_fields}
-use Rattle.hba_driver.specs.Sights.{px_ci, px_fbs, px_is, px_sact}
-use Rattle.hba_driver.specs.Between.{IsUp, Issues30}
+use Rattle.hba_driver.specs.{Orders.{control, identify_fields, log_fields, order_fields}, Paths.{reads_page, stage_fields}}
+use Rattle.hba_driver.specs.{Sights.{px_ci, px_fbs, px_is, px_sact}, Between.{IsUp, Issues30}}
 use Rattle.hba_driver.proofs.accepted.AcceptLemmas.{buffer_usable, control_proper, identify_proper, log_proper, small_dev}
-use Rattle.hba_driver.proofs.events.DrivenLemmas.{tried_at}
-use Rattle.hba_driver.proofs.issued.EndingLemmas.{clear_taken, is_accepted, only_cleared}
-use Rattle.hba_driver.proofs.events.OpenLemmas.{taken}
+use Rattle.hba_driver.proofs.{events.DrivenLemmas.tried_at, issued.EndingLemmas.{clear_taken, is_accepted, only_cleared}, events.OpenLemmas.taken}
 use Rattle.hba_driver.proofs.accepted.UpLemmas.{Placed, Ready, asks, ci_step, ci_taken, command_placed, fbs_step, no_bit, same_free, sntf_step}
 
 -- ---- what leaves the view

@@ -3,27 +3,14 @@ use Rattle.std.proofs.Common.{◌≡◌, ◌≢◌, ℕ, Bool, true, false, nat_
 use Rattle.std.specs.Prelude.{if◌then◌else◌}
 use Rattle.std.proofs.lemmas.Bool.{cases_Bool, false≢true}
 use Rattle.slots.specs.Slots.{match_some}
-use Rattle.hba_driver.specs.declared.order.Order.{Order}
-use Rattle.hba_driver.specs.declared.order.Order.TheVariants.{Clear}
-use Rattle.hba_driver.specs.declared.path.Path.{Path}
-use Rattle.hba_driver.specs.declared.path.TaskFile.{TaskFile}
-use Rattle.hba_driver.specs.declared.plan.Plan.{Plan}
-use Rattle.hba_driver.specs.Seeing.{Sight}
-use Rattle.hba_driver.specs.declared.turn.Act.{Act}
-use Rattle.hba_driver.specs.declared.turn.Act.TheVariants as act
-use Rattle.hba_driver.specs.Drivers.{Driver, Entry}
-use Rattle.hba_driver.specs.HostTurns.{Does, Host, HostTurn, Polled, Submitted, Ticked, sight_in}
-use Rattle.hba_driver.specs.Sights.{file_shown}
-use Rattle.hba_driver.specs.Slot30.{IsUnflushed, StaysUnsought}
-use Rattle.hba_driver.specs.Steady.{IsFlushTick, detects}
+use Rattle.hba_driver.specs.{declared.{order.Order.{Order, TheVariants.Clear}, path.Path.Path, path.TaskFile.TaskFile, plan.Plan.Plan}, Seeing.Sight}
+use Rattle.hba_driver.specs.{declared.turn.Act.Act, Drivers.{Driver, Entry}, HostTurns.{Does, Host, HostTurn, Polled, Submitted, Ticked, sight_in}}
+use Rattle.hba_driver.specs.{Sights.file_shown, Slot30.{IsUnflushed, StaysUnsought}, Steady.{IsFlushTick, detects}}
 use Rattle.hba_driver.specs.Ticks.{after_tick, done_ended, due, from_reset, ordered, plan_after, recovering, seen, turn}
-use Rattle.hba_driver.specs.Turns.{advanced, control_seen, device_seen, is_back, turn_of}
-use Rattle.hba_driver.specs.Between.{DueOf}
-use Rattle.hba_driver.proofs.goes_on.PageLemmas.{poll_plan}
-use Rattle.hba_driver.proofs.ticks.DueLemmas.{turn_by}
-use Rattle.hba_driver.proofs.steady.SteadyLemmas.{detects_out, found_order, of_turn}
-use Rattle.hba_driver.proofs.steady.SteadyTurns.{acted_plan}
-use Rattle.hba_driver.proofs.anew.TendedLemmas.{IsUnsought, control_leaves}
+use Rattle.hba_driver.specs.{Turns.{advanced, control_seen, device_seen, is_back, turn_of}, Between.DueOf}
+use Rattle.hba_driver.specs.declared.turn.Act.TheVariants as act
+use Rattle.hba_driver.proofs.{goes_on.PageLemmas.poll_plan, ticks.DueLemmas.turn_by, steady.SteadyLemmas.{detects_out, found_order, of_turn}}
+use Rattle.hba_driver.proofs.{steady.SteadyTurns.acted_plan, anew.TendedLemmas.{IsUnsought, control_leaves}}
 
 -- ---- what is seen of slot 30
 

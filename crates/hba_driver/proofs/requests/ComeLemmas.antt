@@ -2,14 +2,9 @@
 -- turn took it.
 use Rattle.std.proofs.Common.{◌≡◌, ℕ, ◌+◌, ◌⊎◌, sym, ◌∙◌, ap, refl, inl, inr, Option, Some, None}
 use Rattle.std.proofs.lemmas.Bool.{true≢false}
-use Rattle.hba_driver.specs.Drivers.{Driver, Entry, entry_at}
-use Rattle.hba_driver.specs.HostTurns.{Does, Host, HostTurn, Ticked, Submitted, Polled, sight_in}
-use Rattle.hba_driver.specs.Sights.{file_shown}
-use Rattle.hba_driver.specs.Submits.{new_entry, next_slot}
-use Rattle.hba_driver.specs.Ticks.{after_tick}
-use Rattle.hba_driver.specs.Between.{Fresh, PollFacts, Stood}
-use Rattle.hba_driver.proofs.requests.HistoryLemmas.{back_of, freed, poll_facts, some_same}
-use Rattle.hba_driver.proofs.ticks.LifeLemmas.{goes_same, keeps_tick}
+use Rattle.hba_driver.specs.{Drivers.{Driver, Entry, entry_at}, HostTurns.{Does, Host, HostTurn, Ticked, Submitted, Polled, sight_in}}
+use Rattle.hba_driver.specs.{Sights.file_shown, Submits.{new_entry, next_slot}, Ticks.after_tick, Between.{Fresh, PollFacts, Stood}}
+use Rattle.hba_driver.proofs.{requests.HistoryLemmas.{back_of, freed, poll_facts, some_same}, ticks.LifeLemmas.{goes_same, keeps_tick}}
 use Rattle.hba_driver.proofs.calls.RequestLemmas.{set_cases}
 
 none_some : (e : Entry) {P : Type 0} → None ≡ Some e → P

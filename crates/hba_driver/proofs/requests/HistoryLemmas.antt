@@ -1,33 +1,22 @@
 -- For `turns_keep`. What holds over every list of turns of the host.
 use Rattle.std.proofs.Common.{◌≡◌, ◌≢◌, ℕ, ◌+◌, ◌<◌, ◌≤◌, ◌⊎◌, Bool, true, false, ◌&&◌, List, [], ◌∷◌, ◌++◌, length, set, refl, sym, ◌∙◌, ap, subst, inl, inr, arith, Option, Some, None}
-use Rattle.std.specs.Prelude.{◌==◌, ◌||◌, not, is_none, unwrap_or}
-use Rattle.std.specs.List.{list_any, range_with_len}
-use Rattle.std.specs.Option.{option_map}
-use Rattle.std.proofs.lemmas.Bool.{cases_Bool, cases_eq, false≢true, or_parts, true≢false}
-use Rattle.std.proofs.lemmas.Bool.Decides.{nat_tests}
-use Rattle.std.proofs.lemmas.List.{get_or-set_other}
+use Rattle.std.specs.{Prelude.{◌==◌, ◌||◌, not, is_none, unwrap_or}, List.{list_any, range_with_len}, Option.option_map}
+use Rattle.std.proofs.lemmas.{Bool.{cases_Bool, cases_eq, false≢true, or_parts, true≢false}, Bool.Decides.nat_tests, List.get_or-set_other}
 use Rattle.slots.specs.Slots.{match_some}
 use Rattle.slots.proofs.Door.{lowest_is}
-use Rattle.hba_driver.specs.declared.request.Completion.{Completion}
-use Rattle.hba_driver.specs.declared.request.Outcome.{Outcome}
-use Rattle.hba_driver.specs.declared.request.Outcome.TheVariants.{Done, DeviceError, Aborted}
-use Rattle.hba_driver.specs.declared.request.Request.{Request}
-use Rattle.hba_driver.specs.Seeing.{Sight}
-use Rattle.hba_driver.specs.declared.slot.Head.{Head}
-use Rattle.hba_driver.specs.declared.slot.Phase.{Phase}
-use Rattle.hba_driver.specs.declared.slot.Phase.TheVariants.{Waits, Issued, Aside, Ended}
-use Rattle.hba_driver.specs.declared.turn.Act.{Act}
-use Rattle.hba_driver.specs.declared.turn.Act.TheVariants as act
-use Rattle.host_memory.specs.Memory.{Memory}
-use Rattle.hba_driver.specs.declared.path.TaskFile.{TaskFile}
+use Rattle.hba_driver.specs.declared.{request.Completion.Completion, request.Outcome.{Outcome, TheVariants.{Done, DeviceError, Aborted}}}
+use Rattle.hba_driver.specs.{declared.request.Request.Request, Seeing.Sight, declared.slot.Head.Head}
+use Rattle.hba_driver.specs.declared.{slot.Phase.{Phase, TheVariants.{Waits, Issued, Aside, Ended}}, turn.Act.Act, path.TaskFile.TaskFile}
 use Rattle.hba_driver.specs.Drivers.{AreRequests, Driver, Entry, entry_at, holds, is_issued_in, rephased, waits, waits_in}
-use Rattle.hba_driver.specs.HostTurns.{Does, DoesAll, Host, HostTurn, Took, Pushed, Ticked, Submitted, Polled, Put, given_in, issued_by_act, issued_in_tick, issued_over, polled_in, sight_in, ticket_of}
+use Rattle.hba_driver.specs.HostTurns.{Does, DoesAll, Host, HostTurn, Took, Pushed, Ticked, Submitted, Polled, Put, given_in, issued_by_act}
+use Rattle.hba_driver.specs.HostTurns.{issued_in_tick, issued_over, polled_in, sight_in, ticket_of}
 use Rattle.hba_driver.specs.Laws.{AreOnce, EachRunKeeps, Goes, GoesOn, Kept, Keeps, Lives, ends_as, gives, is_outcome}
 use Rattle.hba_driver.specs.Requests.{is_free, lowest_free}
-use Rattle.hba_driver.specs.Submits.{after_poll, after_submit, completed, completion_at, completion_of, lowest_ended, new_entry, next_slot, submit_refusal}
-use Rattle.hba_driver.specs.Sights.{file_shown}
-use Rattle.hba_driver.specs.Ticks.{acted, after_tick, done_ended, entries_after, is_done, seen, turn}
+use Rattle.hba_driver.specs.Submits.{after_poll, after_submit, completed, completion_at, completion_of, lowest_ended, new_entry, next_slot}
+use Rattle.hba_driver.specs.{Submits.submit_refusal, Sights.file_shown, Ticks.{acted, after_tick, done_ended, entries_after, is_done, seen, turn}}
 use Rattle.hba_driver.specs.Between.{LivesOn, PollFacts}
+use Rattle.hba_driver.specs.declared.turn.Act.TheVariants as act
+use Rattle.host_memory.specs.Memory.{Memory}
 use Rattle.hba_driver.proofs.ticks.LifeLemmas.{May, given_tick, goes_same, keeps_seen, keeps_tick, may_turn, on_then, slots_tick, waits_if_may}
 use Rattle.hba_driver.proofs.calls.RequestLemmas.{requests_freed, requests_from, requests_logged, requests_rephased, requests_taken, set_cases}
 use Rattle.hba_driver.proofs.calls.SubmitLemmas.{is_taken, no_conflict}
@@ -138,12 +127,11 @@ given_more old mid new ticket tickets first next h = record {
 
 given_over : (turns : List HostTurn) (old new : Host) → DoesAll old turns new → GivenIn old.driver new.driver (given_in turns)
 given_over [] old new run = record { given = refl; last = ap (λ (h : Host). h.driver.given) run ∙ omega arith }
-given_over (Took frame report ∷ turns) old new run = given_on old.driver run.0.driver new.driver _ (ap (λ (d : Driver). d.given) run.1.driver) (given_over turns run.0 new run.2)
-given_over (Pushed frame ∷ turns) old new run = given_on old.driver run.0.driver new.driver _ (ap (λ (d : Driver). d.given) run.1.driver) (given_over turns run.0 new run.2)
 given_over (Ticked a ∷ turns) old new run = given_on old.driver run.0.driver new.driver _ (ap (λ (d : Driver). d.given) run.1.driver ∙ given_tick (sight_in old) (file_shown run.0.port) old.driver) (given_over turns run.0 new run.2)
 given_over (Submitted dev request ticket ∷ turns) old new run = given_more old.driver run.0.driver new.driver ticket _ run.1.taken.next (ap (λ (d : Driver). d.given) run.1.taken.driver) (given_over turns run.0 new run.2)
 given_over (Polled c ∷ turns) old new run = given_on old.driver run.0.driver new.driver _ (ap (λ (d : Driver). d.given) (run.1.driver ∙ freed old.driver c (poll_facts old.driver c run.1.polled))) (given_over turns run.0 new run.2)
-given_over (Put at bytes ∷ turns) old new run = given_on old.driver run.0.driver new.driver _ (ap (λ (d : Driver). d.given) run.1.driver) (given_over turns run.0 new run.2)
+given_over (other ∷ turns) old new run =
+    given_on old.driver run.0.driver new.driver _ (ap (λ (d : Driver). d.given) run.1.driver) (given_over turns run.0 new run.2)
 
 -- ---- requests stay sound
 
@@ -244,25 +232,17 @@ gone_unpolled d c ticket polled stands =
 
 none_polled : (turns : List HostTurn) (old new : Host) → DoesAll old turns new → (ticket : ℕ) → Stands gone ticket old.driver → list_any (λ y. y == ticket) (polled_in turns) ≡ false
 none_polled [] old new run ticket h = refl
-none_polled (Took frame report ∷ turns) old new run ticket h = none_polled turns run.0 new run.2 ticket (stands_turn gone gone_stays ticket old (Took frame report) run.0 run.1 h)
-none_polled (Pushed frame ∷ turns) old new run ticket h = none_polled turns run.0 new run.2 ticket (stands_turn gone gone_stays ticket old (Pushed frame) run.0 run.1 h)
-none_polled (Ticked a ∷ turns) old new run ticket h = none_polled turns run.0 new run.2 ticket (stands_turn gone gone_stays ticket old (Ticked a) run.0 run.1 h)
-none_polled (Submitted dev request t ∷ turns) old new run ticket h = none_polled turns run.0 new run.2 ticket (stands_turn gone gone_stays ticket old (Submitted dev request t) run.0 run.1 h)
 none_polled (Polled c ∷ turns) old new run ticket h =
     ap (λ (b : Bool). b || list_any (λ y. y == ticket) (polled_in turns)) (gone_unpolled old.driver c ticket run.1.polled h)
     ∙ none_polled turns run.0 new run.2 ticket (stands_turn gone gone_stays ticket old (Polled c) run.0 run.1 h)
-none_polled (Put at bytes ∷ turns) old new run ticket h = none_polled turns run.0 new run.2 ticket (stands_turn gone gone_stays ticket old (Put at bytes) run.0 run.1 h)
+none_polled (other ∷ turns) old new run ticket h = none_polled turns run.0 new run.2 ticket (stands_turn gone gone_stays ticket old other run.0 run.1 h)
 
 polled_once : (turns : List HostTurn) (old new : Host) → DoesAll old turns new → AreRequests old.driver.given old.driver.entries → AreOnce (polled_in turns)
 polled_once [] old new run r = tt
-polled_once (Took frame report ∷ turns) old new run r = polled_once turns run.0 new run.2 (requests_turn old (Took frame report) run.0 run.1 r)
-polled_once (Pushed frame ∷ turns) old new run r = polled_once turns run.0 new run.2 (requests_turn old (Pushed frame) run.0 run.1 r)
-polled_once (Ticked a ∷ turns) old new run r = polled_once turns run.0 new run.2 (requests_turn old (Ticked a) run.0 run.1 r)
-polled_once (Submitted dev request t ∷ turns) old new run r = polled_once turns run.0 new run.2 (requests_turn old (Submitted dev request t) run.0 run.1 r)
 polled_once (Polled c ∷ turns) old new run r =
     let after : Stands gone c.ticket.0 run.0.driver = subst (λ (d : Driver). Stands gone c.ticket.0 d) (sym run.1.driver) (polled_gone old.driver c run.1.polled r) in
     (none_polled turns run.0 new run.2 c.ticket.0 after, polled_once turns run.0 new run.2 (requests_turn old (Polled c) run.0 run.1 r))
-polled_once (Put at bytes ∷ turns) old new run r = polled_once turns run.0 new run.2 (requests_turn old (Put at bytes) run.0 run.1 r)
+polled_once (other ∷ turns) old new run r = polled_once turns run.0 new run.2 (requests_turn old other run.0 run.1 r)
 
 -- ---- the life of a request
 
@@ -297,13 +277,11 @@ equal_is : (x y : ℕ) → x ≡ y → (x == y) ≡ true
 equal_is x y h = grind (arith, nat_tests)
 
 own_outcome : (o : Outcome) → is_outcome o o ≡ true
-own_outcome Done = refl
 own_outcome (DeviceError status error) = both_own (status == status) (error == error) (equal_is status status refl) (equal_is error error refl)
   where
     both_own : (a b : Bool) → a ≡ true → b ≡ true → (a && b) ≡ true
     both_own true b h k = k
     both_own false b h k = absurd (false≢true h)
-own_outcome Aborted = refl
 own_outcome other = refl
 
 all_three : (a b c : Bool) → a ≡ true → b ≡ true → c ≡ true → (a && b && c) ≡ true
@@ -443,10 +421,6 @@ stands_next = stands_turn past past_stays
 none_issued : (turns : List HostTurn) (old new : Host) (run : DoesAll old turns new) → AreRequests old.driver.given old.driver.entries → (ticket : ℕ) → Stands past ticket old.driver
     → list_any (λ y. y == ticket) (issued_over old new turns run) ≡ false
 none_issued [] old new run r ticket h = refl
-none_issued (Took frame report ∷ turns) old new run r ticket h =
-    none_issued turns run.0 new run.2 (requests_turn old (Took frame report) run.0 run.1 r) ticket (stands_next ticket old (Took frame report) run.0 run.1 h)
-none_issued (Pushed frame ∷ turns) old new run r ticket h =
-    none_issued turns run.0 new run.2 (requests_turn old (Pushed frame) run.0 run.1 r) ticket (stands_next ticket old (Pushed frame) run.0 run.1 h)
 none_issued (Ticked a ∷ turns) old new run r ticket h =
     let later : list_any (λ y. y == ticket) (issued_over run.0 new turns run.2) ≡ false =
     none_issued turns run.0 new run.2 (requests_turn old (Ticked a) run.0 run.1 r) ticket (stands_next ticket old (Ticked a) run.0 run.1 h) in
@@ -456,17 +430,11 @@ none_issued (Ticked a ∷ turns) old new run r ticket h =
           subst (λ (l : List ℕ). list_any (λ y. y == ticket) (l ++ issued_over run.0 new turns run.2) ≡ false) (sym one.is)
           (ap (λ (b : Bool). b || list_any (λ y. y == ticket) (issued_over run.0 new turns run.2)) (one.before ticket h) ∙ later)
     ]
-none_issued (Submitted dev request t ∷ turns) old new run r ticket h =
-    none_issued turns run.0 new run.2 (requests_turn old (Submitted dev request t) run.0 run.1 r) ticket (stands_next ticket old (Submitted dev request t) run.0 run.1 h)
-none_issued (Polled c ∷ turns) old new run r ticket h =
-    none_issued turns run.0 new run.2 (requests_turn old (Polled c) run.0 run.1 r) ticket (stands_next ticket old (Polled c) run.0 run.1 h)
-none_issued (Put at bytes ∷ turns) old new run r ticket h =
-    none_issued turns run.0 new run.2 (requests_turn old (Put at bytes) run.0 run.1 r) ticket (stands_next ticket old (Put at bytes) run.0 run.1 h)
+none_issued (other ∷ turns) old new run r ticket h =
+    none_issued turns run.0 new run.2 (requests_turn old other run.0 run.1 r) ticket (stands_next ticket old other run.0 run.1 h)
 
 issued_once : (turns : List HostTurn) (old new : Host) (run : DoesAll old turns new) → AreRequests old.driver.given old.driver.entries → AreOnce (issued_over old new turns run)
 issued_once [] old new run r = tt
-issued_once (Took frame report ∷ turns) old new run r = issued_once turns run.0 new run.2 (requests_turn old (Took frame report) run.0 run.1 r)
-issued_once (Pushed frame ∷ turns) old new run r = issued_once turns run.0 new run.2 (requests_turn old (Pushed frame) run.0 run.1 r)
 issued_once (Ticked a ∷ turns) old new run r =
     let next : AreRequests run.0.driver.given run.0.driver.entries = requests_turn old (Ticked a) run.0 run.1 r in
     let later : AreOnce (issued_over run.0 new turns run.2) = issued_once turns run.0 new run.2 next in
@@ -476,9 +444,7 @@ issued_once (Ticked a ∷ turns) old new run r =
           let far : Stands past one.ticket run.0.driver = subst (λ (d : Driver). Stands past one.ticket d) (sym run.1.driver) one.after in
           subst (λ (l : List ℕ). AreOnce (l ++ issued_over run.0 new turns run.2)) (sym one.is) (none_issued turns run.0 new run.2 next one.ticket far, later)
     ]
-issued_once (Submitted dev request t ∷ turns) old new run r = issued_once turns run.0 new run.2 (requests_turn old (Submitted dev request t) run.0 run.1 r)
-issued_once (Polled c ∷ turns) old new run r = issued_once turns run.0 new run.2 (requests_turn old (Polled c) run.0 run.1 r)
-issued_once (Put at bytes ∷ turns) old new run r = issued_once turns run.0 new run.2 (requests_turn old (Put at bytes) run.0 run.1 r)
+issued_once (other ∷ turns) old new run r = issued_once turns run.0 new run.2 (requests_turn old other run.0 run.1 r)
 
 pub each_run_keeps : EachRunKeeps
 each_run_keeps old turns new run r =

@@ -1,41 +1,24 @@
 -- For `commands_stand`. What a request has written into the structure area stays there.
 use Rattle.std.proofs.Common.{◌≡◌, ◌≢◌, ℕ, ◌+◌, ◌-◌, ◌*◌, ◌<◌, ◌≤◌, Bool, true, false, ◌&&◌, nat_lt, nat_le, List, [], ◌∷◌, ◌++◌, length, take, drop, replicate, get_or, refl, sym, ◌∙◌, ap, subst, inl, inr, arith, Option, Some, None, length-append}
-use Rattle.std.specs.Prelude.{◌||◌, not, slice_index}
-use Rattle.std.specs.List.{list_all, list_any}
-use Rattle.std.proofs.lemmas.Bool.{cases_Bool, cases_lt, false≢true, true≢false, or_parts}
-use Rattle.std.proofs.lemmas.Bool.Decides.{nat_tests}
+use Rattle.std.specs.{Prelude.{◌||◌, not, slice_index}, List.{list_all, list_any}}
+use Rattle.std.proofs.lemmas.{Bool.{cases_Bool, cases_lt, false≢true, true≢false, or_parts}, Bool.Decides.nat_tests}
 use Rattle.std.proofs.lemmas.List.{get_or_past, get_or-drop, get_or-take, length-replicate, length-take}
-use Rattle.fis_view.specs.Seen.{seen}
-use Rattle.fis_view.specs.declared.build.H2dFields.{H2dFields}
-use Rattle.fis_view.specs.declared.view.Fis.{Fis}
-use Rattle.host_memory.specs.Memory.{Memory, overwritten, zeros}
-use Rattle.host_memory.specs.Reading.{AgreeFrom, LieApart}
-use Rattle.host_memory.specs.Writing.{table_bytes}
-use Rattle.host_memory.specs.declared.table.Prd.{Prd}
+use Rattle.fis_view.specs.{Seen.seen, declared.{build.H2dFields.H2dFields, view.Fis.Fis}}
+use Rattle.host_memory.specs.{Memory.{Memory, overwritten, zeros}, Reading.{AgreeFrom, LieApart}, Writing.table_bytes, declared.table.Prd.Prd}
 use Rattle.host_memory.proofs.Door.{agree_beside, length-overwritten, length-table_bytes, length-zeros}
-use Rattle.hba_commands.specs.Commands.{cfis_at}
-use Rattle.hba_commands.specs.Headers.{header_place}
-use Rattle.hba_commands.specs.Requests.{request_of}
+use Rattle.hba_commands.specs.{Commands.cfis_at, Headers.header_place, Requests.request_of}
 use Rattle.hba_commands.specs.Writing.{IsWritten, command_table, header_bytes, header_for}
 use Rattle.hba_commands.proofs.Door.{length-header_bytes}
-use Rattle.hba_fbs.specs.Posting.{Posts}
-use Rattle.hba_fbs.specs.Taking.{PostsIn, admitted, ignores, is_running, port_of, row_for}
-use Rattle.hba_fbs.specs.Views.{Port}
-use Rattle.hba_driver.specs.declared.effect.Effect.{Effect}
-use Rattle.hba_driver.specs.declared.effect.Effect.TheVariants as effect
-use Rattle.hba_driver.specs.declared.mode.Mode.{Mode}
-use Rattle.hba_driver.specs.declared.turn.Act.{Act}
-use Rattle.hba_driver.specs.declared.turn.Act.TheVariants as act
-use Rattle.hba_driver.specs.Drivers.{AreRequests, Entry, entry_at}
+use Rattle.hba_fbs.specs.{Posting.Posts, Taking.{PostsIn, admitted, ignores, is_running, port_of, row_for}, Views.Port}
+use Rattle.hba_driver.specs.{declared.{effect.Effect.Effect, mode.Mode.Mode, turn.Act.Act}, Drivers.{AreRequests, Entry, entry_at}}
 use Rattle.hba_driver.specs.Effects.{Acts, ActsAll, effects_of, is_effect, issuing, prds_with, table_of}
 use Rattle.hba_driver.specs.HostTurns.{AreHosts, Does, DoesAll, Host, HostTurn, IsHost, Took, Ticked, Submitted, sight_in}
-use Rattle.hba_driver.specs.Laws.{CommandsStand, Stands, gives}
-use Rattle.hba_driver.specs.Paths.{reads_page, stage_fields}
-use Rattle.hba_driver.specs.Submits.{next_slot}
+use Rattle.hba_driver.specs.{Laws.{CommandsStand, Stands, gives}, Paths.{reads_page, stage_fields}, Submits.next_slot}
 use Rattle.hba_driver.specs.Ticks.{due, effects, effects_due}
+use Rattle.hba_driver.specs.declared.effect.Effect.TheVariants as effect
+use Rattle.hba_driver.specs.declared.turn.Act.TheVariants as act
 use Rattle.hba_driver.proofs.calls.EffectLemmas.{issuing_pass, opens_pass, order_pass, restarts_pass, sending_pass}
-use Rattle.hba_driver.proofs.requests.HistoryLemmas.{free_below, free_other, lives_turn, none_gives, requests_turn}
-use Rattle.hba_driver.proofs.modes.RowMode.{heard_as}
+use Rattle.hba_driver.proofs.{requests.HistoryLemmas.{free_below, free_other, lives_turn, none_gives, requests_turn}, modes.RowMode.heard_as}
 use Rattle.hba_driver.proofs.calls.SubmitLemmas.{is_taken}
 
 abbrev no_entry : Option Entry

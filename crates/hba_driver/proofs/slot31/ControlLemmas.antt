@@ -1,55 +1,32 @@
 -- For `orders_take_turns`. What a tick leaves of the control port's part of the host port: everything, except for the
 -- command of an order, which is issued in slot 31.
 use Rattle.std.proofs.Common.{◌≡◌, ◌≢◌, ℕ, ◌+◌, ◌*◌, ◌^◌, ◌<◌, Bool, true, false, ◌&&◌, nat_lt, List, [], ◌∷◌, ◌++◌, length, replicate, refl, sym, ◌∙◌, ap, subst, inl, inr, arith, Option, Some, None}
-use Rattle.std.specs.Prelude.{◌||◌, ◌==◌, ◌%◌, if◌then◌else◌, not, is_none, is_some}
-use Rattle.std.specs.Option.{option_or}
-use Rattle.std.proofs.lemmas.Bool.{eq-eqb, false≢true, ne_eqb, true≢false}
-use Rattle.std.proofs.lemmas.Bool.Decides.{nat_tests}
-use Rattle.std.proofs.lemmas.Nat.Bits.{bit_at-zero}
-use Rattle.fis_view.specs.Built.{IsBuilt, h2d_given}
-use Rattle.fis_view.specs.Table.{H2d}
-use Rattle.fis_view.specs.declared.build.H2dFields.{H2dFields}
+use Rattle.std.specs.{Prelude.{◌||◌, ◌==◌, ◌%◌, if◌then◌else◌, not, is_none, is_some}, Option.option_or}
+use Rattle.std.proofs.lemmas.{Bool.{eq-eqb, false≢true, ne_eqb, true≢false}, Bool.Decides.nat_tests, Nat.Bits.bit_at-zero}
+use Rattle.fis_view.specs.{Built.{IsBuilt, h2d_given}, Table.H2d, declared.build.H2dFields.H2dFields}
 use Rattle.host_memory.specs.Memory.{IsHostMemory, Memory}
-use Rattle.hba_commands.specs.declared.command.Command.{Command}
-use Rattle.hba_commands.specs.Commands.{cfis_at, command_at, is_proper}
-use Rattle.hba_commands.specs.Requests.{request_of, work_of}
+use Rattle.hba_commands.specs.{declared.command.Command.Command, Commands.{cfis_at, command_at, is_proper}, Requests.{request_of, work_of}}
 use Rattle.hba_commands.specs.Writing.{header_for}
 use Rattle.port_errors.specs.Errors.{cleared_device}
-use Rattle.slots.specs.Slots.{issue_at, has_bit, match_some, new_issue, own_issue, slots_of}
-use Rattle.slots.specs.Table.{IsTable}
+use Rattle.slots.specs.{Slots.{issue_at, has_bit, match_some, new_issue, own_issue, slots_of}, Table.IsTable}
 use Rattle.hba_fbs.specs.declared.error.WriteError.{WriteError}
-use Rattle.hba_fbs.specs.declared.register.Register.{Register}
-use Rattle.hba_fbs.specs.declared.register.Register.TheVariants.{Clb, Clbu, Fb, Fbu, Is, Cmd, Sact, Ci, Sntf, Fbs}
-use Rattle.hba_fbs.specs.declared.registers.Registers.{Registers}
-use Rattle.hba_fbs.specs.Bits.{dec}
-use Rattle.hba_fbs.specs.Issuing.{asked}
-use Rattle.hba_fbs.specs.Offsets.{register_at}
-use Rattle.hba_fbs.specs.Registers.{written}
-use Rattle.hba_fbs.specs.Views.{Flushes, Port, view_of}
-use Rattle.hba_fbs.specs.Writing.{Accepts, errors_after, is_device, refusal_of, view_after}
+use Rattle.hba_fbs.specs.declared.register.Register.{Register, TheVariants.{Clb, Clbu, Fb, Fbu, Is, Cmd, Sact, Ci, Sntf, Fbs}}
+use Rattle.hba_fbs.specs.{declared.registers.Registers.Registers, Bits.dec, Issuing.asked, Offsets.register_at, Registers.written}
+use Rattle.hba_fbs.specs.{Views.{Flushes, Port, view_of}, Writing.{Accepts, errors_after, is_device, refusal_of, view_after}}
 use Rattle.hba_laws.specs.Hosts as event
 use Rattle.hba_laws.specs.Hosts.{HostEvent}
-use Rattle.hba_laws.specs.Isolation.{Cleared, Emptied, Issued, OwnEvent, Rewritten, stops, lowers_st, own_events, part_after, part_after_all, written_to}
-use Rattle.hba_laws.specs.Parts.{DevicePart, part_of}
+use Rattle.hba_laws.specs.Isolation.{Cleared, Emptied, Issued, OwnEvent, Rewritten, stops, lowers_st, own_events, part_after, part_after_all}
+use Rattle.hba_laws.specs.{Isolation.written_to, Parts.{DevicePart, part_of}}
 use Rattle.hba_laws.specs.Sound as sound
 use Rattle.hba_laws.proofs.Door.{fold_of_own, some_inj}
 use Rattle.hba_driver.specs.declared.effect.Effect.TheVariants as effect
-use Rattle.hba_driver.specs.declared.mode.Mode.TheVariants.{Switching}
-use Rattle.hba_driver.specs.declared.order.Order.{Order}
-use Rattle.hba_driver.specs.declared.order.Order.TheVariants.{AwaitSignature, Scan, Clear, Watch}
-use Rattle.hba_driver.specs.Effects.{Acts, ActsAll, IsRuled, clearing, is_effect, issuing, order_effects, sending, table_of}
-use Rattle.hba_driver.specs.Orders.{order_fields}
-use Rattle.hba_driver.specs.Slot31.{IsLow}
-use Rattle.hba_driver.specs.Sights.{px_ci, px_fbs, px_is, px_sact, px_sntf}
-use Rattle.hba_driver.specs.Between.{IsCalm, IsUp, beside}
-use Rattle.hba_driver.proofs.accepted.AcceptLemmas.{flushed_before}
-use Rattle.hba_driver.proofs.events.DrivenLemmas.{no_dec, refusal_is, tried_at}
+use Rattle.hba_driver.specs.declared.{mode.Mode.TheVariants.Switching, order.Order.{Order, TheVariants.{AwaitSignature, Scan, Clear, Watch}}}
+use Rattle.hba_driver.specs.{Effects.{Acts, ActsAll, IsRuled, clearing, is_effect, issuing, order_effects, sending, table_of}, Orders.order_fields}
+use Rattle.hba_driver.specs.{Slot31.IsLow, Sights.{px_ci, px_fbs, px_is, px_sact, px_sntf}, Between.{IsCalm, IsUp, beside}}
+use Rattle.hba_driver.proofs.{accepted.AcceptLemmas.flushed_before, events.DrivenLemmas.{no_dec, refusal_is, tried_at}}
 use Rattle.hba_driver.proofs.issued.EndingLemmas.{clear_taken, is_accepted, only_cleared}
-use Rattle.hba_driver.proofs.events.EventLemmas.{Good, beside_same, good_effect, sized_effect, sound_beside}
-use Rattle.hba_driver.proofs.goes_on.GoingLemmas.{act_calm}
-use Rattle.hba_driver.proofs.issued.IssuingLemmas.{bit_same}
-use Rattle.hba_driver.proofs.modes.ModeLemmas.{written_chosen}
-use Rattle.hba_driver.proofs.events.OpenLemmas.{taken}
+use Rattle.hba_driver.proofs.{events.EventLemmas.{Good, beside_same, good_effect, sized_effect, sound_beside}, goes_on.GoingLemmas.act_calm}
+use Rattle.hba_driver.proofs.{issued.IssuingLemmas.bit_same, modes.ModeLemmas.written_chosen, events.OpenLemmas.taken}
 use Rattle.hba_driver.proofs.accepted.UpLemmas.{Placed, Ready, ci_step, ci_taken, command_is, command_placed, fbs_step, free_by, same_free, sntf_step}
 
 -- the control port's part

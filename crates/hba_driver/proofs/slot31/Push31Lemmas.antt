@@ -1,44 +1,24 @@
 -- For `orders_take_turns`. A frame that goes out to the control port is the command of the order in slot 31.
 use Rattle.std.proofs.Common.{◌≡◌, ℕ, ◌+◌, ◌*◌, ◌<◌, ◌⊎◌, Bool, true, false, ◌&&◌, ◌||◌, List, length, refl, sym, ◌∙◌, ap, subst, inl, inr, arith, Option, Some, None}
-use Rattle.std.specs.Prelude.{◌==◌, ◌%◌, if◌then◌else◌, not, is_none, is_some, slice_index, bit_or}
-use Rattle.std.specs.Int.{bit_at}
-use Rattle.std.specs.Option.{option_map}
-use Rattle.std.proofs.lemmas.Bool.{cases_Bool, false≢true, true≢false}
-use Rattle.std.proofs.lemmas.Nat.Bits.{bit_at-lt}
-use Rattle.fis_view.specs.Bits.{bit, bits}
-use Rattle.fis_view.specs.Built.{IsBuilt, cut, h2d_given}
-use Rattle.fis_view.specs.Frames.{Stamped}
-use Rattle.fis_view.specs.Table as table
-use Rattle.fis_view.specs.Table.{H2d, field, places, spelled}
+use Rattle.std.specs.{Prelude.{◌==◌, ◌%◌, if◌then◌else◌, not, is_none, is_some, slice_index, bit_or}, Int.bit_at, Option.option_map}
+use Rattle.std.proofs.lemmas.{Bool.{cases_Bool, false≢true, true≢false}, Nat.Bits.bit_at-lt}
+use Rattle.fis_view.specs.{Bits.{bit, bits}, Built.{IsBuilt, cut, h2d_given}, Frames.Stamped, Table.{H2d, field, places, spelled}}
 use Rattle.fis_view.specs.declared.build.H2dFields.{H2dFields}
-use Rattle.hba_commands.specs.declared.command.Command.{Command}
-use Rattle.hba_commands.specs.Requests.{request_of, work_of}
-use Rattle.slots.specs.Commands.{is_slot, may_begin, sent_issue, with_sent}
-use Rattle.slots.specs.Data.{payload}
-use Rattle.slots.specs.Slots.{DeviceSlots, Issue, context_of, context_unless, freed, has_bit, holds, is_control, new_issue, own_issue, slots_of, waiting}
-use Rattle.slots.specs.Work.{is_dma, is_queued, needs_all}
-use Rattle.slots.specs.declared.table.Context.{Context}
-use Rattle.slots.specs.declared.work.Work.{Work}
+use Rattle.fis_view.specs.Table as table
+use Rattle.hba_commands.specs.{declared.command.Command.Command, Requests.{request_of, work_of}}
+use Rattle.slots.specs.{Commands.{is_slot, may_begin, sent_issue, with_sent}, Data.payload}
+use Rattle.slots.specs.Slots.{DeviceSlots, Issue, context_of, context_unless, freed, has_bit, holds, is_control, new_issue, own_issue, slots_of}
+use Rattle.slots.specs.{Slots.waiting, Work.{is_dma, is_queued, needs_all}, declared.{table.Context.Context, work.Work.Work}}
 use Rattle.slots.proofs.Door.{lowest_is}
 use Rattle.hba_fbs.specs.Sending.{Data, Gives, Order as Goes, Outgoing, Sends, is_ready, next_receiver, next_to_send, outgoing, resets, view_sent}
 use Rattle.hba_fbs.specs.Views.{DeviceView, last_command, view_of}
-use Rattle.hba_laws.specs.Client.{own}
-use Rattle.hba_laws.specs.History.{Transfer, issued}
-use Rattle.hba_laws.specs.Isolation.{may_leave, next_own}
-use Rattle.hba_laws.specs.Parts.{DevicePart}
-use Rattle.hba_laws.specs.Between.{IsOrder}
-use Rattle.hba_laws.proofs.Door.{at_same, data_is_own, held, is_own, order_is, order_is_own, own_freed}
-use Rattle.hba_laws.proofs.Door.{own_set, some_inj, the_transfer}
-use Rattle.hba_driver.specs.declared.order.Order.{Order}
-use Rattle.hba_driver.specs.declared.order.Order.TheVariants.{ResetOn, ResetOff, AwaitSignature, Watch}
-use Rattle.hba_driver.specs.Drivers.{Driver, IsPath}
-use Rattle.hba_driver.specs.HostTurns.{Does, Host, Pushed}
-use Rattle.hba_driver.specs.Orders.{order_fields}
-use Rattle.hba_driver.specs.Served.{IsOrdered, IsRequest, IsStep}
-use Rattle.hba_driver.specs.Slot31.{Asks, IsAt31, IsIn, IsLow, IsUnsent, Fails, Follows31, Pushes31, Resets, Rests, Signs, Stage31, Told, Waits, control_of, has_failed, is_off, is_on, is_resetting}
-use Rattle.hba_driver.specs.Between.{IsGoing}
-use Rattle.hba_driver.proofs.goes_on.StopLemmas.{either}
-use Rattle.hba_driver.proofs.slot31.SentLemmas.{gone, gone_plain, no_dma}
+use Rattle.hba_laws.specs.{Client.own, History.{Transfer, issued}, Isolation.{may_leave, next_own}, Parts.DevicePart, Between.IsOrder}
+use Rattle.hba_laws.proofs.Door.{at_same, data_is_own, held, is_own, order_is, order_is_own, own_freed, own_set, some_inj, the_transfer}
+use Rattle.hba_driver.specs.{declared.order.Order.{Order, TheVariants.{ResetOn, ResetOff, AwaitSignature, Watch}}, Drivers.{Driver, IsPath}}
+use Rattle.hba_driver.specs.{HostTurns.{Does, Host, Pushed}, Orders.order_fields, Served.{IsOrdered, IsRequest, IsStep}}
+use Rattle.hba_driver.specs.Slot31.{Asks, IsAt31, IsIn, IsLow, IsUnsent, Fails, Follows31, Pushes31, Resets, Rests, Signs, Stage31, Told, Waits}
+use Rattle.hba_driver.specs.{Slot31.{control_of, has_failed, is_off, is_on, is_resetting}, Between.IsGoing}
+use Rattle.hba_driver.proofs.{goes_on.StopLemmas.either, slot31.SentLemmas.{gone, gone_plain, no_dma}}
 
 -- ---- the orders' commands
 

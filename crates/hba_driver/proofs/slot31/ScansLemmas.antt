@@ -1,24 +1,16 @@
 -- For `scans_clear`. What a tick does to the ports that a scan found, as the driver's plan keeps them.
 use Rattle.std.proofs.Common.{◌≡◌, ℕ, ◌+◌, ◌⊎◌, Bool, true, false, ◌&&◌, nat_lt, refl, sym, ◌∙◌, ap, subst, inl, inr, arith, Option, Some, None}
 use Rattle.std.specs.Prelude.{◌==◌, is_some, nat_le}
-use Rattle.std.proofs.lemmas.Bool.{and_from, and_parts, cases_Bool, false≢true, true≢false}
-use Rattle.std.proofs.lemmas.Bool.Decides.{nat_tests}
+use Rattle.std.proofs.lemmas.{Bool.{and_from, and_parts, cases_Bool, false≢true, true≢false}, Bool.Decides.nat_tests}
 use Rattle.slots.specs.Slots.{has_bit, lowest_below, match_some}
 use Rattle.slots.proofs.Door.{lowest_is}
-use Rattle.hba_driver.specs.declared.order.Order.{Order}
-use Rattle.hba_driver.specs.declared.order.Order.TheVariants.{ResetOn, AwaitSignature, CountPorts, Enable, Open, Scan, Clear, Detect, Watch}
-use Rattle.hba_driver.specs.declared.path.TaskFile.{TaskFile}
-use Rattle.hba_driver.specs.declared.plan.Plan.{Plan}
-use Rattle.hba_driver.specs.Seeing.{Sight}
-use Rattle.hba_driver.specs.declared.turn.Act.{Act}
-use Rattle.hba_driver.specs.declared.turn.Act.TheVariants as act
-use Rattle.hba_driver.specs.Drivers.{Driver}
-use Rattle.hba_driver.specs.Orders.{next_order, order_fields, scan_from}
-use Rattle.hba_driver.specs.Scans.{IsClearOf, IsFound, comes_to, is_left, is_scan}
+use Rattle.hba_driver.specs.declared.order.Order.{Order, TheVariants.{ResetOn, AwaitSignature, CountPorts, Enable, Open, Scan, Clear, Detect, Watch}}
+use Rattle.hba_driver.specs.{declared.{path.TaskFile.TaskFile, plan.Plan.Plan}, Seeing.Sight, declared.turn.Act.Act, Drivers.Driver}
+use Rattle.hba_driver.specs.{Orders.{next_order, order_fields, scan_from}, Scans.{IsClearOf, IsFound, comes_to, is_left, is_scan}}
 use Rattle.hba_driver.specs.Ticks.{acted, after_tick, done_ended, due, from_reset, plan_after, recovering, seen}
-use Rattle.hba_driver.specs.Turns.{control_seen, met_order, noted}
+use Rattle.hba_driver.specs.{Turns.{control_seen, met_order, noted}, Slot31.{Control, control_in}}
+use Rattle.hba_driver.specs.declared.turn.Act.TheVariants as act
 use Rattle.hba_driver.proofs.slot31.Slot31Lemmas.{Early, IsOther, IsSeen, Looked, Ordered, acted_order, seen_free, seen_out, seen_unasked, turn_seen}
-use Rattle.hba_driver.specs.Slot31.{Control, control_in}
 use Rattle.hba_driver.proofs.goes_on.StopLemmas.{either}
 
 -- ---- what slot 31 looks at tells which ports are left
@@ -105,9 +97,7 @@ next_clear ports found o = tt
 
 noted_plain : (v : Sight) (o : Order) (p : Plan) → is_scan o ≡ false → (noted v o p).found ≡ p.found
 unfolding noted
-noted_plain v CountPorts p h = refl
 noted_plain v Scan p h = absurd (true≢false h)
-noted_plain v (Detect port) p h = refl
 noted_plain v o p h = refl
 
 noted_scan : (v : Sight) (o : Order) (p : Plan) → is_scan o ≡ true → (noted v o p).found ≡ v.answer
@@ -210,7 +200,6 @@ moves v file d = by_seen (turn_seen v d.plan (done_ended v.issued d.entries))
 
 later : (n : ℕ) (o : Order) → Comes n true o → Comes n false o
 later n (Clear port) h = le_of_lt port n h
-later n (Detect port) h = h
 later n o h = h
 
 module _ (v : Sight) (p r : Plan) (a : Option Act) where

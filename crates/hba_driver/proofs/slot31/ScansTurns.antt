@@ -1,53 +1,33 @@
 -- For `scans_clear`. The scans of the ports of a multiplier over turns of the host.
 use Rattle.std.proofs.Common.{◌≡◌, ◌≢◌, ℕ, ◌<◌, ◌≤◌, ◌⊎◌, ◌&&◌, ◌||◌, Bool, true, false, List, [], ◌∷◌, ◌++◌, length, take, drop, refl, sym, ◌∙◌, ap, subst, inl, inr, arith, Option, Some, None, Ok}
 use Rattle.std.specs.Prelude.{◌==◌, if◌then◌else◌, not, is_none, unwrap_or}
-use Rattle.std.proofs.lemmas.Bool.{and_from, and_left, and_parts, and_right, cases_Bool, cases_eq, cases_lt, false≢true, ne_eqb, not_from_false, or_from, or_left, or_parts, or_right, true≢false}
-use Rattle.fis_view.specs.Frames.{Stamped}
-use Rattle.fis_view.specs.Seen.{seen}
-use Rattle.fis_view.specs.Table.{Bits, D2h, Error, Status, field}
+use Rattle.std.proofs.lemmas.Bool.{and_from, and_left, and_parts, and_right, cases_Bool, cases_eq, cases_lt, false≢true, ne_eqb, not_from_false}
+use Rattle.std.proofs.lemmas.Bool.{or_from, or_left, or_parts, or_right, true≢false}
+use Rattle.fis_view.specs.{Frames.Stamped, Seen.seen, Table.{Bits, D2h, Error, Status, field}}
 use Rattle.fis_view.specs.declared.view.Fis.TheVariants as view
 use Rattle.host_memory.specs.Memory.{Memory}
 use Rattle.rx_area.specs.Area as rx
-use Rattle.slots.specs.Commands.{completed}
-use Rattle.slots.specs.Slots.{Issue, has_bit, issue_at, own_issue, slots_of}
-use Rattle.hba_fbs.specs.declared.report.TakeReport.{TakeReport}
-use Rattle.hba_fbs.specs.Hearing.{named}
-use Rattle.hba_fbs.specs.Posting.{area_at}
-use Rattle.hba_fbs.specs.Sending.{Gives, Outgoing}
-use Rattle.hba_fbs.specs.Status.{is_busy, with_bits}
-use Rattle.hba_fbs.specs.Taking.{is_ignored, port_of, view_after_hearing}
-use Rattle.hba_fbs.specs.Views.{DeviceView, Port}
+use Rattle.slots.specs.{Commands.completed, Slots.{Issue, has_bit, issue_at, own_issue, slots_of}}
+use Rattle.hba_fbs.specs.{declared.report.TakeReport.TakeReport, Hearing.named, Posting.area_at, Sending.{Gives, Outgoing}}
+use Rattle.hba_fbs.specs.{Status.{is_busy, with_bits}, Taking.{is_ignored, port_of, view_after_hearing}, Views.{DeviceView, Port}}
 use Rattle.hba_laws.specs.Hosts as event
-use Rattle.hba_laws.specs.Isolation.{Came, OwnEvent, Went, own_events, part_after_all, row_with}
-use Rattle.hba_laws.specs.Parts.{DevicePart, part_of, with_view}
+use Rattle.hba_laws.specs.{Isolation.{Came, OwnEvent, Went, own_events, part_after_all, row_with}, Parts.{DevicePart, part_of, with_view}}
 use Rattle.hba_laws.proofs.Door.{own_in}
-use Rattle.hba_driver.specs.declared.order.Order.{Order}
-use Rattle.hba_driver.specs.declared.order.Order.TheVariants.{ResetOn, Scan}
-use Rattle.hba_driver.specs.declared.plan.Plan.{Plan}
-use Rattle.hba_driver.specs.Seeing.{Sight}
-use Rattle.hba_driver.specs.Drivers.{Driver}
-use Rattle.hba_driver.specs.Events.{opening_host, shared_by}
-use Rattle.hba_driver.specs.Going.{IsOfControl, IsReport}
+use Rattle.hba_driver.specs.{declared.{order.Order.{Order, TheVariants.{ResetOn, Scan}}, plan.Plan.Plan}, Seeing.Sight, Drivers.Driver}
+use Rattle.hba_driver.specs.{Events.{opening_host, shared_by}, Going.{IsOfControl, IsReport}}
 use Rattle.hba_driver.specs.HostTurns.{Does, DoesAll, Host, HostTurn, Polled, Pushed, Put, Submitted, Ticked, Took, sight_in}
-use Rattle.hba_driver.specs.Scans.{Clears, ClearsNamed, Comes, Finds, Keeps, IsFound, Names, Scans, ScansClear, ScansOn, Tells, answers_scan, comes_to, found, is_answer, is_asking, is_left, is_named, is_scan, named_after, tells, told_in}
+use Rattle.hba_driver.specs.Scans.{Clears, ClearsNamed, Comes, Finds, Keeps, IsFound, Names, Scans, ScansClear, ScansOn, Tells, answers_scan}
+use Rattle.hba_driver.specs.Scans.{comes_to, found, is_answer, is_asking, is_left, is_named, is_scan, named_after, tells, told_in}
 use Rattle.hba_driver.specs.Sights.{answer_in, file_shown, last_d2h, sight_of}
-use Rattle.hba_driver.specs.Slot31.{Asks, Control, Follows31, IsAt31, IsFree31, IsIn, IsNext31, IsNotice31, IsSent, Pushes31, Resets, Rests, Signs, Stage31, TakesOn, Turns31, control_of, is_off, is_on, orders_clear}
-use Rattle.hba_driver.specs.Steady.{IsRowTurn}
-use Rattle.hba_driver.specs.Ticks.{due}
-use Rattle.hba_driver.specs.Turns.{control_seen}
-use Rattle.hba_driver.specs.Between.{IsGoing}
-use Rattle.hba_driver.proofs.slot31.ControlLemmas.{part_event}
-use Rattle.hba_driver.proofs.ends.DoneLemmas.{free_slot as slot_free}
-use Rattle.hba_driver.proofs.events.DrivenLemmas.{tick_is}
-use Rattle.hba_driver.proofs.goes_on.GoingLemmas.{going_opens, going_turn, stops_none}
-use Rattle.hba_driver.proofs.modes.ModeLemmas.{own_row_is}
-use Rattle.hba_driver.proofs.goes_on.PageLemmas.{poll_plan}
+use Rattle.hba_driver.specs.Slot31.{Asks, Control, Follows31, IsAt31, IsFree31, IsIn, IsNext31, IsNotice31, IsSent, Pushes31, Resets, Rests, Signs}
+use Rattle.hba_driver.specs.{Slot31.{Stage31, TakesOn, Turns31, control_of, is_off, is_on, orders_clear}, Steady.IsRowTurn, Ticks.due}
+use Rattle.hba_driver.specs.{Turns.control_seen, Between.IsGoing}
+use Rattle.hba_driver.proofs.{slot31.ControlLemmas.part_event, ends.DoneLemmas.free_slot as slot_free, events.DrivenLemmas.tick_is}
+use Rattle.hba_driver.proofs.{goes_on.GoingLemmas.{going_opens, going_turn, stops_none}, modes.ModeLemmas.own_row_is, goes_on.PageLemmas.poll_plan}
 use Rattle.hba_driver.proofs.steady.RowLemmas.{d2h_row, d2h_same, own_row, row_long, row_turn, set_long, set_window, sized, window_same}
-use Rattle.hba_driver.proofs.slot31.ScansLemmas.{Anew, Issues, Keeps as MovesNot, Moves, Orders31, Reads, Sees, cleared_none, moved_clears, moved_found, moved_left, moves, scan_is, seen_asked}
-use Rattle.hba_driver.proofs.ticks.ServeLemmas.{act_clears}
-use Rattle.hba_driver.proofs.modes.SwitchLemmas.{sight_is}
-use Rattle.hba_driver.proofs.slot31.Slot31Lemmas.{IsOther}
-use Rattle.hba_driver.proofs.slot31.Tick31Lemmas.{order_stands, other_stays}
+use Rattle.hba_driver.proofs.slot31.ScansLemmas.{Anew, Issues, Keeps as MovesNot, Moves, Orders31, Reads, Sees, cleared_none, moved_clears}
+use Rattle.hba_driver.proofs.{slot31.ScansLemmas.{moved_found, moved_left, moves, scan_is, seen_asked}, ticks.ServeLemmas.act_clears}
+use Rattle.hba_driver.proofs.{modes.SwitchLemmas.sight_is, slot31.{Slot31Lemmas.IsOther, Tick31Lemmas.{order_stands, other_stays}}}
 use Rattle.hba_driver.proofs.slot31.Took31Lemmas.{closed_same, going_runs, heard_part, none_done, notice_view, skipped_part, took_own, took_part}
 use Rattle.hba_driver.proofs.slot31.Turn31Lemmas.{closed_gives, control_in31, opens31, turn31}
 
@@ -590,7 +570,6 @@ module _ (n : ℕ) (named : Bool) (stage : Stage31) (old new : Host) (at : IsAt3
     | inl flushed ↦ absurd (false≢true (sym (s.clears flushed).1 ∙ some))
     | inr not_flushed ↦ and_from named (not (orders_clear n old)) (was_named (Ticked acted) s (λ never. never) some) (not_from_false (orders_clear n old) not_flushed)
   ]
-  named_then (Pushed frame) s some = was_named (Pushed frame) s (λ never. never) some
   named_then other s some = was_named other s (λ never. never) some
 
 scans_over : (turns : List HostTurn) (old new : Host) (run : DoesAll old turns new) → IsGoing old → (stage : Stage31) → IsAt31 stage old → IsFound old.driver.plan → (n : ℕ) → n < 15

@@ -2,12 +2,8 @@
 use Rattle.std.proofs.Common.{◌≡◌, ℕ, Bool, true, false, ap, refl, ◌∙◌, Option, Some, None}
 use Rattle.std.specs.Prelude.{if◌then◌else◌}
 use Rattle.std.proofs.lemmas.Bool.{true≢false}
-use Rattle.slots.specs.Commands.{with_sent}
-use Rattle.slots.specs.Setup.{begun, whole_context, with_own_context}
-use Rattle.slots.specs.Slots.{DeviceSlots, Issue, match_some, own_issue}
-use Rattle.slots.specs.Work.{is_dma, needs_all}
-use Rattle.slots.specs.declared.work.Kind.{Kind}
-use Rattle.slots.specs.declared.work.Kind.TheVariants.{DmaIn, DmaOut}
+use Rattle.slots.specs.{Commands.with_sent, Setup.{begun, whole_context, with_own_context}, Slots.{DeviceSlots, Issue, match_some, own_issue}}
+use Rattle.slots.specs.{Work.{is_dma, needs_all}, declared.work.Kind.{Kind, TheVariants.{DmaIn, DmaOut}}}
 
 pub no_dma : (k : Kind) → needs_all k ≡ false → is_dma k ≡ false
 no_dma DmaIn h = absurd (true≢false h)

@@ -5,29 +5,20 @@ use Rattle.std.proofs.lemmas.Bool.{lt-ltb, true≢false}
 use Rattle.slots.specs.Slots.{has_bit, match_some}
 use Rattle.hba_driver.specs.declared.order.Order.{Order}
 use Rattle.hba_driver.specs.declared.order.Order.TheVariants.{ResetOn, ResetOff, AwaitSignature, CountPorts, Enable, Open, Scan, Clear, Detect, Watch}
-use Rattle.hba_driver.specs.declared.path.Path.{Path}
-use Rattle.hba_driver.specs.declared.path.Stage.{Stage}
-use Rattle.hba_driver.specs.declared.path.Stage.TheVariants.{Identify, ReadLog}
-use Rattle.hba_driver.specs.declared.path.TaskFile.{TaskFile}
-use Rattle.hba_driver.specs.declared.plan.Plan.{Plan}
-use Rattle.hba_driver.specs.Seeing.{Sight}
-use Rattle.hba_driver.specs.declared.turn.Act.{Act}
-use Rattle.hba_driver.specs.declared.turn.Act.TheVariants as act
-use Rattle.hba_driver.specs.Drivers.{Driver, Entry}
-use Rattle.hba_driver.specs.Orders.{next_order, order_fields, scan_from}
+use Rattle.hba_driver.specs.declared.{path.Path.Path, path.Stage.{Stage, TheVariants.{Identify, ReadLog}}, path.TaskFile.TaskFile, plan.Plan.Plan}
+use Rattle.hba_driver.specs.{Seeing.Sight, declared.turn.Act.Act, Drivers.{Driver, Entry}, Orders.{next_order, order_fields, scan_from}}
 use Rattle.hba_driver.specs.Slot31.{Control, control_in, is_off, is_on}
 use Rattle.hba_driver.specs.Ticks.{acted, after_tick, done_ended, due, from_reset, plan_after, recovering, seen}
 use Rattle.hba_driver.specs.Turns.{advanced, answered, control_seen, device_seen, found_of, is_back, met, met_order, noted, turn_of, with_next}
 use Rattle.hba_driver.specs.Going.{leaves_port}
-use Rattle.hba_driver.proofs.ticks.DueLemmas.{early_by, late_by, order_allowed_by, turn_by}
-use Rattle.hba_driver.proofs.goes_on.StopLemmas.{either}
+use Rattle.hba_driver.specs.declared.turn.Act.TheVariants as act
+use Rattle.hba_driver.proofs.{ticks.DueLemmas.{early_by, late_by, order_allowed_by, turn_by}, goes_on.StopLemmas.either}
 
 -- ---- the part of a plan that concerns slot 31
 
 found_same : (v : Sight) (stage : Stage) (dev : ℕ) (plan : Plan) → control_in (found_of v stage dev plan) ≡ control_in plan
 unfolding found_of
 found_same v Identify dev plan = refl
-found_same v (ReadLog file) dev plan = refl
 found_same v stage dev plan = refl
 
 back_same : (v : Sight) (plan : Plan) (o : Option Path) → control_in (match_some o plan (λ path. if is_back v path then advanced v path plan else plan)) ≡ control_in plan

@@ -1,50 +1,35 @@
 -- For `orders_take_turns`. Each tick leads slot 31 from a stage to a stage.
 use Rattle.std.proofs.Common.{◌≡◌, ◌≢◌, ℕ, ◌+◌, ◌<◌, ◌≤◌, ◌⊎◌, Bool, true, false, nat_lt, [], refl, sym, ◌∙◌, ap, subst, inl, inr, arith, Option, Some, None}
-use Rattle.std.specs.Prelude.{◌==◌, if◌then◌else◌, is_none, is_some}
+use Rattle.std.specs.{Prelude.{◌==◌, if◌then◌else◌, is_none, is_some}, Option.{option_map, option_or}}
 use Rattle.std.proofs.lemmas.Bool.{cases_Bool, cases_eq, false≢true, le-ltb, lt-ltb, true≢false}
 use Rattle.fis_view.specs.declared.build.H2dFields.{H2dFields}
 use Rattle.host_memory.specs.Memory.{Memory}
-use Rattle.port_errors.specs.Errors.{Errors, cause_of, cleared_device, named_by, shown as errors_shown}
-use Rattle.port_errors.specs.declared.cause.Stop.{Stop}
+use Rattle.port_errors.specs.{Errors.{Errors, cause_of, cleared_device, named_by, shown as errors_shown}, declared.cause.Stop.Stop}
 use Rattle.slots.specs.Slots.{Issue, has_bit, issue_at, lowest_below, match_some, own_issue}
 use Rattle.slots.proofs.Door.{lowest_is}
 use Rattle.hba_fbs.specs.Views.{Port}
-use Rattle.hba_laws.specs.Parts.{DevicePart}
+use Rattle.hba_laws.specs.{Parts.DevicePart, Isolation.{Cleared, part_after}}
 use Rattle.hba_laws.proofs.Door.{own_in, the}
 use Rattle.hba_driver.specs.declared.mode.Mode.TheVariants.{Switching}
 use Rattle.hba_driver.specs.declared.order.Order.{Order}
 use Rattle.hba_driver.specs.declared.order.Order.TheVariants.{ResetOn, ResetOff, AwaitSignature, CountPorts, Enable, Open, Scan, Clear, Detect, Watch}
-use Rattle.hba_driver.specs.declared.plan.Plan.{Plan}
-use Rattle.hba_driver.specs.Seeing.{Sight}
-use Rattle.hba_driver.specs.declared.turn.Act.{Act}
-use Rattle.hba_driver.specs.declared.turn.Act.TheVariants as act
-use Rattle.hba_driver.specs.Drivers.{Driver}
-use Rattle.hba_driver.specs.Effects.{ActsAll, IsRuled, clearing, effects_of, order_effects, sending}
-use Rattle.hba_driver.specs.HostTurns.{Does, Host, Ticked, sight_in}
-use Rattle.hba_driver.specs.Orders.{next_order, order_fields, scan_from}
-use Rattle.hba_driver.specs.Paths.{reads_page, stage_fields}
-use Rattle.hba_driver.specs.Sights.{file_shown, sight_of}
-use Rattle.hba_driver.specs.Slot31.{Anew, Control, Goes31, IsAt31, IsIn, IsLow, IsUnsent, Fails, Kept, Looked, Ordered, Resets, Rests, Signs, Stage31, StaysOn, TicksOn, Told, Waits, control_in, control_of, has_failed, is_idle, is_off, is_pending, is_resetting}
+use Rattle.hba_driver.specs.{declared.plan.Plan.Plan, Seeing.Sight, declared.turn.Act.Act, Drivers.Driver}
+use Rattle.hba_driver.specs.{Effects.{ActsAll, IsRuled, clearing, effects_of, order_effects, sending}, HostTurns.{Does, Host, Ticked, sight_in}}
+use Rattle.hba_driver.specs.{Orders.{next_order, order_fields, scan_from}, Paths.{reads_page, stage_fields}, Sights.{file_shown, sight_of}}
+use Rattle.hba_driver.specs.Slot31.{Anew, Control, Goes31, IsAt31, IsIn, IsLow, IsUnsent, Fails, Kept, Looked, Ordered, Resets, Rests, Signs, Stage31}
+use Rattle.hba_driver.specs.Slot31.{StaysOn, TicksOn, Told, Waits, control_in, control_of, has_failed, is_idle, is_off, is_pending, is_resetting}
 use Rattle.hba_driver.specs.Ticks.{acted, after_tick, cleared_plan, done_ended, due, effects_due, from_reset, plan_after, recovering, seen, turn}
 use Rattle.hba_driver.specs.declared.turn.Turn.{Turn}
-use Rattle.std.specs.Option.{option_map, option_or}
-use Rattle.hba_laws.specs.Isolation.{Cleared, part_after}
 use Rattle.hba_driver.specs.Turns.{control_news, control_seen, control_turn, early_due, fault_due, met_order, plain_turn, restart_due, turn_of}
 use Rattle.hba_driver.specs.Between.{Due, IsGoing, IsUp, MayEnd, Waiting, beside}
-use Rattle.hba_driver.proofs.slot31.ControlLemmas.{Issues31, Leaves15, Runs15, clearing_leaves, clearing_own, command_leaves, issuing_leaves, leaves_then, nothing_leaves, order31}
-use Rattle.hba_driver.proofs.ends.DoneLemmas.{free_slot as slot_free}
-use Rattle.hba_driver.proofs.events.DrivenLemmas.{tick_is}
-use Rattle.hba_driver.proofs.ticks.DueLemmas.{goes_turn}
-use Rattle.hba_driver.proofs.issued.EndingLemmas.{faulty_reported, may_end}
-use Rattle.hba_driver.proofs.events.EventLemmas.{sound_beside}
-use Rattle.hba_driver.proofs.goes_on.GoingLemmas.{leaves, never_stops}
-use Rattle.hba_driver.proofs.ticks.LifeLemmas.{due_seen}
-use Rattle.hba_driver.proofs.events.OpenLemmas.{up_of}
-use Rattle.hba_driver.proofs.issued.ServedLemmas.{seen_served}
-use Rattle.hba_driver.proofs.issued.ServingLemmas.{not_busy}
-use Rattle.hba_driver.proofs.slot31.Slot31Lemmas.{IsAllowed, IsOther, Looks, Orders, Stays, Ticks31, met_off, next_off, seen_free, seen_out, seen_unasked, ticks31}
-use Rattle.hba_driver.proofs.goes_on.StopLemmas.{either}
-use Rattle.hba_driver.proofs.modes.SwitchLemmas.{sight_is, tick_acts}
+use Rattle.hba_driver.specs.declared.turn.Act.TheVariants as act
+use Rattle.hba_driver.proofs.slot31.ControlLemmas.{Issues31, Leaves15, Runs15, clearing_leaves, clearing_own, command_leaves, issuing_leaves}
+use Rattle.hba_driver.proofs.{slot31.ControlLemmas.{leaves_then, nothing_leaves, order31}, ends.DoneLemmas.free_slot as slot_free}
+use Rattle.hba_driver.proofs.{events.DrivenLemmas.tick_is, ticks.DueLemmas.goes_turn, issued.EndingLemmas.{faulty_reported, may_end}}
+use Rattle.hba_driver.proofs.{events.EventLemmas.sound_beside, goes_on.GoingLemmas.{leaves, never_stops}, ticks.LifeLemmas.due_seen}
+use Rattle.hba_driver.proofs.{events.OpenLemmas.up_of, issued.{ServedLemmas.seen_served, ServingLemmas.not_busy}}
+use Rattle.hba_driver.proofs.slot31.Slot31Lemmas.{IsAllowed, IsOther, Looks, Orders, Stays, Ticks31, met_off, next_off, seen_free, seen_out}
+use Rattle.hba_driver.proofs.{slot31.Slot31Lemmas.{seen_unasked, ticks31}, goes_on.StopLemmas.either, modes.SwitchLemmas.{sight_is, tick_acts}}
 use Rattle.hba_driver.proofs.issued.TickingLemmas.{free_order, step_dev}
 
 -- ---- PxFBS shows the device that is reported
@@ -123,7 +108,6 @@ module _ (h : Host) (g : IsGoing h) (stage : Stage31) (at : IsAt31 stage h) wher
   cleared (Some (act.Clears d)) may dev is =
       let same : d ≡ dev = cc in
       may.1.faulty ∙ ap (λ (n : ℕ). Some n) same
-  cleared None may dev is = cc
   cleared other may dev is = cc
 
   cleared_due : (dev : ℕ) → due v h.driver ≡ Some (act.Clears dev) → cleared_device h.port.errors ≡ Some dev
@@ -177,8 +161,6 @@ module _ (h : Host) (g : IsGoing h) (stage : Stage31) (at : IsAt31 stage h) wher
     other_leaves well None is other known new acts = nothing_leaves h.port new.port h.memory new.memory acts.0 acts.1 runs
     other_leaves well (Some (act.Opens k)) is other known new acts =
         absurd (omega (arith, least, known.1, (goes_turn v h.driver.plan (done_ended v.issued h.driver.entries)).opened))
-    other_leaves well (Some act.Stops) is other known new acts = absurd (leaves h g.way.sound g.calm g.up act.Stops is)
-    other_leaves well (Some (act.Restarts k)) is other known new acts = absurd (leaves h g.way.sound g.calm g.up (act.Restarts k) is)
     other_leaves well (Some (act.Clears dev)) is other known new acts =
         let cleared_is : cleared_device h.port.errors ≡ Some dev = cleared_due dev is in
         clearing_leaves dev h.port new.port h.memory new.memory (λ same. far dev (not_control well dev cleared_is) same) cleared_is runs acts
@@ -193,6 +175,7 @@ module _ (h : Host) (g : IsGoing h) (stage : Stage31) (at : IsAt31 stage h) wher
         let w : Waiting (seen v h.driver).plan (seen v h.driver).entries slot dev = known.0 in
         let bounds = (seen_served h.driver.plan.mode h.port h.memory h.driver g.way.past (sound_beside h.port h.memory g.way.sound.ruled g.way.sound.memory) g.way.served).bounded.entries slot w.entry w.stands in
         issuing_leaves slot dev queued h.port new.port h.memory new.memory (subst (λ (n : ℕ). n < 15) w.of_dev bounds.dev) up runs acts
+    other_leaves well (Some rest) is other known new acts = absurd (leaves h g.way.sound g.calm g.up rest is)
 
     -- ---- what is seen of slot 31
 

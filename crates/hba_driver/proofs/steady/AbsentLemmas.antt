@@ -4,32 +4,18 @@ use Rattle.std.proofs.Common.{◌≡◌, ◌≢◌, ℕ, zero, suc, Bool, true, 
 use Rattle.std.specs.Prelude.{not, nat_lt, if◌then◌else◌}
 use Rattle.std.proofs.lemmas.List.{get_or-set_other}
 use Rattle.slots.specs.Slots.{match_some}
-use Rattle.hba_driver.specs.declared.order.Order.{Order}
-use Rattle.hba_driver.specs.declared.order.Order.TheVariants.{Clear}
-use Rattle.hba_driver.specs.declared.path.Path.{Path}
-use Rattle.hba_driver.specs.declared.path.Recovery.TheVariants.{Reset}
-use Rattle.hba_driver.specs.declared.path.Stage.{Stage}
-use Rattle.hba_driver.specs.declared.path.Stage.TheVariants.{Identify, ReadLog}
-use Rattle.hba_driver.specs.declared.path.TaskFile.{TaskFile}
-use Rattle.hba_driver.specs.declared.plan.Device.{Device}
-use Rattle.hba_driver.specs.declared.plan.Device.TheVariants.{Absent, Ready, Recovering, Unusable}
-use Rattle.hba_driver.specs.declared.plan.Plan.{Plan}
-use Rattle.hba_driver.specs.Seeing.{Sight}
-use Rattle.hba_driver.specs.declared.turn.Act.{Act}
-use Rattle.hba_driver.specs.declared.turn.Act.TheVariants as act
-use Rattle.hba_driver.specs.declared.turn.Turn.{Turn}
-use Rattle.hba_driver.specs.Absent.{EachWasAbsent}
-use Rattle.hba_driver.specs.Drivers.{Driver, Entry, device_at}
-use Rattle.hba_driver.specs.HostTurns.{Does, Host, HostTurn, Polled, Submitted, Ticked, sight_in}
-use Rattle.hba_driver.specs.Sights.{file_shown}
+use Rattle.hba_driver.specs.declared.{order.Order.{Order, TheVariants.Clear}, path.Path.Path, path.Recovery.TheVariants.Reset}
+use Rattle.hba_driver.specs.declared.{path.Stage.{Stage, TheVariants.{Identify, ReadLog}}, path.TaskFile.TaskFile}
+use Rattle.hba_driver.specs.{declared.{plan.Device.{Device, TheVariants.{Absent, Ready, Recovering, Unusable}}, plan.Plan.Plan}, Seeing.Sight}
+use Rattle.hba_driver.specs.{declared.{turn.Act.Act, turn.Turn.Turn}, Absent.EachWasAbsent, Drivers.{Driver, Entry, device_at}}
+use Rattle.hba_driver.specs.{HostTurns.{Does, Host, HostTurn, Polled, Submitted, Ticked, sight_in}, Sights.file_shown}
 use Rattle.hba_driver.specs.Steady.{IsCalmAct, IsSteadyTurn, detects}
 use Rattle.hba_driver.specs.Ticks.{after_tick, done_ended, from_reset, ordered, plan_after, recovering, seen, turn}
 use Rattle.hba_driver.specs.Turns.{advanced, control_news, control_seen, device_seen, early_due, found_of, is_back, plain_turn, turn_of}
 use Rattle.hba_driver.specs.Between.{IsSoughtAbsent, PollFacts, WasAbsent}
-use Rattle.hba_driver.proofs.ticks.DueLemmas.{turn_by}
-use Rattle.hba_driver.proofs.requests.HistoryLemmas.{freed, poll_facts}
-use Rattle.hba_driver.proofs.steady.SteadyLemmas.{control_beside, detect_or_other, equal_is}
-use Rattle.hba_driver.proofs.steady.SteadyTurns.{acted_plan}
+use Rattle.hba_driver.specs.declared.turn.Act.TheVariants as act
+use Rattle.hba_driver.proofs.{ticks.DueLemmas.turn_by, requests.HistoryLemmas.{freed, poll_facts}}
+use Rattle.hba_driver.proofs.steady.{SteadyLemmas.{control_beside, detect_or_other, equal_is}, SteadyTurns.acted_plan}
 
 -- a device that is set to something other than absent
 set_absent : (devices : List Device) (k n : ℕ) (device : Device) → (device ≡ Absent → ⊥) → get_or (set devices k device) n Absent ≡ Absent → get_or devices n Absent ≡ Absent

@@ -1,31 +1,20 @@
 -- For `turns_are_steady`. What a calm tick leaves of the plan of a device with which nothing has failed.
 use Rattle.std.proofs.Common.{◌≡◌, ◌≢◌, ℕ, ◌+◌, ◌⊎◌, ◌&&◌, Bool, true, false, nat_lt, List, length, get_or, set, refl, sym, ◌∙◌, ap, subst, inl, inr, arith, Option, Some, None}
-use Rattle.std.specs.Prelude.{if◌then◌else◌, ◌==◌, ◌%◌, not, is_some}
-use Rattle.std.specs.List.{range_with_len}
-use Rattle.std.specs.Option.{option_map, option_or}
-use Rattle.std.proofs.lemmas.Bool.{cases_eq, cases_lt, false≢true, ne_eqb}
-use Rattle.std.proofs.lemmas.Bool.Decides.{nat_tests}
+use Rattle.std.specs.{Prelude.{if◌then◌else◌, ◌==◌, ◌%◌, not, is_some}, List.range_with_len, Option.{option_map, option_or}}
+use Rattle.std.proofs.lemmas.{Bool.{cases_eq, cases_lt, false≢true, ne_eqb}, Bool.Decides.nat_tests}
 use Rattle.std.proofs.lemmas.List.{get_or_past, get_or-set_other, get_or-set_same, length-set}
 use Rattle.slots.specs.Slots.{lowest_below, match_some}
-use Rattle.hba_driver.specs.declared.order.Order.{Order}
-use Rattle.hba_driver.specs.declared.order.Order.TheVariants.{ResetOn, AwaitSignature, CountPorts, Enable, Open, Scan, Clear, Detect, Watch}
-use Rattle.hba_driver.specs.declared.path.Path.{Path}
-use Rattle.hba_driver.specs.declared.path.Stage.{Stage}
-use Rattle.hba_driver.specs.declared.path.Stage.TheVariants.{Identify, ReadLog}
-use Rattle.hba_driver.specs.declared.path.TaskFile.{TaskFile}
-use Rattle.hba_driver.specs.declared.plan.Device.{Device}
-use Rattle.hba_driver.specs.declared.plan.Device.TheVariants.{Absent, Starting, Ready, Unusable, Recovering}
-use Rattle.hba_driver.specs.declared.plan.Plan.{Plan}
-use Rattle.hba_driver.specs.Seeing.{Sight}
-use Rattle.hba_driver.specs.declared.turn.Act.{Act}
-use Rattle.hba_driver.specs.declared.turn.Act.TheVariants as act
-use Rattle.hba_driver.specs.Drivers.{Entry, device_at, with_device}
-use Rattle.hba_driver.specs.Orders.{next_order, open_from, scan_from}
-use Rattle.hba_driver.specs.Paths.{first_stage, next_stage}
-use Rattle.hba_driver.specs.Steady.{IsCalmAct, IsFine, IsSteadyPlan, detects}
+use Rattle.hba_driver.specs.declared.order.Order.{Order, TheVariants.{ResetOn, AwaitSignature, CountPorts, Enable, Open, Scan, Clear, Detect, Watch}}
+use Rattle.hba_driver.specs.declared.{path.Path.Path, path.Stage.{Stage, TheVariants.{Identify, ReadLog}}, path.TaskFile.TaskFile}
+use Rattle.hba_driver.specs.declared.{plan.Device.{Device, TheVariants.{Absent, Starting, Ready, Unusable, Recovering}}, plan.Plan.Plan}
+use Rattle.hba_driver.specs.{Seeing.Sight, declared.turn.Act.Act, Drivers.{Entry, device_at, with_device}, Orders.{next_order, open_from, scan_from}}
+use Rattle.hba_driver.specs.{Paths.{first_stage, next_stage}, Steady.{IsCalmAct, IsFine, IsSteadyPlan, detects}}
 use Rattle.hba_driver.specs.Ticks.{from_reset, ordered, plan_after, recovering, unless}
-use Rattle.hba_driver.specs.Turns.{advanced, allowed, answered, control_news, control_seen, control_turn, detected, device_due, device_or_request, device_seen, early_due, fault_due, found_of, is_back, is_due, is_there, issue_of, may_issue, met, met_order, met_path, noted, opening_due, order_allowed, order_due, path_answered, path_due, path_met, path_to, request_due, restart_due, signed_order, stage_due, stage_for, step_of, turn_of, with_next}
-use Rattle.hba_driver.specs.Between.{DueOf, PlanKeeps}
+use Rattle.hba_driver.specs.Turns.{advanced, allowed, answered, control_news, control_seen, control_turn, detected, device_due, device_or_request}
+use Rattle.hba_driver.specs.Turns.{device_seen, early_due, fault_due, found_of, is_back, is_due, is_there, issue_of, may_issue, met, met_order}
+use Rattle.hba_driver.specs.Turns.{met_path, noted, opening_due, order_allowed, order_due, path_answered, path_due, path_met, path_to, request_due}
+use Rattle.hba_driver.specs.{Turns.{restart_due, signed_order, stage_due, stage_for, step_of, turn_of, with_next}, Between.{DueOf, PlanKeeps}}
+use Rattle.hba_driver.specs.declared.turn.Act.TheVariants as act
 use Rattle.hba_driver.proofs.ticks.DueLemmas.{early_by, met_asked, late_by, order_allowed_by, turn_by}
 
 -- ---- what does not concern the device
@@ -164,7 +153,6 @@ module _ (n : ℕ) (v : Sight) (plan : Plan) where
       by_test : (b : Bool) → detects n false (if b then Scan else Watch) ≡ true → detects n false Watch ≡ true
       by_test true k = k
       by_test false k = k
-  met_never ResetOn on = on
   met_never other on = on
 
   met_if : (a : Bool) → plan.asked ≡ a → Beside n plan (if a then plan else record plan { order = met_order v plan.order })
@@ -392,7 +380,6 @@ detects_out n asked (Clear port) other on = absurd (other (ap Clear (equal_of po
   where
     equal_of : (a b : ℕ) → (true && (a == b)) ≡ true → a ≡ b
     equal_of a b e = grind (arith, nat_tests)
-detects_out n asked (Detect port) other on = on
 detects_out n asked rest other on = on
 
 -- the path of another device is given up

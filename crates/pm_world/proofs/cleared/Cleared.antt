@@ -1,46 +1,33 @@
 -- For the field `new_devices_wait` of `laws`. A port that reported a new device forwards nothing until bit X of its
 -- PSCR[1] is cleared. This holds in each step, and so in each run.
 use Rattle.std.proofs.Common.{◌≡◌, ◌≢◌, ℕ, zero, suc, ◌+◌, ◌%◌, ◌<◌, ◌==◌, ◌&&◌, min, max, Bool, true, false, not, if◌then◌else◌, List, [], ◌∷◌, ◌++◌, length, flat_map, take, replicate, Option, Some, None, Ok, get_or, set, refl, sym, ap, subst, ◌∙◌, inl, inr, bit_and, bit_or, arith}
-use Rattle.std.specs.Prelude.{◌||◌, is_none, is_some, nat_lt, MatchOption, MatchBool}
-use Rattle.std.specs.Int.{bit_at}
-use Rattle.std.specs.List.{list_any}
-use Rattle.std.proofs.lemmas.Bool.{cases_eq, eqb-true, eq-eqb, ne_eqb}
-use Rattle.std.proofs.lemmas.List.{length-replicate, length-set}
+use Rattle.std.specs.{Prelude.{◌||◌, is_none, is_some, nat_lt, MatchOption, MatchBool}, Int.bit_at, List.list_any}
+use Rattle.std.proofs.lemmas.{Bool.{cases_eq, eqb-true, eq-eqb, ne_eqb}, List.{length-replicate, length-set}}
 use Rattle.std.proofs.lemmas.Nat.Bits.{bit_at-lt, bit_at_and, bit_at_or, bit_at_xor}
 use Rattle.fis_view.specs.Frames.{Stamped}
-use Rattle.pm_registers.specs.Bits.{shares, without}
-use Rattle.pm_registers.specs.declared.port.PortRegisters.{PortRegisters}
-use Rattle.pm_registers.specs.Port.{ShowsTruly, bit_n, bit_x, controlled, det, inserted, is_open, met, opened, opening_port, passes, port_written, removed}
+use Rattle.pm_registers.specs.{Bits.{shares, without}, declared.port.PortRegisters.PortRegisters}
+use Rattle.pm_registers.specs.Port.{ShowsTruly, bit_n, bit_x, controlled, det, inserted, is_open, met, opened, opening_port, passes, port_written}
+use Rattle.pm_registers.specs.Port.{removed}
+use Rattle.pm_registers.specs.RegisterMap.{RegisterMap, after_write, control_port, control_written, forwards, register_at, settled, summary}
+use Rattle.pm_registers.specs.RegisterMap.{with_port as with_registers, written}
 use Rattle.pm_registers.specs.RegisterMap as map
-use Rattle.pm_registers.specs.RegisterMap.{RegisterMap, after_write, control_port, control_written, forwards, register_at, settled, summary, with_port as with_registers, written}
 use Rattle.pm_registers.proofs.Door.{either, shows_inserted, shows_removed, shows_written}
-use Rattle.pm_control.specs.Answers.{registers_after_request}
-use Rattle.pm_control.specs.Requests.{request_in}
-use Rattle.pm_control.specs.declared.request.Request.{Request}
-use Rattle.pm_control.specs.declared.request.Request.TheVariants.{Read, Write, Unknown}
+use Rattle.pm_control.specs.{Answers.registers_after_request, Requests.request_in, declared.request.Request.{Request, TheVariants.Write}}
 use Rattle.pm_ports.specs.Port.{PortState, came_refusal, gone_refusal, rises, with_connection, with_removal, with_up}
-use Rattle.multiplier.specs.Passing.{falls}
-use Rattle.multiplier.specs.Rules.{FromHostRule, ToControl, ToDevice, ToNobody, ToPort, with_device as connected, without_device}
-use Rattle.multiplier.specs.State.{PmState, passes_to, pm_port, port_at}
-use Rattle.multiplier.specs.declared.multiplier.Passed.{Passed}
-use Rattle.multiplier.specs.declared.multiplier.Passed.TheVariants as passed
+use Rattle.multiplier.specs.{Passing.falls, Rules.{FromHostRule, ToControl, ToDevice, ToNobody, ToPort, with_device as connected, without_device}}
+use Rattle.multiplier.specs.{State.{PmState, passes_to, pm_port, port_at}, declared.multiplier.Passed.Passed}
 use Rattle.multiplier.specs.Between.{Answer as Answers, FromPort, Gives, Notice, at}
+use Rattle.multiplier.specs.declared.multiplier.Passed.TheVariants as passed
 use Rattle.multiplier.proofs.Door.{gives, kept_part, other_port}
-use Rattle.pm_world.specs.Attached.{Attached}
-use Rattle.pm_world.specs.Cleared.{EachWaits, NewDevicesWait, PassesNone, clears_x, is_cleared, is_up_from}
-use Rattle.pm_world.specs.Downward.{fell_to}
+use Rattle.pm_world.specs.{Attached.Attached, Cleared.{EachWaits, NewDevicesWait, PassesNone, clears_x, is_cleared, is_up_from}, Downward.fell_to}
 use Rattle.pm_world.specs.Places.{IsOrderly, Place, Places, Queue, new_world, new_world_in}
-use Rattle.pm_world.specs.Rules.{CameRule, DiskSendRule, DiskTakeRule, GoneRule, InjectRule, OnDevice, Outcome, PmDownRule, PmFromDeviceRule, PmFromHostRule, PmPresenceRule, PmUpRule, Rule, Run, recorded}
-use Rattle.pm_world.specs.declared.link.Change.{Change}
+use Rattle.pm_world.specs.Rules.{CameRule, DiskSendRule, DiskTakeRule, GoneRule, InjectRule, OnDevice, Outcome, PmDownRule, PmFromDeviceRule}
+use Rattle.pm_world.specs.{Rules.{PmFromHostRule, PmPresenceRule, PmUpRule, Rule, Run, recorded}, declared.{link.Change.Change, step.Config.Config}}
+use Rattle.pm_world.specs.declared.{step.Step.Step, step.Answer.Answer}
 use Rattle.pm_world.specs.declared.link.Change.TheVariants as change
-use Rattle.pm_world.specs.declared.step.Config.{Config}
-use Rattle.pm_world.specs.declared.step.Step.{Step}
 use Rattle.pm_world.specs.declared.step.Step.TheVariants as step
-use Rattle.pm_world.specs.declared.step.Answer.{Answer}
 use Rattle.pm_world.specs.declared.step.Answer.TheVariants as answer
-use Rattle.pm_world.proofs.links.LinksDown.{has_present}
-use Rattle.pm_world.proofs.steps.Orderly.{opening_orderly, orderly_after}
-use Rattle.pm_world.proofs.steps.Steps.{at_both, at_device}
+use Rattle.pm_world.proofs.{links.LinksDown.has_present, steps.{Orderly.{opening_orderly, orderly_after}, Steps.{at_both, at_device}}}
 
 -- ---- bit X
 
@@ -191,13 +178,10 @@ third_fails true false c e first second = absurd (cc)
 third_fails false b c e first second = absurd (cc)
 
 request_waits : (m : RegisterMap) (n : ℕ) (request : Option Request) → clears_x n request ≡ false → Waits n m → Waits n (registers_after_request m request)
-request_waits m n None none is = is
-request_waits m n (Some (Read at)) none is = is
 request_waits m n (Some (Write at value)) none is =
     write_keeps Told m n at.port at.register value
     (λ here told. written_told (map.port_at m at.port) at.register value (λ first.
     x_unshared value (third_fails (at.port == n) (at.register == 1) (shares value bit_x) none (eq-eqb at.port n here) (eq-eqb at.register 1 first))) told) is
-request_waits m n (Some Unknown) none is = is
 request_waits m n other none is = is
 
 request_shows : (m : RegisterMap) (n : ℕ) (request : Option Request) → Shows n m → Shows n (registers_after_request m request)
@@ -423,7 +407,6 @@ none_fell n old s (answer.Passed (passed.Down m)) new is = by_test (m == n)
     by_test : (b : Bool) → (if b then flat_map (falls (passes_to old.multiplier n)) (take 1 old.downward.frames) else []) ≡ []
     by_test true = ap (λ (to : Option ℕ). flat_map (falls to) (take 1 old.downward.frames)) to_none ∙ falls_none (take 1 old.downward.frames)
     by_test false = refl
-none_fell n old s (answer.Passed p) new is = refl
 none_fell n old s a new is = refl
 
 -- and up: what a port gives it holds, and forwards

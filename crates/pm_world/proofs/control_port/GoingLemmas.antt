@@ -4,20 +4,14 @@ use Rattle.std.proofs.lemmas.Bool.{cases_Bool}
 use Rattle.fis_view.specs.Frames.{IsFrame, Stamped}
 use Rattle.hba_fbs.specs.declared.report.TakeReport.{TakeReport}
 use Rattle.multiplier.specs.Arbiter.{control_port}
-use Rattle.hba_driver.specs.Going.{IsOfControl}
-use Rattle.hba_driver.specs.HostTurns.{Took}
-use Rattle.hba_driver.specs.Slot31.{Asks, IsNotice31, MayBe31, MayCome31, Signs, Stage31}
+use Rattle.hba_driver.specs.{Going.IsOfControl, HostTurns.Took, Slot31.{Asks, IsNotice31, MayBe31, MayCome31, Signs, Stage31}}
 use Rattle.hba_driver.proofs.Door.{control_in31, goes_on}
 use Rattle.pm_world.specs.Places.{Places, new_world}
 use Rattle.pm_world.specs.Rules.{CameRule, DiskSendRule, DiskTakeRule, GoneRule, InjectRule, PmDownRule, PmFromDeviceRule, PmPresenceRule, Rule}
-use Rattle.pm_world.specs.declared.step.Step.{Step}
+use Rattle.pm_world.specs.{declared.step.Step.Step, PortsGoOn.PortsGoOn, Line.{AreNotices, OnLine, is_reply}}
 use Rattle.pm_world.specs.declared.step.Step.TheVariants as step
 use Rattle.pm_world.specs.declared.step.Answer.TheVariants as answer
-use Rattle.pm_world.proofs.upward.PortMarks.{HasPortMark}
-use Rattle.pm_world.proofs.steps.Steps.{at_both, at_device}
-use Rattle.pm_world.specs.PortsGoOn.{PortsGoOn}
-use Rattle.pm_world.specs.Line.{AreNotices, OnLine, is_reply}
-use Rattle.pm_world.proofs.control_port.LineLemmas.{IsNow, opening_now, run_now}
+use Rattle.pm_world.proofs.{upward.PortMarks.HasPortMark, steps.Steps.{at_both, at_device}, control_port.LineLemmas.{IsNow, opening_now, run_now}}
 use Rattle.pm_world.proofs.control_port.ListLemmas.{IsAwaited, line_reply}
 
 -- ---- the next FIS
@@ -75,7 +69,6 @@ of_control now n (step.PmFromDevice m) port conn number bytes report new rule =
     absurd (at_both now m (answer.Took port conn number bytes report) new (PmFromDeviceRule m) rule).rule
 of_control now n (step.PmDown m) port conn number bytes report new rule =
     absurd (at_both now m (answer.Took port conn number bytes report) new (PmDownRule m) rule).rule
-of_control now n step.PmFromHost port conn number bytes report new rule = absurd rule.0
 of_control now n other port conn number bytes report new rule = absurd rule.0
 
 -- ---- the law

@@ -2,8 +2,7 @@
 use Rattle.std.proofs.Common.{◌≡◌, ◌≢◌, true, false, List, [], ◌∷◌, ◌++◌, Option, Some, None, refl, sym, ◌∙◌, subst, inl, inr}
 use Rattle.std.proofs.lemmas.Bool.{cases_eq, false≢true, true≢false}
 use Rattle.fis_view.specs.Frames.{Stamped}
-use Rattle.multiplier.specs.Arbiter.{control_port}
-use Rattle.multiplier.specs.State.{pm_port}
+use Rattle.multiplier.specs.{Arbiter.control_port, State.pm_port}
 use Rattle.hba_driver.specs.Slot31.{Asks, IsAnswer31, IsNotice31, IsSignature31, Resets, Signs, Stage31, Waits, is_idle, is_quiet}
 use Rattle.pm_world.specs.Line.{AreNotices, AreResets, EndsIn, HasCome, IsEnd, IsOwed, IsReset, NoneDown, NoneUp, OnLine, OneUp, any, is_reply, never}
 

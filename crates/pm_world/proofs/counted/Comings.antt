@@ -1,33 +1,21 @@
 -- For `Counts::note`. A connection of which no answer says that it came has sent nothing, so nothing of it was taken.
 use Rattle.std.proofs.Common.{◌≡◌, ◌≢◌, ℕ, zero, suc, ◌+◌, ◌<◌, ◌≤◌, List, [], ◌∷◌, ◌++◌, Option, Some, None, Bool, true, false, refl, sym, ap, subst, ◌∙◌, append_assoc, inl, inr, map, length, arith, length-append}
-use Rattle.std.specs.Prelude.{◌&&◌, ◌==◌, ◌||◌, ◌⊎◌, if◌then◌else◌, slice_get, slice_set, IsTrue, Ok, option_map}
-use Rattle.std.specs.Option.{option_or}
-use Rattle.std.specs.List.{flat_map}
-use Rattle.std.proofs.lemmas.Bool.{cases_eq, eqb-true, eq-eqb, ne_eqb, false≢true}
-use Rattle.std.proofs.lemmas.Option.{same_Some, slice_get_within}
-use Rattle.std.proofs.lemmas.List.{append-nil}
+use Rattle.std.specs.{Prelude.{◌&&◌, ◌==◌, ◌||◌, ◌⊎◌, if◌then◌else◌, slice_get, slice_set, IsTrue, Ok, option_map}, Option.option_or, List.flat_map}
+use Rattle.std.proofs.lemmas.{Bool.{cases_eq, eqb-true, eq-eqb, ne_eqb, false≢true}, Option.{same_Some, slice_get_within}, List.append-nil}
 use Rattle.std.proofs.lemmas.List.Folds.{list_any-append}
-use Rattle.multiplier.specs.Arbiter.{control_port}
-use Rattle.multiplier.specs.State.{PmState}
-use Rattle.hba_driver.specs.declared.mode.Mode.{Mode}
-use Rattle.hba_driver.specs.HostTurns.{Host}
-use Rattle.pm_world.specs.Attached.{Attached}
-use Rattle.pm_world.specs.Places.{Places, Place, Queue, IsOrderly, opening, new_world_in}
-use Rattle.pm_world.specs.Rules.{Outcome, CameActs, GoneActs, DiskSendActs, InjectActs, CameRule, GoneRule, DiskSendRule, InjectRule, DiskTakeRule, PmPresenceRule, PmFromDeviceRule, PmDownRule, PmUpRule, HostTakeRule, OnDevice, OnDeviceAndMultiplier, Rule, Run}
+use Rattle.multiplier.specs.{Arbiter.control_port, State.PmState}
+use Rattle.hba_driver.specs.{declared.mode.Mode.Mode, HostTurns.Host}
+use Rattle.pm_world.specs.{Attached.Attached, Places.{Places, Place, Queue, IsOrderly, opening, new_world_in}}
+use Rattle.pm_world.specs.Rules.{Outcome, CameActs, GoneActs, DiskSendActs, InjectActs, CameRule, GoneRule, DiskSendRule, InjectRule, DiskTakeRule}
+use Rattle.pm_world.specs.Rules.{PmPresenceRule, PmFromDeviceRule, PmDownRule, PmUpRule, HostTakeRule, OnDevice, OnDeviceAndMultiplier, Rule, Run}
 use Rattle.pm_world.specs.Traffic.{sent_by, taken_by, sent, taken}
 use Rattle.pm_world.specs.Counting.{capped, row_of, first_row, sent_more, taken_more, noted, says_came, has_come, Tell, AreOfARun}
-use Rattle.pm_world.specs.declared.counts.ConnCount.{ConnCount}
-use Rattle.pm_world.specs.declared.step.Config.{Config}
-use Rattle.pm_world.specs.declared.step.Step.{Step}
+use Rattle.pm_world.specs.declared.{counts.ConnCount.ConnCount, step.Config.Config, step.Step.Step, step.Answer.Answer}
 use Rattle.pm_world.specs.declared.step.Step.TheVariants as step
-use Rattle.pm_world.specs.declared.step.Answer.{Answer}
 use Rattle.pm_world.specs.declared.step.Answer.TheVariants as answer
-use Rattle.pm_world.proofs.upward.Law.{nothing_lost}
-use Rattle.pm_world.proofs.steps.Lists.{slice_get-set_same, slice_get-set_other}
+use Rattle.pm_world.proofs.{upward.Law.nothing_lost, steps.Lists.{slice_get-set_same, slice_get-set_other}}
 use Rattle.pm_world.proofs.upward.FrameMoves.{IsQuiet, from_host_quiet, push_quiet, tick_quiet, submit_quiet, poll_quiet, put_quiet}
-use Rattle.pm_world.proofs.steps.Openings.{nothing_stands}
-use Rattle.pm_world.proofs.steps.Orderly.{opening_orderly, run_orderly}
-use Rattle.pm_world.proofs.steps.Steps.{at_device, at_both}
+use Rattle.pm_world.proofs.steps.{Openings.nothing_stands, Orderly.{opening_orderly, run_orderly}, Steps.{at_device, at_both}}
 
 -- a device is plugged in at port n, on connection c
 pub record IsPluggedAt (devices : List Place) (n c : ℕ) : Type 0 where

@@ -1,32 +1,25 @@
 -- For the field `nothing_lost_down` of `laws`. What a step does to the frames on their way down, whatever else it does.
 use Rattle.std.proofs.Common.{◌≡◌, ◌≢◌, ℕ, zero, suc, ◌<◌, ◌≤◌, Bool, true, false, not, List, [], ◌∷◌, ◌++◌, length, Option, Some, None, refl, sym, ap, subst, ◌∙◌, append_assoc, append-nil, inl, inr, get_or, set, get_or-set_other, arith}
 use Rattle.std.specs.Prelude.{slice_get, option_to_list, is_none, ◌==◌, ◌⊎◌, if◌then◌else◌, Ok, MatchOption, MatchBool}
-use Rattle.std.proofs.lemmas.Bool.{cases_eq}
-use Rattle.std.proofs.lemmas.Option.{same_Some, slice_get_within}
+use Rattle.std.proofs.lemmas.{Bool.cases_eq, Option.{same_Some, slice_get_within}}
 use Rattle.fis_view.specs.Frames.{Stamped}
-use Rattle.pm_ports.specs.Port.{PortState, came_refusal as port_came_refusal, empty_port, gone_refusal as port_gone_refusal, is_gone, is_up_to, left_in, only_if, with_down, with_removal}
-use Rattle.multiplier.specs.Arbiter.{control_port}
-use Rattle.multiplier.specs.Rules.{FromDeviceRule, FromHostRule, NextUpRule}
-use Rattle.multiplier.specs.Passing.{lost_from}
-use Rattle.multiplier.specs.Rules.{with_device as connected, without_device}
-use Rattle.multiplier.specs.State.{PmState, falling, held, next_place, passes_to, pm_port, port_at, with_port}
-use Rattle.multiplier.proofs.Door.{left_is as stayed, other_port, this_port}
+use Rattle.pm_ports.specs.Port.{PortState, came_refusal as port_came_refusal, empty_port, gone_refusal as port_gone_refusal, is_gone, is_up_to}
+use Rattle.pm_ports.specs.Port.{left_in, only_if, with_down, with_removal}
+use Rattle.multiplier.specs.{Arbiter.control_port, Rules.{FromDeviceRule, FromHostRule, NextUpRule, with_device as connected, without_device}}
+use Rattle.multiplier.specs.{Passing.lost_from, State.{PmState, falling, held, next_place, passes_to, pm_port, port_at, with_port}}
 use Rattle.multiplier.specs.declared.multiplier.Passed.{Passed}
+use Rattle.multiplier.proofs.Door.{left_is as stayed, other_port, this_port}
 use Rattle.multiplier.specs.declared.multiplier.Passed.TheVariants as passed
-use Rattle.hba_driver.specs.HostTurns.{Host}
-use Rattle.hba_driver.specs.declared.request.Request.{Request}
+use Rattle.hba_driver.specs.{HostTurns.Host, declared.request.Request.Request}
 use Rattle.pm_world.specs.Places.{IsOrderly, Places, Place, Queue, with_device, with_multiplier}
-use Rattle.pm_world.specs.Rules.{CameActs, CameRule, DiskSendActs, DiskSendRule, DiskTakeRule, GoneActs, GoneRule, HostPushRule, HostTakeRule, InjectActs, InjectRule, OnDevice, Outcome, PmDownRule, PmFromDeviceRule, PmFromHostRule, PmPresenceRule, PmUpRule, PollRule, PutRule, Rule, SubmitRule, TickRule, offered, recorded}
-use Rattle.pm_world.specs.Downward.{falling_to, on_down_link}
-use Rattle.pm_world.specs.Traffic.{is_removed}
-use Rattle.pm_world.specs.declared.link.Change.{Change}
+use Rattle.pm_world.specs.Rules.{CameActs, CameRule, DiskSendActs, DiskSendRule, DiskTakeRule, GoneActs, GoneRule, HostPushRule, HostTakeRule}
+use Rattle.pm_world.specs.Rules.{InjectActs, InjectRule, OnDevice, Outcome, PmDownRule, PmFromDeviceRule, PmFromHostRule, PmPresenceRule, PmUpRule}
+use Rattle.pm_world.specs.{Rules.{PollRule, PutRule, Rule, SubmitRule, TickRule, offered, recorded}, Downward.{falling_to, on_down_link}}
+use Rattle.pm_world.specs.{Traffic.is_removed, declared.{link.Change.Change, step.Step.Step, step.Answer.Answer}}
 use Rattle.pm_world.specs.declared.link.Change.TheVariants as change
-use Rattle.pm_world.specs.declared.step.Step.{Step}
 use Rattle.pm_world.specs.declared.step.Step.TheVariants as step
-use Rattle.pm_world.specs.declared.step.Answer.{Answer}
 use Rattle.pm_world.specs.declared.step.Answer.TheVariants as answer
-use Rattle.pm_world.proofs.steps.Lists.{slice_get-set_same, slice_get-set_other}
-use Rattle.pm_world.proofs.steps.Steps.{at_both, at_device}
+use Rattle.pm_world.proofs.steps.{Lists.{slice_get-set_same, slice_get-set_other}, Steps.{at_both, at_device}}
 
 -- ---- what may move
 

@@ -2,26 +2,17 @@
 -- except what a recorded removal drops.
 use Rattle.std.proofs.Common.{◌≡◌, ◌≢◌, ℕ, ◌+◌, ◌<◌, ◌≤◌, ◌==◌, Bool, true, false, cond, if◌then◌else◌, List, [], ◌∷◌, ◌++◌, Option, Some, None, refl, sym, ap, ap₂, subst, ◌∙◌, append_assoc, append-nil, inl, inr, length, drop, take, filter, flat_map, length-append, arith}
 use Rattle.std.specs.Prelude.{Ok, ◌⊎◌, option_to_list}
-use Rattle.std.proofs.lemmas.Bool.{cases_eq, eq-eqb, ne_eqb}
-use Rattle.std.proofs.lemmas.List.Elements.{filter-append}
-use Rattle.std.proofs.Math.Seq.{drop-append_seam}
+use Rattle.std.proofs.{lemmas.{Bool.{cases_eq, eq-eqb, ne_eqb}, List.Elements.filter-append}, Math.Seq.drop-append_seam}
 use Rattle.fis_view.specs.Frames.{Stamped}
 use Rattle.pm_ports.specs.Port.{is_gone}
-use Rattle.multiplier.specs.Passing.{falls, lost_from}
-use Rattle.multiplier.specs.State.{PmState, falling, passes_to, port_at}
-use Rattle.multiplier.specs.declared.multiplier.Passed.{Passed}
+use Rattle.multiplier.specs.{Passing.{falls, lost_from}, State.{PmState, falling, passes_to, port_at}, declared.multiplier.Passed.Passed}
 use Rattle.multiplier.specs.declared.multiplier.Passed.TheVariants as passed
 use Rattle.multiplier.proofs.Door.{up_to_is}
-use Rattle.pm_world.specs.Places.{IsOrderly, KnowsItsConnections, Places}
-use Rattle.pm_world.specs.Rules.{Rule, Run}
-use Rattle.pm_world.specs.Runs.{Telling, over}
-use Rattle.pm_world.specs.Downward.{NothingLostDown, disk_took, falling_to, fell_to, is_down_to, is_passed, is_pushed, is_taken_at, lost_at, of_connection, passed_by, pushed_by, times}
-use Rattle.pm_world.specs.Traffic.{is_removed}
-use Rattle.pm_world.specs.declared.step.Step.{Step}
-use Rattle.pm_world.specs.declared.step.Answer.{Answer}
+use Rattle.pm_world.specs.{Places.{IsOrderly, KnowsItsConnections, Places}, Rules.{Rule, Run}, Runs.{Telling, over}}
+use Rattle.pm_world.specs.Downward.{NothingLostDown, disk_took, falling_to, fell_to, is_down_to, is_passed, is_pushed, is_taken_at, lost_at}
+use Rattle.pm_world.specs.{Downward.{of_connection, passed_by, pushed_by, times}, Traffic.is_removed, declared.{step.Step.Step, step.Answer.Answer}}
 use Rattle.pm_world.specs.declared.step.Answer.TheVariants as answer
-use Rattle.pm_world.proofs.downward.DownMoves.{Goes, Lands, Loses, MayWait, MovesDown, Starts, rule_moves_down}
-use Rattle.pm_world.proofs.upward.Law.{run_stays}
+use Rattle.pm_world.proofs.{downward.DownMoves.{Goes, Lands, Loses, MayWait, MovesDown, Starts, rule_moves_down}, upward.Law.run_stays}
 use Rattle.pm_world.proofs.steps.Orderly.{orderly_after}
 
 -- how often one answer says so
@@ -328,7 +319,6 @@ none_fell n c old s (answer.Passed (passed.Down m)) new orderly so = by_test (m 
     by_test : (b : Bool) → of_connection c (if b then flat_map (falls (passes_to old.multiplier n)) (take 1 old.downward.frames) else []) ≡ []
     by_test true = all_other c (passes_to old.multiplier n) (λ conn e. passes_apart old.multiplier n conn c (orderly.knows n) e so) (take 1 old.downward.frames)
     by_test false = refl
-none_fell n c old s (answer.Passed p) new orderly so = refl
 none_fell n c old s a new orderly so = refl
 
 -- what waits at port n for its device, of connection c

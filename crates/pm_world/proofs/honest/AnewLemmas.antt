@@ -1,68 +1,34 @@
 -- For `disks_are_honest`. From each order to clear a port until that order is taken, the host serves the device at the
 -- port anew. The host and a disk that is plugged in there are ends that go on.
 use Rattle.std.proofs.Common.{◌≡◌, ◌==◌, ℕ, ◌<◌, Bool, true, false, List, [], ◌∷◌, ◌++◌, append_assoc, length, refl, sym, ap, subst, ◌∙◌, inl, inr}
-use Rattle.std.proofs.Common.{Ok, arith}
-use Rattle.std.proofs.Common.{map}
-use Rattle.std.specs.Prelude.{MatchBool}
-use Rattle.fis_view.specs.Frames.{marked}
-use Rattle.disk_model.specs.Histories.{Received}
+use Rattle.std.proofs.Common.{Ok, arith, map}
+use Rattle.std.specs.{Prelude.{MatchBool, ◌⊎◌, if◌then◌else◌}, List.list_any}
+use Rattle.fis_view.specs.Frames.{marked, Stamped}
+use Rattle.disk_model.specs.{Histories.{Received, Happening, Plugged}, declared.plan.DiskPlan.DiskPlan, Ledger.IsSize, Runs.IsDiskRun}
 use Rattle.disk_model.specs.Histories as history
-use Rattle.hba_driver.specs.HostTurns.{Does}
+use Rattle.hba_driver.specs.{HostTurns.{Does, HostTurn, Ticked, sight_in}, Events.IsSoundHost, Steady.IsFlushTick, Ticks.due}
 use Rattle.hba_driver.proofs.Door.{act_clears, flush_unreset}
-use Rattle.disk_recovery.specs.Flushes.{bare_floors}
-use Rattle.disk_recovery.specs.Between.{IsUnfaulted}
+use Rattle.disk_recovery.specs.{Flushes.bare_floors, Between.IsUnfaulted}
 use Rattle.disk_recovery.proofs.Door.{flush_begins, flush_unfaulted, none_issued, since_begins}
 use Rattle.disk_model.proofs.Door.{begins_anew}
-use Rattle.pm_world.specs.Attached.{Attached}
-use Rattle.pm_world.proofs.serving.TouchedLemmas.{touched_served}
-use Rattle.pm_world.specs.PathEnds.{IsAtHost}
-use Rattle.pm_world.proofs.honest.FlushLemmas.{flush_orders}
+use Rattle.pm_world.specs.{Attached.Attached, PathEnds.IsAtHost, Cleared.is_cleared, Downward.pushed_by, Places.{Places, is_config, new_world}}
+use Rattle.pm_world.specs.{Rules.{Rule, Run}, Runs.over, Turns.{IsOfItsPort, turn_of}, declared.{step.Config.Config, step.Step.Step}}
+use Rattle.pm_world.specs.{declared.step.Answer.Answer, Stale.{IsInOrder, is_clear, orders_clear, unsent_after}, HostTouches.opens}
+use Rattle.pm_world.proofs.serving.TouchedLemmas.{touched_served, GoesTouched, touched_over}
+use Rattle.pm_world.proofs.honest.FlushLemmas.{flush_orders, flush_serves, held_at_flush, rests_at_flush}
 use Rattle.pm_world.proofs.control_port.LineLemmas.{IsNow, opening_now, run_now}
 use Rattle.pm_world.proofs.ports.DownLemmas.{down_change, DownChange, given_for, Gone, Put, Quiet}
-use Rattle.pm_world.proofs.honest.EndsSteps.{HasEnds, IsUnflushed, stays_beside}
-use Rattle.pm_world.proofs.honest.FlushedLemmas.{opened_at_flush}
-use Rattle.std.specs.Prelude.{◌⊎◌, if◌then◌else◌}
-use Rattle.std.specs.List.{list_any}
-use Rattle.std.proofs.lemmas.Bool.{cases_Bool, false≢true, true≢false}
-use Rattle.std.proofs.lemmas.List.{append-nil}
-use Rattle.fis_view.specs.Frames.{Stamped}
-use Rattle.host_memory.specs.Memory.{is_memory_size}
-use Rattle.disk_model.specs.declared.plan.DiskPlan.{DiskPlan}
-use Rattle.disk_model.specs.Histories.{Happening, Plugged}
-use Rattle.disk_model.specs.Ledger.{IsSize}
-use Rattle.disk_model.specs.Runs.{IsDiskRun}
-use Rattle.hba_driver.specs.Events.{IsSoundHost}
-use Rattle.hba_driver.specs.HostTurns.{HostTurn, Ticked, sight_in}
-use Rattle.hba_driver.specs.Steady.{IsFlushTick}
-use Rattle.hba_driver.specs.Ticks.{due}
-use Rattle.pm_world.specs.Cleared.{is_cleared}
-use Rattle.pm_world.specs.Downward.{pushed_by}
-use Rattle.pm_world.specs.Places.{Places, is_config, new_world}
-use Rattle.pm_world.specs.Rules.{Rule, Run}
-use Rattle.pm_world.specs.Runs.{over}
-use Rattle.pm_world.specs.Turns.{IsOfItsPort, turn_of}
-use Rattle.pm_world.specs.declared.step.Config.{Config}
-use Rattle.pm_world.specs.declared.step.Step.{Step}
-use Rattle.pm_world.specs.declared.step.Step.TheVariants as step
-use Rattle.pm_world.specs.declared.step.Answer.{Answer}
-use Rattle.pm_world.specs.declared.step.Answer.TheVariants as answer
-use Rattle.pm_world.specs.Stale.{IsInOrder, is_clear, orders_clear, unsent_after}
-use Rattle.pm_world.specs.HostTouches.{opens}
-use Rattle.pm_world.proofs.meant.ChangeLemmas.{tick_step}
-use Rattle.pm_world.proofs.honest.CutLemmas.{IsHeld, held_after}
-use Rattle.pm_world.proofs.turns.Delivery.{sized}
+use Rattle.pm_world.proofs.{honest.{EndsSteps.{HasEnds, IsUnflushed, stays_beside}, FlushedLemmas.opened_at_flush}, meant.ChangeLemmas.tick_step}
+use Rattle.pm_world.proofs.{honest.CutLemmas.{IsHeld, held_after}, turns.Delivery.sized}
 use Rattle.pm_world.proofs.ports.EachLemmas.{Each, Nothing, any_one, each_more, none_of}
 use Rattle.pm_world.proofs.honest.FineLemmas.{further, opens_step, sound_at, untaken_none}
-use Rattle.pm_world.proofs.serving.FirstLemmas.{FirstOn, comes_risen, first_step, is_taken_of}
-use Rattle.pm_world.proofs.honest.FlushLemmas.{flush_serves, held_at_flush, rests_at_flush}
-use Rattle.pm_world.proofs.control_port.GoingLemmas.{ports_go_on}
-use Rattle.pm_world.proofs.turns.HostFold.{rule_does}
-use Rattle.pm_world.proofs.serving.HostLemmas.{HostOn, drivers_serve}
-use Rattle.pm_world.proofs.upward.FrameMoves.{rule_moves}
-use Rattle.pm_world.proofs.meant.OrderLemmas.{Knows}
-use Rattle.pm_world.proofs.meant.OrderTurns.{opening_knows, order_step}
-use Rattle.pm_world.proofs.serving.TouchedLemmas.{GoesTouched, touched_over}
-use Rattle.pm_world.proofs.honest.UnfaultedLemmas.{step_unfaulted}
+use Rattle.pm_world.proofs.{serving.FirstLemmas.{FirstOn, comes_risen, first_step, is_taken_of}, control_port.GoingLemmas.ports_go_on}
+use Rattle.pm_world.proofs.{turns.HostFold.rule_does, serving.HostLemmas.{HostOn, drivers_serve}, upward.FrameMoves.rule_moves}
+use Rattle.pm_world.proofs.{meant.{OrderLemmas.Knows, OrderTurns.{opening_knows, order_step}}, honest.UnfaultedLemmas.step_unfaulted}
+use Rattle.std.proofs.lemmas.{Bool.{cases_Bool, false≢true, true≢false}, List.append-nil}
+use Rattle.host_memory.specs.Memory.{is_memory_size}
+use Rattle.pm_world.specs.declared.step.Step.TheVariants as step
+use Rattle.pm_world.specs.declared.step.Answer.TheVariants as answer
 
 -- ## Lists
 

@@ -1,60 +1,34 @@
 -- For `disks_are_honest`. What the host takes of a connection whose unit was unplugged: the FISes that the unit sent
 -- before, in their order, as long as they come.
-use Rattle.std.proofs.Common.{◌≡◌, ◌≢◌, ◌==◌, ◌&&◌, ℕ, ◌+◌, ◌<◌, ◌≤◌, Bool, true, false, List, [], ◌∷◌, ◌++◌, drop, length, map, refl, sym, ap, subst, ◌∙◌, inl, inr}
-use Rattle.std.proofs.Common.{Option, Some, None, Ok, arith}
-use Rattle.std.specs.Int.{bit_at}
-use Rattle.std.specs.Prelude.{slice_get, MatchBool}
-use Rattle.std.specs.List.{flat_map}
-use Rattle.std.proofs.lemmas.Bool.{cases_Bool, cases_eq, cases_lt, eq-eqb, eqb-true, true≢false}
-use Rattle.std.proofs.lemmas.List.{append-nil}
-use Rattle.std.proofs.lemmas.Option.{same_Some}
+use Rattle.std.proofs.Common.{◌≡◌, ◌≢◌, ◌==◌, ◌&&◌, ℕ, ◌+◌, ◌<◌, ◌≤◌, Bool, true, false, List, [], ◌∷◌, ◌++◌, drop, length, map, refl, sym, ap, subst}
+use Rattle.std.proofs.Common.{◌∙◌, inl, inr, Option, Some, None, Ok, arith}
+use Rattle.std.specs.{Int.bit_at, Prelude.{slice_get, MatchBool}, List.flat_map}
+use Rattle.std.proofs.lemmas.{Bool.{cases_Bool, cases_eq, cases_lt, eq-eqb, eqb-true, true≢false}, List.append-nil, Option.same_Some}
 use Rattle.fis_view.specs.Frames.{Stamped, marked}
 use Rattle.hba_fbs.specs.declared.report.TakeReport.{TakeReport}
 use Rattle.host_memory.specs.Memory.{is_memory_size}
 use Rattle.pm_control.specs.Requests.{request_in}
 use Rattle.pm_registers.specs.RegisterMap as registers
-use Rattle.multiplier.specs.Arbiter.{control_port}
-use Rattle.multiplier.specs.State.{passes_to, pm_port, port_at}
+use Rattle.multiplier.specs.{Arbiter.control_port, State.{passes_to, pm_port, port_at}}
 use Rattle.multiplier.proofs.Door.{up_to, up_to_is}
-use Rattle.disk_model.specs.declared.plan.DiskPlan.{DiskPlan}
-use Rattle.disk_model.specs.Histories.{Happening, Received, Sent}
-use Rattle.disk_model.specs.Ledger.{IsSize}
-use Rattle.disk_model.specs.Runs.{IsDiskRun}
+use Rattle.disk_model.specs.{declared.plan.DiskPlan.DiskPlan, Histories.{Happening, Received, Sent}, Ledger.IsSize, Runs.IsDiskRun}
 use Rattle.hba_driver.specs.HostTurns.{HostTurn}
 use Rattle.disk_recovery.specs.Flushes.{Floor}
-use Rattle.pm_world.specs.Cleared.{is_cleared}
-use Rattle.pm_world.specs.PathEnds.{IsAtHost, for_port}
-use Rattle.pm_world.specs.Places.{Places}
-use Rattle.pm_world.specs.Rules.{Rule}
-use Rattle.pm_world.specs.Stale.{orders_clear}
+use Rattle.pm_world.specs.{Cleared.is_cleared, PathEnds.{IsAtHost, for_port}, Places.Places, Rules.Rule, Stale.orders_clear}
 use Rattle.pm_world.specs.Traffic.{IsPrefixOf, NothingLost, all_marked, is_removed, of_conn, on_host_link, sent_by, taken_by, transit, waiting}
-use Rattle.pm_world.specs.Turns.{IsOfItsPort, turn_of}
-use Rattle.pm_world.specs.declared.link.Change.{Change}
+use Rattle.pm_world.specs.{Turns.{IsOfItsPort, turn_of}, declared.{link.Change.Change, step.Answer.Answer, step.Step.Step}}
 use Rattle.pm_world.specs.declared.link.Change.TheVariants as change
-use Rattle.pm_world.specs.declared.step.Answer.{Answer}
 use Rattle.pm_world.specs.declared.step.Answer.TheVariants as answer
-use Rattle.pm_world.specs.declared.step.Step.{Step}
 use Rattle.pm_world.proofs.cleared.Cleared as cleared
-use Rattle.pm_world.proofs.control_port.LineLemmas.{IsNow}
-use Rattle.pm_world.proofs.downward.DownMoves.{Starts, rule_moves_down}
-use Rattle.pm_world.proofs.honest.CutLemmas.{IsElsewhere}
-use Rattle.pm_world.proofs.honest.EarlyLemmas.{none_of_conn}
-use Rattle.pm_world.proofs.honest.EndsSteps.{HasEnds, IsUnflushed, gives_one_to, stays_beside, takes_one}
-use Rattle.pm_world.proofs.honest.ExactLemmas.{IsExact, IsOpenFor}
-use Rattle.pm_world.proofs.honest.FlushLemmas.{flush_orders}
-use Rattle.pm_world.proofs.honest.LiveLemmas.{IsOpenAt, none_told, rule_open}
-use Rattle.pm_world.proofs.honest.ShutLemmas.{IsNoneOf, WaitsFor, none_taken, none_up}
-use Rattle.pm_world.proofs.meant.OrderLemmas.{Only}
-use Rattle.pm_world.proofs.meant.PortLemmas.{WritesChanges}
+use Rattle.pm_world.proofs.{control_port.LineLemmas.IsNow, downward.DownMoves.{Starts, rule_moves_down}, honest.CutLemmas.IsElsewhere}
+use Rattle.pm_world.proofs.honest.{EarlyLemmas.none_of_conn, EndsSteps.{HasEnds, IsUnflushed, gives_one_to, stays_beside, takes_one}}
+use Rattle.pm_world.proofs.honest.{ExactLemmas.{IsExact, IsOpenFor}, FlushLemmas.flush_orders, LiveLemmas.{IsOpenAt, none_told, rule_open}}
+use Rattle.pm_world.proofs.{honest.ShutLemmas.{IsNoneOf, WaitsFor, none_taken, none_up}, meant.{OrderLemmas.Only, PortLemmas.WritesChanges}}
 use Rattle.pm_world.proofs.paths.PathLemmas.{and_both, and_false, if_false, if_true, one_step, still_above}
-use Rattle.pm_world.proofs.ports.EachLemmas.{Each, each_map, each_more}
-use Rattle.pm_world.proofs.ports.FirmLemmas.{IsFirm, seen_at}
+use Rattle.pm_world.proofs.ports.{EachLemmas.{Each, each_map, each_more}, FirmLemmas.{IsFirm, seen_at}}
 use Rattle.pm_world.proofs.ports.KeepingLemmas.{KeepsTo, drop_own, keeps_after, keeps_from, keeps_one, passes_open}
-use Rattle.pm_world.proofs.ports.UpLemmas.{Left, Rose, Same, UpChange, up_change}
-use Rattle.pm_world.proofs.steps.Orderly.{removed_after}
-use Rattle.pm_world.proofs.upward.FrameMoves.{rule_moves}
-use Rattle.pm_world.proofs.upward.Law.{nothing_lost}
-use Rattle.pm_world.proofs.upward.Recorded.{AreLetIn, Known, Records, all, one, records_last, rule_records}
+use Rattle.pm_world.proofs.{ports.UpLemmas.{Left, Rose, Same, UpChange, up_change}, steps.Orderly.removed_after, upward.FrameMoves.rule_moves}
+use Rattle.pm_world.proofs.upward.{Law.nothing_lost, Recorded.{AreLetIn, Known, Records, all, one, records_last, rule_records}}
 
 -- ## Connections
 

@@ -1,31 +1,17 @@
 -- For `ports_rest_at_a_flush`. From the flush of a unit on, the host's earlier commands are lost at its port. When the
 -- port is cleared, both ends of the link are linked.
-use Rattle.std.specs.Prelude.{if◌then◌else◌}
-use Rattle.std.proofs.Common.{◌≡◌, ◌≢◌, ◌==◌, ℕ, ◌<◌, Bool, true, false, List, [], ◌∷◌, ◌++◌, append_assoc, refl, sym, ap, subst, ◌∙◌}
-use Rattle.std.proofs.Common.{Ok, arith}
-use Rattle.std.specs.List.{flat_map}
-use Rattle.std.proofs.lemmas.Bool.{ne_eqb, true≢false}
-use Rattle.std.proofs.lemmas.List.{append-nil}
+use Rattle.std.specs.{Prelude.if◌then◌else◌, List.flat_map}
+use Rattle.std.proofs.Common.{◌≡◌, ◌≢◌, ◌==◌, ℕ, ◌<◌, Bool, true, false, List, [], ◌∷◌, ◌++◌, append_assoc, refl, sym, ap, subst, ◌∙◌, Ok, arith}
+use Rattle.std.proofs.lemmas.{Bool.{ne_eqb, true≢false}, List.append-nil}
 use Rattle.fis_view.specs.Frames.{Stamped, marked}
-use Rattle.multiplier.specs.Arbiter.{control_port}
-use Rattle.multiplier.specs.State.{pm_port}
-use Rattle.pm_world.specs.Cleared.{PassesNone, is_cleared}
-use Rattle.pm_world.specs.Downward.{falling_to, pushed_by}
-use Rattle.pm_world.specs.Places.{IsOrderly, Places}
-use Rattle.pm_world.specs.Rules.{Rule}
-use Rattle.pm_world.specs.declared.step.Step.{Step}
-use Rattle.pm_world.specs.declared.step.Answer.{Answer}
-use Rattle.pm_world.proofs.cleared.Cleared as cleared
-use Rattle.pm_world.proofs.cleared.Cleared.{rule_goes, run_waits}
-use Rattle.pm_world.specs.Stale.{is_clear}
-use Rattle.pm_world.proofs.ports.DownLemmas.{down_change, DownChange, given_for, Gone, Put, Quiet}
-use Rattle.pm_world.proofs.ports.EachLemmas.{Each, Nothing, each_more}
-use Rattle.pm_world.proofs.ports.KeepingLemmas.{IsTrue}
-use Rattle.pm_world.proofs.ports.UpLemmas.{Left, Rose, Same, UpChange, up_change}
-use Rattle.pm_world.specs.PathEnds.{AreAmong, IsAway, for_port, injects, unplugs}
+use Rattle.multiplier.specs.{Arbiter.control_port, State.pm_port}
+use Rattle.pm_world.specs.{Cleared.{PassesNone, is_cleared}, Downward.{falling_to, pushed_by}, Places.{IsOrderly, Places}, Rules.Rule}
+use Rattle.pm_world.specs.{declared.{step.Step.Step, step.Answer.Answer}, Stale.is_clear, PathEnds.{AreAmong, IsAway, for_port, injects, unplugs}}
 use Rattle.pm_world.specs.DevicePaths.{IsOnPath}
-use Rattle.pm_world.proofs.paths.RunLemmas.{TellsOf, tells_of}
-use Rattle.pm_world.proofs.paths.PathLemmas.{away_after, falls_on, falls_other, unsent_other}
+use Rattle.pm_world.proofs.cleared.Cleared as cleared
+use Rattle.pm_world.proofs.{cleared.Cleared.{rule_goes, run_waits}, ports.DownLemmas.{down_change, DownChange, given_for, Gone, Put, Quiet}}
+use Rattle.pm_world.proofs.ports.{EachLemmas.{Each, Nothing, each_more}, KeepingLemmas.IsTrue, UpLemmas.{Left, Rose, Same, UpChange, up_change}}
+use Rattle.pm_world.proofs.paths.{RunLemmas.{TellsOf, tells_of}, PathLemmas.{away_after, falls_on, falls_other, unsent_other}}
 use Rattle.pm_world.proofs.honest.ShutLemmas.{IsForOther, IsShutOff, only_there}
 
 -- ## What is kept

@@ -1,65 +1,36 @@
 -- For `disks_are_honest`. What a FIS of a disk that the host of a world takes reports as done ended honestly.
 use Rattle.std.proofs.Common.{◌≡◌, ◌≢◌, ◌==◌, ℕ, ◌*◌, ◌<◌, Bool, true, false, List, [], ◌∷◌, ◌++◌, refl, sym, ap, subst, ◌∙◌, inl, inr, ◌≤◌, length}
 use Rattle.std.proofs.Common.{Option, Some, None, Ok, arith}
-use Rattle.std.specs.Prelude.{◌⊎◌, if◌then◌else◌, IsSomeAnd, slice_get}
-use Rattle.std.specs.Option.{option_map}
+use Rattle.std.specs.{Prelude.{◌⊎◌, if◌then◌else◌, IsSomeAnd, slice_get}, Option.option_map}
 use Rattle.std.proofs.lemmas.Bool.{ne_eqb, true≢false}
-use Rattle.host_memory.specs.Memory.{Memory, is_memory_size}
-use Rattle.host_memory.specs.declared.table.Prd.{Prd}
+use Rattle.host_memory.specs.{Memory.{Memory, is_memory_size}, declared.table.Prd.Prd}
 use Rattle.hba_commands.specs.declared.command.Command as written
 use Rattle.hba_commands.specs.Requests.{request_of, work_of}
-use Rattle.slots.specs.Slots.{has_bit, is_pio, issue_at, match_some, own_issue, owned_by, slots_of}
+use Rattle.slots.specs.{Slots.{has_bit, is_pio, issue_at, match_some, own_issue, owned_by, slots_of}, declared.work.Work.Work}
 use Rattle.slots.specs.Work as moved
-use Rattle.slots.specs.declared.work.Work.{Work}
-use Rattle.hba_fbs.specs.declared.report.TakeReport.{TakeReport}
-use Rattle.hba_fbs.specs.Taking.{port_of}
-use Rattle.hba_fbs.specs.Views.{last_command, view_of}
+use Rattle.hba_fbs.specs.{declared.report.TakeReport.TakeReport, Taking.port_of, Views.{last_command, view_of}}
 use Rattle.hba_fbs.proofs.Door as slot_lemmas
-use Rattle.disk_model.specs.declared.plan.DiskPlan.{DiskPlan}
-use Rattle.disk_model.specs.declared.request.Command.{Command}
-use Rattle.disk_model.specs.declared.unit.Unit.TheVariants.{Disk, Scripted}
-use Rattle.disk_model.specs.Chunks.{sectors_at}
-use Rattle.disk_model.specs.Histories.{DiskOf, Happening}
-use Rattle.disk_model.specs.Ledger.{IsSize, ReadOut, Written, ledger, medium_with}
-use Rattle.disk_model.specs.Runs.{IsDiskRun}
+use Rattle.disk_model.specs.{declared.{plan.DiskPlan.DiskPlan, request.Command.Command, unit.Unit.TheVariants.{Disk, Scripted}}, Chunks.sectors_at}
+use Rattle.disk_model.specs.{Histories.{DiskOf, Happening}, Ledger.{IsSize, ReadOut, Written, ledger, medium_with}, Runs.IsDiskRun, Fronts.IsFront}
+use Rattle.disk_model.specs.Anew.{StayWritten}
 use Rattle.disk_model.proofs.Door.{before_is_front, writes_stay}
-use Rattle.hba_laws.specs.Agreement.{work_of_issue, work_of_transfer}
-use Rattle.hba_laws.specs.Client.{own}
-use Rattle.hba_laws.specs.Delivering.{completes_now, event_taken}
-use Rattle.hba_laws.specs.History.{History, Transfer, completes, filled, issued}
+use Rattle.hba_laws.specs.{Agreement.{work_of_issue, work_of_transfer}, Client.own, Delivering.{completes_now, event_taken}}
+use Rattle.hba_laws.specs.{History.{History, Transfer, completes, filled, issued}, Sound.IsHost}
 use Rattle.hba_laws.specs.Hosts as event
-use Rattle.hba_laws.specs.Sound.{IsHost}
-use Rattle.hba_driver.specs.declared.request.Work.TheVariants.{Read, Write}
+use Rattle.hba_driver.specs.{declared.{request.Work.TheVariants.{Read, Write}, slot.Head.Head}, Delivered.TookDelivers}
+use Rattle.hba_driver.specs.{Drivers.{Driver, Entry, entry_at}, Events.{IsSoundHost, shared_by}, HostTurns.{Host, HostTurn, Tooks}}
+use Rattle.hba_driver.specs.{Orders.{is_queued, request_fields, work_fields}, Served.{IsIssueOf, IsOrdered, IsRequest, IsServed, IsStep}}
 use Rattle.hba_driver.specs.declared.request.Work as asked
-use Rattle.hba_driver.specs.declared.slot.Head.{Head}
-use Rattle.hba_driver.specs.Delivered.{TookDelivers}
-use Rattle.hba_driver.specs.Drivers.{Driver, Entry, entry_at}
-use Rattle.hba_driver.specs.Events.{IsSoundHost, shared_by}
-use Rattle.hba_driver.specs.HostTurns.{Host, HostTurn, Tooks}
-use Rattle.hba_driver.specs.Orders.{is_queued, request_fields, work_fields}
-use Rattle.hba_driver.specs.Served.{IsIssueOf, IsOrdered, IsRequest, IsServed, IsStep}
 use Rattle.disk_simulation.specs.Honest.{IsDoneHonestly, IsOnMedium}
-use Rattle.disk_recovery.specs.Steady.{command_of}
+use Rattle.disk_recovery.specs.{Steady.command_of, Ends.since_floor, Flushes.{Floor, flushes_taken, write_floors}}
 use Rattle.fis_view.specs.Frames.{marked}
 use Rattle.disk_recovery.proofs.Door.{each_end_is_honest, flushes_are_taken, request_kind, request_pio}
-use Rattle.pm_world.specs.Attached.{Attached, Modelled, Own, StandsFor, plan_of}
-use Rattle.pm_world.proofs.honest.EndsSteps.{HasEnds, running}
-use Rattle.pm_world.proofs.control_port.LineLemmas.{IsNow}
-use Rattle.pm_world.specs.Units.{LivesOn}
-use Rattle.pm_world.specs.Places.{Place, Places}
-use Rattle.pm_world.specs.Rules.{Rule}
-use Rattle.pm_world.specs.declared.step.Step.{Step}
-use Rattle.pm_world.specs.declared.step.Answer.TheVariants as answer
-use Rattle.pm_world.proofs.serving.Brought.{IsBrought, StandsThere}
-use Rattle.pm_world.specs.ReadBack.{IsPart}
-use Rattle.pm_world.specs.HonestEnds.{EndsHonestly, ReadsSectors, StandsAt, WritesSectors}
-use Rattle.pm_world.proofs.serving.BroughtLemmas.{brought_there}
-use Rattle.pm_world.proofs.serving.TookLemmas.{host_takes, plain_frame}
+use Rattle.pm_world.specs.{Attached.{Attached, Modelled, Own, StandsFor, plan_of}, Units.LivesOn, Places.{Place, Places}, Rules.Rule}
+use Rattle.pm_world.specs.{declared.step.Step.Step, ReadBack.IsPart, HonestEnds.{EndsHonestly, ReadsSectors, StandsAt, WritesSectors}}
+use Rattle.pm_world.proofs.{honest.EndsSteps.{HasEnds, running}, control_port.LineLemmas.IsNow, serving.Brought.{IsBrought, StandsThere}}
+use Rattle.pm_world.proofs.serving.{BroughtLemmas.brought_there, TookLemmas.{host_takes, plain_frame}}
 use Rattle.pm_world.proofs.serving.TouchedLemmas.{touched_delivers, touched_served, touched_sound}
-use Rattle.disk_model.specs.Fronts.{IsFront}
-use Rattle.disk_model.specs.Anew.{StayWritten}
-use Rattle.disk_recovery.specs.Ends.{since_floor}
-use Rattle.disk_recovery.specs.Flushes.{Floor, flushes_taken, write_floors}
+use Rattle.pm_world.specs.declared.step.Answer.TheVariants as answer
 
 -- ## The disk's run
 

@@ -5,32 +5,18 @@ use Rattle.std.specs.Prelude.{slice_get, if◌then◌else◌}
 use Rattle.std.proofs.lemmas.Bool.{eq-eqb, true≢false}
 use Rattle.fis_view.specs.Frames.{Stamped}
 use Rattle.pm_ports.specs.Port.{is_gone}
-use Rattle.multiplier.specs.Arbiter.{control_port}
-use Rattle.multiplier.specs.State.{PmState, port_at}
+use Rattle.multiplier.specs.{Arbiter.control_port, State.{PmState, port_at}}
 use Rattle.hba_driver.specs.declared.mode.Mode.TheVariants.{Switching}
-use Rattle.pm_world.specs.Attached.{Attached}
-use Rattle.pm_world.specs.Downward.{falling_to}
-use Rattle.pm_world.specs.Places.{Place, Places, is_config, new_world}
-use Rattle.pm_world.specs.Rules.{CameActs, CameRule, Rule, Run}
-use Rattle.pm_world.specs.Traffic.{all_marked, is_removed, of_conn, stamped, transit, waiting}
-use Rattle.pm_world.specs.declared.step.Config.{Config}
-use Rattle.pm_world.specs.declared.step.Step.{Step}
+use Rattle.pm_world.specs.{Attached.Attached, Downward.falling_to, Places.{Place, Places, is_config, new_world}}
+use Rattle.pm_world.specs.{Rules.{CameActs, CameRule, Rule, Run}, Traffic.{all_marked, is_removed, of_conn, stamped, transit, waiting}}
+use Rattle.pm_world.specs.{declared.{step.Config.Config, step.Step.Step, step.Answer.Answer}, PathEnds.{IsThere, IsUnremoved}, Connections.IsUnused}
 use Rattle.pm_world.specs.declared.step.Step.TheVariants as step
-use Rattle.pm_world.specs.declared.step.Answer.{Answer}
 use Rattle.pm_world.specs.declared.step.Answer.TheVariants as answer
-use Rattle.pm_world.proofs.steps.Lists.{slice_get-set_same, stamped-append, stamped-one}
-use Rattle.pm_world.proofs.upward.Recorded.{IsLed, led_last}
-use Rattle.pm_world.proofs.upward.PortMarks.{opening_marks, run_marks}
-use Rattle.pm_world.proofs.steps.Steps.{AtDevice, at_device}
-use Rattle.pm_world.proofs.ports.EachLemmas.{Each, each_map}
-use Rattle.pm_world.specs.PathEnds.{IsThere, IsUnremoved}
-use Rattle.pm_world.proofs.serving.FirstLemmas.{comes_risen}
-use Rattle.pm_world.proofs.paths.KeptLemmas.{came_unremoved, unremoved}
-use Rattle.pm_world.proofs.paths.RunLemmas.{IsPlugged}
+use Rattle.pm_world.proofs.{steps.Lists.{slice_get-set_same, stamped-append, stamped-one}, upward.Recorded.{IsLed, led_last}}
+use Rattle.pm_world.proofs.{upward.PortMarks.{opening_marks, run_marks}, steps.Steps.{AtDevice, at_device}, ports.EachLemmas.{Each, each_map}}
+use Rattle.pm_world.proofs.{serving.FirstLemmas.comes_risen, paths.{KeptLemmas.{came_unremoved, unremoved}, RunLemmas.IsPlugged}}
 use Rattle.pm_world.proofs.paths.PathLemmas.{and_both, none_both, still_above}
-use Rattle.pm_world.specs.Connections.{IsUnused}
-use Rattle.pm_world.proofs.ports.FirmLemmas.{HasCome, IsFirm, firm_after, opening_firm, run_firm, seen_at}
-use Rattle.pm_world.proofs.ports.SentLemmas.{none_on_way}
+use Rattle.pm_world.proofs.ports.{FirmLemmas.{HasCome, IsFirm, firm_after, opening_firm, run_firm, seen_at}, SentLemmas.none_on_way}
 use Rattle.pm_world.proofs.honest.ShutLemmas.{IsForOther, IsNoneOf, IsShutOff, WaitsFor}
 
 -- ## The plugging

@@ -2,46 +2,27 @@
 -- is on its way between them.
 use Rattle.std.proofs.Common.{◌≡◌, ◌≢◌, ◌==◌, ℕ, ◌<◌, Bool, true, false, List, [], ◌∷◌, ◌++◌, drop, length, map, refl, sym, ap, subst, ◌∙◌, inl, inr}
 use Rattle.std.proofs.Common.{Some, None, Ok, arith}
-use Rattle.std.specs.Prelude.{◌⊎◌, MatchBool, if◌then◌else◌}
-use Rattle.std.specs.List.{flat_map}
-use Rattle.std.proofs.lemmas.Bool.{eq-eqb, eqb-true, true≢false}
-use Rattle.std.proofs.lemmas.List.{append-nil}
+use Rattle.std.specs.{Prelude.{◌⊎◌, MatchBool, if◌then◌else◌}, List.flat_map}
+use Rattle.std.proofs.lemmas.{Bool.{eq-eqb, eqb-true, true≢false}, List.append-nil}
 use Rattle.fis_view.specs.Frames.{Stamped, marked}
 use Rattle.host_memory.specs.Memory.{is_memory_size}
-use Rattle.hba_fbs.specs.declared.report.TakeReport.{TakeReport}
-use Rattle.hba_fbs.specs.Taking.{port_of}
+use Rattle.hba_fbs.specs.{declared.report.TakeReport.TakeReport, Taking.port_of}
 use Rattle.multiplier.specs.State.{pm_port}
-use Rattle.disk_model.specs.declared.plan.DiskPlan.{DiskPlan}
-use Rattle.disk_model.specs.Histories.{Happening, Received, Sent}
-use Rattle.disk_model.specs.Ledger.{IsSize}
-use Rattle.disk_model.specs.Runs.{IsDiskRun}
-use Rattle.hba_laws.specs.Client.{Touches}
-use Rattle.hba_laws.specs.Delivering.{touches_after}
-use Rattle.hba_driver.specs.declared.request.Request.{Request}
+use Rattle.disk_model.specs.{declared.plan.DiskPlan.DiskPlan, Histories.{Happening, Received, Sent}, Ledger.IsSize, Runs.IsDiskRun}
+use Rattle.hba_laws.specs.{Client.Touches, Delivering.touches_after}
 use Rattle.hba_driver.specs.Events.{events_over, shared_by}
-use Rattle.hba_driver.specs.HostTurns.{DoesAll, Host, HostTurn, Polled, Pushed, Put, Submitted, Ticked, Took, Tooks}
-use Rattle.hba_driver.specs.Steady.{IsFlushTick}
+use Rattle.hba_driver.specs.{HostTurns.{DoesAll, Host, HostTurn, Polled, Pushed, Put, Submitted, Ticked, Took, Tooks}, Steady.IsFlushTick}
 use Rattle.hba_driver.proofs.Door.{goes_on, turn_addressed}
-use Rattle.disk_recovery.specs.Ends.{IsBesideTurn, IsRunning}
-use Rattle.disk_recovery.specs.Flushes.{AreEndsSince, EndsSinceAfter, Floor}
+use Rattle.disk_recovery.specs.{Ends.{IsBesideTurn, IsRunning}, Flushes.{AreEndsSince, EndsSinceAfter, Floor}}
 use Rattle.disk_recovery.proofs.Door.{ends_since_go_on}
-use Rattle.pm_world.specs.Places.{Places, Queue}
-use Rattle.pm_world.specs.Rules.{Rule}
-use Rattle.pm_world.specs.HostTouches.{AreTouched, goes}
-use Rattle.pm_world.specs.Turns.{IsOfItsPort, turn_of}
-use Rattle.pm_world.specs.PathEnds.{IsAtHost, for_port}
-use Rattle.pm_world.specs.declared.step.Step.{Step}
-use Rattle.pm_world.specs.declared.step.Step.TheVariants as step
-use Rattle.pm_world.specs.declared.step.Answer.{Answer}
+use Rattle.pm_world.specs.{Places.{Places, Queue}, Rules.Rule, HostTouches.{AreTouched, goes}, Turns.{IsOfItsPort, turn_of}}
+use Rattle.pm_world.specs.{PathEnds.{IsAtHost, for_port}, declared.{step.Step.Step, step.Answer.Answer}}
 use Rattle.pm_world.specs.declared.step.Answer.TheVariants as answer
-use Rattle.pm_world.proofs.serving.GivenLemmas.{HasGiven, host_gives}
-use Rattle.pm_world.proofs.turns.HostFold.{rule_does}
-use Rattle.pm_world.proofs.serving.HostLemmas.{idle_turn, pushed_turn, put_turn, submitted_turn}
-use Rattle.pm_world.proofs.control_port.LineLemmas.{IsNow}
-use Rattle.pm_world.proofs.serving.TookLemmas.{host_takes, plain_frame}
-use Rattle.pm_world.proofs.serving.TouchedLemmas.{touched_served}
-use Rattle.pm_world.proofs.paths.PathLemmas.{drop_front}
+use Rattle.pm_world.proofs.{serving.GivenLemmas.{HasGiven, host_gives}, turns.HostFold.rule_does}
+use Rattle.pm_world.proofs.{serving.HostLemmas.{idle_turn, pushed_turn, put_turn, submitted_turn, none_told}, control_port.LineLemmas.IsNow}
+use Rattle.pm_world.proofs.{serving.{TookLemmas.{host_takes, plain_frame}, TouchedLemmas.touched_served}, paths.PathLemmas.drop_front}
 use Rattle.pm_world.proofs.honest.ExactLemmas.{Comes, ExactMoves, Gives, IsExact, Sends, Still, Takes}
+pub use Rattle.pm_world.proofs.serving.HostLemmas.{IsNoTurn}
 
 -- ## What is kept
 
@@ -76,64 +57,9 @@ running len right plan sectors size disk run turns now i touches touched = recor
 
 -- ## The turn of a step
 
--- a step with such an answer is not a turn of the host
-abbrev pub IsNoTurn : Answer → Type 0
-IsNoTurn (answer.Took port conn number bytes report) = ⊥
-IsNoTurn answer.Pushed = ⊥
-IsNoTurn answer.Ticked = ⊥
-IsNoTurn answer.Idle = ⊥
-IsNoTurn (answer.Submitted ticket) = ⊥
-IsNoTurn (answer.Polled completion) = ⊥
-IsNoTurn answer.Put = ⊥
-IsNoTurn a = Prim.Unit {0}
-
-module _ (old new : Places) where
-  at_push : (a : Answer) → IsNoTurn a → turn_of old step.HostPush a new ≡ []
-  at_push (answer.Took port conn number bytes report) quiet = absurd quiet
-  at_push answer.Pushed quiet = absurd quiet
-  at_push answer.Ticked quiet = absurd quiet
-  at_push answer.Idle quiet = absurd quiet
-  at_push (answer.Submitted ticket) quiet = absurd quiet
-  at_push (answer.Polled completion) quiet = absurd quiet
-  at_push answer.Put quiet = absurd quiet
-  at_push a quiet = refl
-
-  at_submit : (dev : ℕ) (request : Request) (a : Answer) → IsNoTurn a → turn_of old (step.Submit dev request) a new ≡ []
-  at_submit dev request (answer.Took port conn number bytes report) quiet = absurd quiet
-  at_submit dev request answer.Pushed quiet = absurd quiet
-  at_submit dev request answer.Ticked quiet = absurd quiet
-  at_submit dev request answer.Idle quiet = absurd quiet
-  at_submit dev request (answer.Submitted ticket) quiet = absurd quiet
-  at_submit dev request (answer.Polled completion) quiet = absurd quiet
-  at_submit dev request answer.Put quiet = absurd quiet
-  at_submit dev request a quiet = refl
-
-  at_put : (at : ℕ) (bytes : List ℕ) (a : Answer) → IsNoTurn a → turn_of old (step.Put at bytes) a new ≡ []
-  at_put at bytes (answer.Took port conn number given report) quiet = absurd quiet
-  at_put at bytes answer.Pushed quiet = absurd quiet
-  at_put at bytes answer.Ticked quiet = absurd quiet
-  at_put at bytes answer.Idle quiet = absurd quiet
-  at_put at bytes (answer.Submitted ticket) quiet = absurd quiet
-  at_put at bytes (answer.Polled completion) quiet = absurd quiet
-  at_put at bytes answer.Put quiet = absurd quiet
-  at_put at bytes a quiet = refl
-
-  no_turn : (s : Step) (a : Answer) → IsNoTurn a → turn_of old s a new ≡ []
-  no_turn step.HostPush a quiet = at_push a quiet
-  no_turn (step.Submit dev request) a quiet = at_submit dev request a quiet
-  no_turn (step.Put at bytes) a quiet = at_put at bytes a quiet
-  no_turn s (answer.Took port conn number bytes report) quiet = absurd quiet
-  no_turn s answer.Pushed quiet = absurd quiet
-  no_turn s answer.Ticked quiet = absurd quiet
-  no_turn s answer.Idle quiet = absurd quiet
-  no_turn s (answer.Submitted ticket) quiet = absurd quiet
-  no_turn s (answer.Polled completion) quiet = absurd quiet
-  no_turn s answer.Put quiet = absurd quiet
-  no_turn s a quiet = refl
-
 -- the host is as it was then
 pub same_host : (old new : Places) (s : Step) (a : Answer) → Rule old s (Ok a) new → IsNoTurn a → new.host ≡ old.host
-same_host old new s a rule quiet = subst (λ (ts : List HostTurn). DoesAll old.host ts new.host) (no_turn old new s a quiet) (rule_does old s a new rule)
+same_host old new s a rule quiet = subst (λ (ts : List HostTurn). DoesAll old.host ts new.host) (none_told old new s a quiet) (rule_does old s a new rule)
 
 -- ## A step in which no FIS of the device comes or goes at the host
 
@@ -205,7 +131,7 @@ module _ (n : ℕ) (old : Places) (i : IsNow old) (s : Step) (new : Places) wher
     | inl none ↦ inl none
     | inr one ↦ inr (Put one.at one.bytes, (one.is, tt))
   ]
-  aside a rule its is unflushed = inl (no_turn old new s a tt)
+  aside a rule its is unflushed = inl (none_told old new s a tt)
 
   -- the FIS that the device's end hears is the frame, which is for the device
   record GivesTo (bytes : List ℕ) : Type 0 where
@@ -286,7 +212,7 @@ module _ (n len : ℕ) (below : n < 15) (right : is_memory_size len ≡ true) (p
         → HasEnds n len floors (turns ++ turn_of old s a new) new.host (disk ++ Received bytes ∷ []) back up
     comes_to back bytes run told is =
         let quiet : IsNoTurn a = subst IsNoTurn (sym told) tt in
-        with_host (turn_of old s a new) (disk ++ Received bytes ∷ []) back up (no_turn old new s a quiet) (same_host old new s a rule quiet)
+        with_host (turn_of old s a new) (disk ++ Received bytes ∷ []) back up (none_told old new s a quiet) (same_host old new s a rule quiet)
         ((ends_since_go_on n plan sectors).1.comes old.host disk back up bytes floors h.touches below (runs disk run)
         (subst (λ (xs : List (List ℕ)). AreEndsSince n old.host disk xs up floors h.touches) is h.ends))
 
@@ -295,7 +221,7 @@ module _ (n len : ℕ) (below : n < 15) (right : is_memory_size len ≡ true) (p
         → HasEnds n len floors (turns ++ turn_of old s a new) new.host (disk ++ Sent bytes ∷ []) down (up ++ bytes ∷ [])
     sends_one c number bytes run told =
         let quiet : IsNoTurn a = subst IsNoTurn (sym told) tt in
-        with_host (turn_of old s a new) (disk ++ Sent bytes ∷ []) down (up ++ bytes ∷ []) (no_turn old new s a quiet) (same_host old new s a rule quiet)
+        with_host (turn_of old s a new) (disk ++ Sent bytes ∷ []) down (up ++ bytes ∷ []) (none_told old new s a quiet) (same_host old new s a rule quiet)
         ((ends_since_go_on n plan sectors).1.sends old.host disk down up bytes floors h.touches below (runs (disk ++ Sent bytes ∷ []) run) h.ends)
 
     -- the host takes its next one

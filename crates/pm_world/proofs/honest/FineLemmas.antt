@@ -1,29 +1,17 @@
 -- For `disks_are_honest`. In a run from a new world the port goes on, and no fault stands of a device for which none
 -- was heard. What goes fine with a device goes well with it and with the port.
-use Rattle.std.proofs.Common.{◌≡◌, ℕ, ◌<◌, true, false, List, [], ◌∷◌, ◌++◌, length, refl, sym, ◌∙◌}
-use Rattle.std.proofs.Common.{Ok}
+use Rattle.std.proofs.Common.{◌≡◌, ℕ, ◌<◌, true, false, List, [], ◌∷◌, ◌++◌, length, refl, sym, ◌∙◌, Ok}
 use Rattle.std.proofs.lemmas.Bool.{eq-eqb, true≢false}
 use Rattle.host_memory.specs.Memory.{zeroed}
-use Rattle.hba_driver.specs.declared.mode.Mode.TheVariants.{Switching}
-use Rattle.hba_driver.specs.Events.{IsSoundHost}
+use Rattle.hba_driver.specs.{declared.mode.Mode.TheVariants.Switching, Events.IsSoundHost}
 use Rattle.disk_recovery.specs.Between.{IsUnfaulted}
 use Rattle.hba_driver.proofs.Door.{calm_or_flush, hosts_stay_sound, zeroed_right}
-use Rattle.pm_world.specs.Attached.{Attached}
-use Rattle.pm_world.proofs.serving.FirstLemmas.{OpensWell, is_taken_of}
-use Rattle.pm_world.specs.Places.{Places, is_config, new_world}
-use Rattle.pm_world.specs.Rules.{Rule, Run}
-use Rattle.pm_world.specs.Runs.{over}
-use Rattle.pm_world.specs.Turns.{IsOfItsPort, turn_of}
-use Rattle.pm_world.specs.declared.step.Config.{Config}
-use Rattle.pm_world.specs.declared.step.Step.{Step}
-use Rattle.pm_world.specs.declared.step.Answer.{Answer}
-use Rattle.pm_world.specs.declared.step.Answer.TheVariants as answer
-use Rattle.pm_world.proofs.turns.Delivery.{sized}
-use Rattle.pm_world.proofs.turns.HostFold.{run_does}
-use Rattle.pm_world.proofs.upward.Law.{run_append}
-use Rattle.pm_world.specs.PortsGoOn.{PortGoesOn}
-use Rattle.disk_recovery.proofs.Door.{never_cleared}
+use Rattle.pm_world.specs.{Attached.Attached, Places.{Places, is_config, new_world}, Rules.{Rule, Run}, Runs.over, Turns.{IsOfItsPort, turn_of}}
+use Rattle.pm_world.specs.{declared.{step.Config.Config, step.Step.Step, step.Answer.Answer}, PortsGoOn.PortGoesOn}
+use Rattle.pm_world.proofs.{serving.FirstLemmas.{OpensWell, is_taken_of}, turns.{Delivery.sized, HostFold.run_does}, upward.Law.run_append}
 use Rattle.pm_world.proofs.honest.UnfaultedLemmas.{IsHeardUnfaulted}
+use Rattle.pm_world.specs.declared.step.Answer.TheVariants as answer
+use Rattle.disk_recovery.proofs.Door.{never_cleared}
 
 -- ## Steps
 

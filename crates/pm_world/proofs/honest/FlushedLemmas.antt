@@ -1,23 +1,14 @@
 -- For `disks_are_honest`. When a host flushes a device, the port of the device is open to the driver, and not to the
 -- device.
 use Rattle.std.proofs.Common.{◌≡◌, ℕ, ◌<◌, ◌≤◌, Bool, true, List, length, subst, Ok}
-use Rattle.hba_driver.specs.HostTurns.{Does, Host, Ticked, sight_in}
-use Rattle.hba_driver.specs.Steady.{IsFlushTick}
-use Rattle.hba_driver.specs.Ticks.{done_ended}
-use Rattle.hba_driver.specs.Between.{Runs}
+use Rattle.hba_driver.specs.{HostTurns.{Does, Host, Ticked, sight_in}, Steady.IsFlushTick, Ticks.done_ended, Between.Runs}
 use Rattle.hba_driver.proofs.Door.{not_below, runs_turn}
 use Rattle.disk_recovery.proofs.Door.{opened_stays}
-use Rattle.pm_world.specs.Attached.{Attached}
-use Rattle.pm_world.specs.Places.{Places, is_config, new_world}
-use Rattle.pm_world.specs.Rules.{Rule, Run}
-use Rattle.pm_world.specs.declared.step.Answer.{Answer}
+use Rattle.pm_world.specs.{Attached.Attached, Places.{Places, is_config, new_world}, Rules.{Rule, Run}, declared.step.Answer.Answer}
+use Rattle.pm_world.specs.declared.{step.Config.Config, step.Step.Step}
 use Rattle.pm_world.specs.declared.step.Answer.TheVariants as answer
-use Rattle.pm_world.specs.declared.step.Config.{Config}
-use Rattle.pm_world.specs.declared.step.Step.{Step}
 use Rattle.pm_world.specs.declared.step.Step.TheVariants as step
-use Rattle.pm_world.proofs.meant.ChangeLemmas.{tick_step}
-use Rattle.pm_world.proofs.honest.FlushLemmas.{rests_at_flush}
-use Rattle.pm_world.proofs.honest.EndsSteps.{IsUnflushed}
+use Rattle.pm_world.proofs.{meant.ChangeLemmas.tick_step, honest.{FlushLemmas.rests_at_flush, EndsSteps.IsUnflushed}}
 use Rattle.pm_world.proofs.honest.LiveLemmas.{IsLive, never_flushed}
 
 -- the port is open when the driver flushes a device

@@ -1,35 +1,23 @@
 -- For `disks_are_honest`. A port that is open to a device passes FISes: communication is established there, over each
 -- run from a new world.
-use Rattle.std.proofs.Common.{◌≡◌, ℕ, zero, suc, ◌*◌, ◌^◌, ◌<◌, ◌==◌, ◌&&◌, Bool, true, false, List, length, replicate, refl, sym, ap}
-use Rattle.std.proofs.Common.{subst, ◌∙◌, inl, inr}
-use Rattle.std.proofs.Common.{get_or, set, bit_and, bit_or, Option, Some, None, Ok, [], ◌∷◌}
+use Rattle.std.proofs.Common.{◌≡◌, ℕ, zero, suc, ◌*◌, ◌^◌, ◌<◌, ◌==◌, ◌&&◌, Bool, true, false, List, length, replicate, refl, sym, ap, subst, ◌∙◌}
+use Rattle.std.proofs.Common.{inl, inr, get_or, set, bit_and, bit_or, Option, Some, None, Ok, [], ◌∷◌}
 use Rattle.std.specs.Prelude.{◌⊎◌, if◌then◌else◌, is_some, nat_lt}
-use Rattle.std.proofs.lemmas.Bool.{and_from, eq-eqb, lt-ltb, true≢false}
-use Rattle.std.proofs.lemmas.Nat.Bits.{and_pow}
-use Rattle.pm_registers.specs.Bits.{without}
-use Rattle.pm_registers.specs.declared.port.PortRegisters.{PortRegisters}
+use Rattle.std.proofs.lemmas.{Bool.{and_from, eq-eqb, lt-ltb, true≢false}, Nat.Bits.and_pow}
+use Rattle.pm_registers.specs.{Bits.without, declared.port.PortRegisters.PortRegisters}
 use Rattle.pm_registers.specs.Port.{bit_n, bit_x, controlled, det, inserted, is_open, met, opened, opening_port, passes, port_written, removed}
-use Rattle.pm_registers.specs.RegisterMap as map
 use Rattle.pm_registers.specs.RegisterMap.{RegisterMap, after_write, control_port, control_written, forwards, register_at, settled, summary}
 use Rattle.pm_registers.specs.RegisterMap.{with_port as with_registers, written}
+use Rattle.pm_registers.specs.RegisterMap as map
 use Rattle.pm_registers.proofs.Door.{either}
-use Rattle.pm_control.specs.Answers.{registers_after_request}
-use Rattle.pm_control.specs.Requests.{request_in}
-use Rattle.pm_control.specs.declared.request.Request.{Request}
-use Rattle.pm_control.specs.declared.request.Request.TheVariants.{Read, Write, Unknown}
+use Rattle.pm_control.specs.{Answers.registers_after_request, Requests.request_in, declared.request.Request.{Request, TheVariants.Write}}
 use Rattle.multiplier.specs.State.{PmState, passes_to, port_at}
-use Rattle.pm_world.specs.Attached.{Attached}
-use Rattle.pm_world.specs.Places.{Places, is_config, new_world}
-use Rattle.pm_world.specs.Rules.{Rule, Run}
-use Rattle.pm_world.specs.declared.step.Config.{Config}
-use Rattle.pm_world.specs.declared.step.Step.{Step}
-use Rattle.pm_world.specs.declared.step.Step.TheVariants as step
+use Rattle.pm_world.specs.{Attached.Attached, Places.{Places, is_config, new_world}, Rules.{Rule, Run}, declared.{step.Config.Config, step.Step.Step}}
 use Rattle.pm_world.specs.declared.step.Answer.{Answer}
+use Rattle.pm_world.specs.declared.step.Step.TheVariants as step
 use Rattle.pm_world.specs.declared.step.Answer.TheVariants as answer
 use Rattle.pm_world.proofs.meant.ChangeLemmas.{Change, Falls, Hears, IsBank, Replies, Rises, Stays, Takes, Turns, plain_change, tick_step}
-use Rattle.pm_world.proofs.cleared.Cleared.{set_keeps, write_keeps}
-use Rattle.pm_world.proofs.meant.IdentifiedLemmas.{push_step}
-use Rattle.pm_world.proofs.honest.LiveLemmas.{IsLive, IsOpenTo}
+use Rattle.pm_world.proofs.{cleared.Cleared.{set_keeps, write_keeps}, meant.IdentifiedLemmas.push_step, honest.LiveLemmas.{IsLive, IsOpenTo}}
 use Rattle.pm_world.proofs.steps.Orderly.{as_many}
 
 -- ## The registers of a port
@@ -108,13 +96,10 @@ same_ports m port register value =
     refl) refl
 
 request_meets : (n : ℕ) (m : RegisterMap) (request : Option Request) → MeetsAt n m → MeetsAt n (registers_after_request m request)
-request_meets n m None at = at
-request_meets n m (Some (Read a)) at = at
 request_meets n m (Some (Write a value)) at = record {
   ports = subst (λ (k : ℕ). n < k) (sym (same_ports m a.port a.register value)) at.ports;
   meets = write_keeps Meets m n a.port a.register value (λ here was. written_meets (map.port_at m a.port) a.register value was) at.meets;
 }
-request_meets n m (Some Unknown) at = at
 request_meets n m other at = at
 
 set_meets : (n k : ℕ) (m new : RegisterMap) (q : PortRegisters) → new.bank ≡ set m.bank k q → Meets q → Meets (map.port_at m n)

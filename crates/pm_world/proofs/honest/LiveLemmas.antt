@@ -1,51 +1,31 @@
 -- For `disks_are_honest`. A port that passed a FIS of its device stays open to the device until it is unplugged.
 -- Meanwhile the host does not flush the device.
-use Rattle.std.proofs.Common.{◌≡◌, ◌≢◌, ◌==◌, ℕ, ◌+◌, ◌%◌, ◌<◌, min, Bool, true, false, List, [], ◌∷◌, ◌++◌, length, refl, sym, ap, subst, ◌∙◌, inl, inr, get_or, set, bit_and}
-use Rattle.std.proofs.Common.{Option, Some, None, Ok, arith}
-use Rattle.std.specs.Int.{bit_at}
-use Rattle.std.specs.Prelude.{◌⊎◌, if◌then◌else◌, is_none, slice_get, MatchBool, MatchOption}
-use Rattle.std.proofs.lemmas.Bool.{cases_eq, eqb-true, eq-eqb, true≢false}
-use Rattle.std.proofs.lemmas.Nat.Bits.{bit_at-lt, bit_at_and, bit_at_xor}
-use Rattle.std.proofs.lemmas.Option.{same_Some}
+use Rattle.std.proofs.Common.{◌≡◌, ◌≢◌, ◌==◌, ℕ, ◌+◌, ◌%◌, ◌<◌, min, Bool, true, false, List, [], ◌∷◌, ◌++◌, length, refl, sym, ap, subst, ◌∙◌, inl}
+use Rattle.std.proofs.Common.{inr, get_or, set, bit_and, Option, Some, None, Ok, arith}
+use Rattle.std.specs.{Int.bit_at, Prelude.{◌⊎◌, if◌then◌else◌, is_none, slice_get, MatchBool, MatchOption}}
+use Rattle.std.proofs.lemmas.{Bool.{cases_eq, eqb-true, eq-eqb, true≢false}, Nat.Bits.{bit_at-lt, bit_at_and, bit_at_xor}, Option.same_Some}
 use Rattle.fis_view.specs.Frames.{Stamped}
-use Rattle.pm_registers.specs.Bits.{without}
-use Rattle.pm_registers.specs.declared.port.PortRegisters.{PortRegisters}
-use Rattle.pm_registers.specs.Port.{controlled, inserted, is_open, opened, opening_port, port_written, removed}
+use Rattle.pm_registers.specs.{Bits.without, declared.port.PortRegisters.PortRegisters}
+use Rattle.pm_registers.specs.{Port.{controlled, inserted, is_open, opened, opening_port, port_written, removed}, RegisterMap.RegisterMap}
 use Rattle.pm_registers.specs.RegisterMap as map
-use Rattle.pm_registers.specs.RegisterMap.{RegisterMap}
-use Rattle.pm_control.specs.Answers.{registers_after_request}
-use Rattle.pm_control.specs.Requests.{request_in}
-use Rattle.pm_control.specs.declared.request.Request.{Request}
-use Rattle.pm_control.specs.declared.request.Request.TheVariants.{Read, Write, Unknown}
+use Rattle.pm_control.specs.{Answers.registers_after_request, Requests.request_in, declared.request.Request.{Request, TheVariants.Write}}
 use Rattle.pm_ports.specs.Port.{came_refusal, gone_refusal}
 use Rattle.multiplier.specs.Arbiter.{control_port}
 use Rattle.multiplier.specs.Rules.{FromHostRule, ToControl, ToDevice, ToNobody, ToPort, with_device as connected, without_device}
-use Rattle.multiplier.specs.State.{PmState, passes_to, pm_port, port_at}
-use Rattle.multiplier.specs.declared.multiplier.Passed.{Passed}
-use Rattle.multiplier.specs.declared.multiplier.Passed.TheVariants as passed
+use Rattle.multiplier.specs.{State.{PmState, passes_to, pm_port, port_at}, declared.multiplier.Passed.Passed}
 use Rattle.multiplier.specs.Between.{Answer as Answers, FromPort, Gives, Notice}
+use Rattle.multiplier.specs.declared.multiplier.Passed.TheVariants as passed
 use Rattle.multiplier.proofs.Door.{gives}
-use Rattle.pm_world.specs.Downward.{times}
-use Rattle.pm_world.specs.Resting.{IsAtRest}
-use Rattle.pm_world.specs.Links.{changed_by, is_recorded, on_presence}
-use Rattle.pm_world.specs.Places.{IsOrderly, Place, Places, Queue}
-use Rattle.pm_world.specs.Rules.{CameRule, DiskSendRule, DiskTakeRule, GoneRule, InjectRule, OnDevice, Outcome, PmDownRule, PmFromDeviceRule, PmFromHostRule, PmPresenceRule, PmUpRule, Rule, recorded}
-use Rattle.pm_world.specs.PathEnds.{AreBefore, IsUnremoved, unplugs}
-use Rattle.pm_world.specs.declared.link.Change.{Change}
+use Rattle.pm_world.specs.{Downward.times, Resting.IsAtRest, Links.{changed_by, is_recorded, on_presence}, Places.{IsOrderly, Place, Places, Queue}}
+use Rattle.pm_world.specs.Rules.{CameRule, DiskSendRule, DiskTakeRule, GoneRule, InjectRule, OnDevice, Outcome, PmDownRule, PmFromDeviceRule}
+use Rattle.pm_world.specs.{Rules.{PmFromHostRule, PmPresenceRule, PmUpRule, Rule, recorded}, PathEnds.{AreBefore, IsUnremoved, unplugs}}
+use Rattle.pm_world.specs.declared.{link.Change.Change, step.Step.Step, step.Answer.Answer}
 use Rattle.pm_world.specs.declared.link.Change.TheVariants as change
-use Rattle.pm_world.specs.declared.step.Step.{Step}
 use Rattle.pm_world.specs.declared.step.Step.TheVariants as step
-use Rattle.pm_world.specs.declared.step.Answer.{Answer}
 use Rattle.pm_world.specs.declared.step.Answer.TheVariants as answer
-use Rattle.pm_world.proofs.cleared.Cleared.{Told, set_keeps, write_keeps}
-use Rattle.pm_world.proofs.ports.FirmLemmas.{IsFirm, seen_at}
-use Rattle.pm_world.proofs.honest.FlushLemmas.{x_set}
-use Rattle.pm_world.proofs.paths.KeptLemmas.{GoesBefore, unremoved_after}
-use Rattle.pm_world.proofs.meant.OrderLemmas.{Knows, Only}
-use Rattle.pm_world.proofs.meant.PortLemmas.{WritesChanges}
-use Rattle.pm_world.proofs.upward.Recorded.{AreLetIn, Known, Records, all, rule_records}
-use Rattle.pm_world.proofs.paths.RunLemmas.{going}
-use Rattle.pm_world.proofs.steps.Steps.{at_both, at_device}
+use Rattle.pm_world.proofs.{cleared.Cleared.{Told, set_keeps, write_keeps}, ports.FirmLemmas.{IsFirm, seen_at}, honest.FlushLemmas.x_set}
+use Rattle.pm_world.proofs.{paths.KeptLemmas.{GoesBefore, unremoved_after}, meant.{OrderLemmas.{Knows, Only}, PortLemmas.WritesChanges}}
+use Rattle.pm_world.proofs.{upward.Recorded.{AreLetIn, Known, Records, all, rule_records}, paths.RunLemmas.going, steps.Steps.{at_both, at_device}}
 
 -- ## The registers of a port
 
@@ -85,11 +65,8 @@ abbrev pub IsOpenAt : ℕ → RegisterMap → Type 0
 IsOpenAt n m = IsOpenTo (map.port_at m n)
 
 request_open : (n : ℕ) (m : RegisterMap) (request : Option Request) → WritesChanges request → IsOpenAt n m → IsOpenAt n (registers_after_request m request)
-request_open n m None plain is = is
-request_open n m (Some (Read at)) plain is = is
 request_open n m (Some (Write at value)) plain is =
     write_keeps IsOpenTo m n at.port at.register value (λ here was. written_open (map.port_at m at.port) at.register value plain.1 was) is
-request_open n m (Some Unknown) plain is = is
 request_open n m other plain is = is
 
 bank_open : (n : ℕ) (m new : RegisterMap) → new.bank ≡ m.bank → IsOpenAt n m → IsOpenAt n new

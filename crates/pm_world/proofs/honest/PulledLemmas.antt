@@ -1,43 +1,27 @@
 -- For `disks_are_honest`. A unit that was unplugged: nothing is asked of it until its port passes a later connection.
-use Rattle.std.proofs.Common.{◌≡◌, ◌≢◌, ◌==◌, ◌&&◌, ℕ, ◌+◌, ◌<◌, ◌≤◌, Bool, true, false, List, [], ◌∷◌, ◌++◌, append_assoc, map, refl, sym, ap, subst, ◌∙◌, inl, inr}
-use Rattle.std.proofs.Common.{Option, Some, None, Ok, arith}
+use Rattle.std.proofs.Common.{◌≡◌, ◌≢◌, ◌==◌, ◌&&◌, ℕ, ◌+◌, ◌<◌, ◌≤◌, Bool, true, false, List, [], ◌∷◌, ◌++◌, append_assoc, map, refl, sym, ap, subst}
+use Rattle.std.proofs.Common.{◌∙◌, inl, inr, Option, Some, None, Ok, arith}
 use Rattle.std.specs.Prelude.{slice_get, slice_set, take, option_to_list, MatchOption, if◌then◌else◌, Result}
-use Rattle.std.proofs.lemmas.Bool.{and_parts, cases_eq, eq-eqb, eqb-true, false≢true, not-false, true≢false}
-use Rattle.std.proofs.lemmas.List.{append-nil}
-use Rattle.fis_view.specs.Frames.{Stamped}
-use Rattle.fis_view.specs.Seen.{seen}
-use Rattle.fis_view.specs.Table.{Bits, Error, field}
-use Rattle.fis_view.specs.declared.view.Fis.{Fis}
+use Rattle.std.proofs.lemmas.{Bool.{and_parts, cases_eq, eq-eqb, eqb-true, false≢true, not-false, true≢false}, List.append-nil}
+use Rattle.fis_view.specs.{Frames.Stamped, Seen.seen, Table.{Bits, Error, field}, declared.{view.Fis.Fis, view.FisFault.FisFault}}
 use Rattle.fis_view.specs.declared.view.Fis.TheVariants as view
-use Rattle.fis_view.specs.declared.view.FisFault.{FisFault}
 use Rattle.multiplier.specs.State.{falling, passes_to, port_at}
-use Rattle.disk_model.specs.declared.request.Command.{Command}
-use Rattle.disk_model.specs.Histories.{Happening, Plugged, Received, Sent}
+use Rattle.disk_model.specs.{declared.request.Command.Command, Histories.{Happening, Plugged, Received, Sent}}
 use Rattle.disk_model.specs.Ledger.{Ledger, Moving, answers, has_error, is_auto, ledger, listens, listens_up, with_auto}
 use Rattle.disk_model.proofs.Door.{ledger_push}
 use Rattle.disk_recovery.specs.Flushes.{flushes_taken}
 use Rattle.disk_recovery.proofs.Door.{flushes_more}
-use Rattle.pm_world.specs.Downward.{falling_to, on_down_link}
-use Rattle.pm_world.specs.PathEnds.{IsThere, unplugs}
-use Rattle.pm_world.specs.Places.{Place, Places, with_device}
-use Rattle.pm_world.specs.ReadBack.{IsPart}
+use Rattle.pm_world.specs.{Downward.{falling_to, on_down_link}, PathEnds.{IsThere, unplugs}, Places.{Place, Places, with_device}, ReadBack.IsPart}
 use Rattle.pm_world.specs.Rules.{CameActs, CameRule, DiskSendActs, DiskSendRule, DiskTakeActs, DiskTakeRule, GoneActs, GoneRule, InjectRule}
-use Rattle.pm_world.specs.Rules.{PmDownRule, PmFromDeviceRule, PmPresenceRule, Rule, is_for}
-use Rattle.pm_world.specs.Traffic.{sent_by}
-use Rattle.pm_world.specs.Units.{happens}
-use Rattle.pm_world.specs.declared.step.Answer.{Answer}
+use Rattle.pm_world.specs.{Rules.{PmDownRule, PmFromDeviceRule, PmPresenceRule, Rule, is_for}, Traffic.sent_by, Units.happens}
+use Rattle.pm_world.specs.declared.{step.Answer.Answer, step.Step.Step}
 use Rattle.pm_world.specs.declared.step.Answer.TheVariants as answer
-use Rattle.pm_world.specs.declared.step.Step.{Step}
 use Rattle.pm_world.specs.declared.step.Step.TheVariants as step
-use Rattle.pm_world.proofs.paths.PlaceLemmas.{KeepsPlace, keeps_down, keeps_from_device, keeps_inject, keeps_presence, keeps_send, keeps_take, same_place}
-use Rattle.pm_world.proofs.paths.RunLemmas.{if_none, if_some}
-use Rattle.pm_world.proofs.downward.DownMoves.{rule_moves_down}
-use Rattle.pm_world.proofs.ports.DownLemmas.{DownChange, Gone, Put, Quiet, down_change, falls_keep}
-use Rattle.pm_world.proofs.ports.EachLemmas.{Each, each_map, each_more}
-use Rattle.pm_world.proofs.ports.FirmLemmas.{HasCome, IsFirm, seen_at}
-use Rattle.pm_world.proofs.ports.SentLemmas.{IsSender, sender}
-use Rattle.pm_world.proofs.steps.Lists.{slice_get-set_other, slice_get-set_same, slice_set-same}
-use Rattle.pm_world.proofs.steps.Steps.{AtBoth, AtDevice, at_both, at_device}
+use Rattle.pm_world.proofs.paths.PlaceLemmas.{KeepsPlace, keeps_down, keeps_from_device, keeps_inject, keeps_presence, keeps_send, keeps_take}
+use Rattle.pm_world.proofs.{paths.{PlaceLemmas.same_place, RunLemmas.{if_none, if_some}}, downward.DownMoves.rule_moves_down}
+use Rattle.pm_world.proofs.ports.{DownLemmas.{DownChange, Gone, Put, Quiet, down_change, falls_keep}, EachLemmas.{Each, each_map, each_more}}
+use Rattle.pm_world.proofs.ports.{FirmLemmas.{HasCome, IsFirm, seen_at}, SentLemmas.{IsSender, sender}}
+use Rattle.pm_world.proofs.steps.{Lists.{slice_get-set_other, slice_get-set_same, slice_set-same}, Steps.{AtBoth, AtDevice, at_both, at_device}}
 use Rattle.pm_world.proofs.upward.Recorded.{IsLed, led_last}
 
 -- ## What a disk tells of which nothing is asked
@@ -64,7 +48,6 @@ up_calm l (Ok (view.DmaSetup f)) = by_auto (is_auto f)
     by_auto : (b : Bool) → GoesCalm (calmed l) (with_auto b (calmed l))
     by_auto true = still_calm l
     by_auto false = still_calm l
-up_calm l (Ok (view.DmaActivate f)) = still_calm l
 up_calm l (Ok (view.Payload f)) = record { outstanding = refl; moving = refl; writes = refl; reads = refl }
 up_calm l (Ok (view.SetBits f)) = by_error (has_error f)
   where

@@ -1,41 +1,25 @@
 -- For `ports_rest_at_a_flush`. From the plugging of a unit on, while nothing of its connection passes its port: what
 -- the unit sends waits there, and the unit takes nothing.
-use Rattle.std.proofs.Common.{◌≡◌, ◌≢◌, ◌==◌, ◌&&◌, ℕ, ◌<◌, Bool, true, false, List, [], ◌∷◌, ◌++◌, map, refl, sym, ap, subst, ◌∙◌, inl, inr}
-use Rattle.std.proofs.Common.{Option, Some, None, Ok, arith}
+use Rattle.std.proofs.Common.{◌≡◌, ◌≢◌, ◌==◌, ◌&&◌, ℕ, ◌<◌, Bool, true, false, List, [], ◌∷◌, ◌++◌, map, refl, sym, ap, subst, ◌∙◌, inl, inr, Option}
+use Rattle.std.proofs.Common.{Some, None, Ok, arith}
 use Rattle.std.specs.Prelude.{slice_get, take, MatchOption, if◌then◌else◌}
-use Rattle.std.proofs.lemmas.Bool.{cases_eq, eq-eqb, eqb-true, ne_eqb, true≢false}
-use Rattle.std.proofs.lemmas.Option.{same_Some}
+use Rattle.std.proofs.lemmas.{Bool.{cases_eq, eq-eqb, eqb-true, ne_eqb, true≢false}, Option.same_Some}
 use Rattle.fis_view.specs.Frames.{Stamped}
 use Rattle.hba_fbs.specs.declared.report.TakeReport.{TakeReport}
 use Rattle.disk_model.specs.Histories.{Happening, Plugged, Received, Sent}
 use Rattle.pm_registers.specs.RegisterMap.{forwards}
-use Rattle.multiplier.specs.Arbiter.{control_port}
-use Rattle.multiplier.specs.State.{falling, port_at}
-use Rattle.pm_world.specs.Cleared.{is_cleared}
-use Rattle.pm_world.specs.Downward.{falling_to, on_down_link}
-use Rattle.pm_world.specs.Units.{happens}
-use Rattle.pm_world.specs.Places.{IsOrderly, Place, Places}
-use Rattle.pm_world.specs.Rules.{Rule}
-use Rattle.pm_world.specs.Traffic.{all_marked, is_removed, sent_by, taken_by, transit}
-use Rattle.pm_world.specs.declared.step.Step.{Step}
-use Rattle.pm_world.specs.declared.step.Answer.{Answer}
+use Rattle.multiplier.specs.{Arbiter.control_port, State.{falling, port_at}}
+use Rattle.pm_world.specs.{Cleared.is_cleared, Downward.{falling_to, on_down_link}, Units.happens, Places.{IsOrderly, Place, Places}, Rules.Rule}
+use Rattle.pm_world.specs.{Traffic.{all_marked, is_removed, sent_by, taken_by, transit}, declared.{step.Step.Step, step.Answer.Answer}}
+use Rattle.pm_world.specs.{PathEnds.{IsOnly, IsThere, IsUnremoved, befalls, injects, unplugs}, DevicePaths.StaysOn}
 use Rattle.pm_world.specs.declared.step.Answer.TheVariants as answer
 use Rattle.pm_world.proofs.cleared.Cleared as cleared
-use Rattle.pm_world.proofs.cleared.Cleared.{PortGoes, forwards_none, rule_goes}
-use Rattle.pm_world.proofs.downward.DownMoves.{Lands, rule_moves_down}
-use Rattle.pm_world.proofs.steps.Lists.{all_marked-append}
-use Rattle.pm_world.proofs.upward.FrameMoves.{rule_moves}
-use Rattle.pm_world.proofs.steps.Orderly.{orderly_after}
-use Rattle.pm_world.proofs.upward.PortMarks.{AllHavePortMarks}
-use Rattle.pm_world.proofs.ports.DownLemmas.{DownChange, Gone, Put, Quiet, down_change, falls_keep}
-use Rattle.pm_world.proofs.ports.EachLemmas.{Each, each_more}
-use Rattle.pm_world.proofs.ports.KeepingLemmas.{IsTrue, passes_open, true_after}
-use Rattle.pm_world.proofs.ports.UpLemmas.{Left, Rose, Same, UpChange, up_change}
-use Rattle.pm_world.specs.PathEnds.{IsOnly, IsThere, IsUnremoved, befalls, injects, unplugs}
-use Rattle.pm_world.specs.DevicePaths.{StaysOn}
-use Rattle.pm_world.proofs.serving.FirstLemmas.{comes_risen}
-use Rattle.pm_world.proofs.paths.KeptLemmas.{stays_unremoved, unremoved}
-use Rattle.pm_world.proofs.paths.PlaceLemmas.{takes_own}
+use Rattle.pm_world.proofs.{cleared.Cleared.{PortGoes, forwards_none, rule_goes}, downward.DownMoves.{Lands, rule_moves_down}}
+use Rattle.pm_world.proofs.{steps.Lists.all_marked-append, upward.FrameMoves.rule_moves, steps.Orderly.orderly_after}
+use Rattle.pm_world.proofs.{upward.PortMarks.AllHavePortMarks, ports.DownLemmas.{DownChange, Gone, Put, Quiet, down_change, falls_keep}}
+use Rattle.pm_world.proofs.ports.{EachLemmas.{Each, each_more}, KeepingLemmas.{IsTrue, passes_open, true_after}}
+use Rattle.pm_world.proofs.{ports.UpLemmas.{Left, Rose, Same, UpChange, up_change}, serving.FirstLemmas.comes_risen}
+use Rattle.pm_world.proofs.paths.{KeptLemmas.{stays_unremoved, unremoved}, PlaceLemmas.takes_own}
 use Rattle.pm_world.proofs.paths.RunLemmas.{IsPlugged, TellsOf, if_none, if_some, tells_of, there_after}
 use Rattle.pm_world.proofs.paths.PathLemmas.{and_both, and_false, if_false, if_true, one_step, still_above}
 
@@ -213,7 +197,6 @@ module _ (n c : ℕ) (below : n < 15) (old : Places) (s : Step) (a : Answer) (ne
   waited (answer.Took port conn number bytes report) is =
       waited_nothing (ap (befalls n old) is) (none_taken n c below old s a new rule h.orderly h.true_is waits h.up) (ap (sent_by n c) is)
   waited (answer.DiskTook port false) is = disk_case port is
-  waited (answer.DiskTook port true) is = waited_nothing (ap (befalls n old) is) (ap (taken_by n c) is) (ap (sent_by n c) is)
   waited b is = waited_nothing (ap (befalls n old) is) (ap (taken_by n c) is) (ap (sent_by n c) is)
 
   pub off_after : WaitsOn n c new (happens n old s a new) rising

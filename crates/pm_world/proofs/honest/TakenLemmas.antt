@@ -1,15 +1,10 @@
 -- For `disks_are_honest`. Where a history has more FLUSHes than its first part, the disk took one since then.
 use Rattle.std.proofs.Common.{◌≡◌, ℕ, ◌+◌, ◌<◌, Bool, true, false, List, [], ◌∷◌, ◌++◌, refl, ap, ◌∙◌, arith, Ok, Result}
 use Rattle.std.proofs.lemmas.Bool.{false≢true}
-use Rattle.fis_view.specs.Seen.{seen}
-use Rattle.fis_view.specs.declared.view.Fis.{Fis}
+use Rattle.fis_view.specs.{Seen.seen, declared.{view.Fis.Fis, view.FisFault.FisFault}}
 use Rattle.fis_view.specs.declared.view.Fis.TheVariants as view
-use Rattle.fis_view.specs.declared.view.FisFault.{FisFault}
-use Rattle.disk_model.specs.declared.request.Request.{Request}
+use Rattle.disk_model.specs.{declared.request.Request.Request, Anew.IsRequest, Histories.{Happening, Received}, Requests.request_of}
 use Rattle.disk_model.specs.declared.request.Request.TheVariants as asked
-use Rattle.disk_model.specs.Anew.{IsRequest}
-use Rattle.disk_model.specs.Histories.{Happening, Plugged, Loaded, Received, Sent}
-use Rattle.disk_model.specs.Requests.{request_of}
 use Rattle.disk_recovery.specs.Flushes.{asks_flush, flushes_taken, is_flush, one_if}
 use Rattle.disk_recovery.proofs.Door.{flushes_more}
 use Rattle.pm_world.specs.HonestEnds.{TookFlush}
@@ -36,9 +31,7 @@ took_among (Received bytes ∷ rest) some = by_test (is_flush (seen bytes)) refl
     by_test true is more later =
         record { front = []; bytes = bytes; back = rest; took = refl; asks = request_by bytes (seen bytes) refl is }
     by_test false is more later = one_more (Received bytes) rest (later (omega (arith, more)))
-took_among (Sent bytes ∷ rest) some = one_more (Sent bytes) rest (took_among rest some)
-took_among (Plugged ∷ rest) some = one_more Plugged rest (took_among rest some)
-took_among (Loaded bytes ∷ rest) some = one_more (Loaded bytes) rest (took_among rest some)
+took_among (other ∷ rest) some = one_more other rest (took_among rest some)
 
 pub took_since : (part later whole : List Happening) → whole ≡ part ++ later → flushes_taken part < flushes_taken whole → TookFlush later
 took_since part later whole is more =

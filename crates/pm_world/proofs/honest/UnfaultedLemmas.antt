@@ -1,18 +1,12 @@
 -- For `disks_are_honest`. No fault of a device stands after a step in which none is heard.
-use Rattle.std.proofs.Common.{◌≡◌, ℕ, ◌<◌, List, [], ◌∷◌, drop, length, map}
-use Rattle.std.proofs.Common.{Some, None, Ok, arith}
+use Rattle.std.proofs.Common.{◌≡◌, ℕ, ◌<◌, List, [], ◌∷◌, drop, length, map, Some, None, Ok, arith}
 use Rattle.std.specs.List.{flat_map}
 use Rattle.fis_view.specs.Frames.{Stamped}
 use Rattle.hba_fbs.specs.Taking.{port_of}
-use Rattle.hba_driver.specs.Events.{IsSoundHost, taken_by}
-use Rattle.hba_driver.specs.HostTurns.{Pushed}
+use Rattle.hba_driver.specs.{Events.{IsSoundHost, taken_by}, HostTurns.Pushed}
 use Rattle.disk_recovery.specs.Between.{AreUnfaulted, IsUnfaulted}
-use Rattle.pm_world.specs.Places.{Places}
-use Rattle.pm_world.specs.Rules.{Rule}
-use Rattle.pm_world.specs.Turns.{turn_of}
-use Rattle.pm_world.specs.declared.step.Step.{Step}
+use Rattle.pm_world.specs.{Places.Places, Rules.Rule, Turns.turn_of, declared.{step.Step.Step, step.Answer.Answer}}
 use Rattle.pm_world.specs.declared.step.Step.TheVariants as step
-use Rattle.pm_world.specs.declared.step.Answer.{Answer}
 use Rattle.pm_world.specs.declared.step.Answer.TheVariants as answer
 use Rattle.pm_world.proofs.turns.HostFold.{rule_does}
 use Rattle.disk_recovery.proofs.Door.{turns_unfaulted}
@@ -30,9 +24,7 @@ step_none : (n : ℕ) (old : Places) (s : Step) (a : Answer) (new : Places) → 
 step_none n old s (answer.Took port conn number bytes report) new none = (none, tt)
 step_none n old step.HostPush answer.Idle new none = tt
 step_none n old step.HostPush answer.Pushed new none = pushes_none n (drop (length old.downward.frames) new.downward.frames)
-step_none n old s answer.Ticked new none = tt
 step_none n old (step.Submit dev request) (answer.Submitted ticket) new none = tt
-step_none n old s (answer.Polled completion) new none = tt
 step_none n old (step.Put at bytes) answer.Put new none = tt
 step_none n old s a new none = tt
 

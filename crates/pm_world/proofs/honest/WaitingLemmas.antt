@@ -3,12 +3,7 @@
 use Rattle.std.proofs.Common.{◌≡◌, ℕ, ◌<◌, false, List, [], ◌∷◌, ◌++◌, map, refl, sym, ap, ◌∙◌, Ok}
 use Rattle.std.proofs.lemmas.List.{append-nil, map-append}
 use Rattle.disk_model.specs.Histories.{Happening, Plugged, Sent}
-use Rattle.pm_world.specs.Places.{Places}
-use Rattle.pm_world.specs.Rules.{Rule}
-use Rattle.pm_world.specs.Units.{happens}
-use Rattle.pm_world.specs.PathEnds.{injects, unplugs}
-use Rattle.pm_world.specs.declared.step.Answer.{Answer}
-use Rattle.pm_world.specs.declared.step.Step.{Step}
+use Rattle.pm_world.specs.{Places.Places, Rules.Rule, Units.happens, PathEnds.{injects, unplugs}, declared.{step.Answer.Answer, step.Step.Step}}
 use Rattle.pm_world.proofs.honest.ShutLemmas.{Adds, IsShutOff, Silent, WaitsFor, WaitsOn, off_after}
 
 -- what a unit did that sent these

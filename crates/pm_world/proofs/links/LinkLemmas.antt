@@ -1,17 +1,14 @@
 -- For the field `links` of `laws`. What leaves a place of a port goes on, except what a removal drops there.
 use Rattle.std.proofs.Common.{◌≡◌, ◌≢◌, ℕ, ◌<◌, ◌≤◌, Bool, true, false, not, List, [], ◌∷◌, ◌++◌, append_assoc, Option, Some, None, refl, sym, ap, ◌∙◌, subst, map, length, get_or, arith, length-append}
 use Rattle.std.specs.Prelude.{is_none, option_to_list, if◌then◌else◌}
-use Rattle.std.proofs.lemmas.List.{append-nil, length-map, map-append}
-use Rattle.std.proofs.lemmas.List.Elements.{All-append, All-cons, All-nil}
+use Rattle.std.proofs.lemmas.{List.{append-nil, length-map, map-append}, List.Elements.{All-append, All-cons, All-nil}}
 use Rattle.fis_view.specs.Frames.{Stamped}
 use Rattle.ruled_links.specs.Links.{IsLink}
-use Rattle.pm_ports.specs.Port.{PortState, came_refusal as port_came_refusal, gone_refusal as port_gone_refusal, is_gone, left_in, only_if, with_connection, with_removal}
-use Rattle.multiplier.specs.Rules.{with_device as connected, without_device}
-use Rattle.multiplier.specs.State.{PmState, port_at}
+use Rattle.pm_ports.specs.Port.{PortState, came_refusal as port_came_refusal, gone_refusal as port_gone_refusal, is_gone, left_in, only_if}
+use Rattle.pm_ports.specs.Port.{with_connection, with_removal}
+use Rattle.multiplier.specs.{Rules.{with_device as connected, without_device}, State.{PmState, port_at}}
 use Rattle.multiplier.proofs.Door.{kept_part, other_port, this_port}
-use Rattle.pm_world.specs.Links.{GoesOnBut, without}
-use Rattle.pm_world.specs.Rules.{recorded}
-use Rattle.pm_world.specs.declared.link.Change.{Change}
+use Rattle.pm_world.specs.{Links.{GoesOnBut, without}, Rules.recorded, declared.link.Change.Change}
 use Rattle.pm_world.specs.declared.link.Change.TheVariants as change
 
 -- ---- one link

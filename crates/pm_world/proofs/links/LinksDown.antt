@@ -2,34 +2,26 @@
 -- the link to each device, and over the link from the host.
 use Rattle.std.proofs.Common.{◌≡◌, ◌≢◌, ℕ, zero, suc, ◌<◌, ◌≤◌, ◌+◌, ◌==◌, List, [], ◌∷◌, ◌++◌, Option, Some, None, Bool, true, false, if◌then◌else◌, refl, sym, ap, subst, ◌∙◌, inl, inr, length, arith, length-append}
 use Rattle.std.specs.Prelude.{slice_get, slice_set, filter, option_to_list, MatchBool, MatchOption, Ok}
-use Rattle.std.proofs.lemmas.Bool.{cases_eq, eq-eqb, ne_eqb}
-use Rattle.std.proofs.lemmas.Option.{slice_get_within}
-use Rattle.std.proofs.lemmas.List.{append-nil}
-use Rattle.std.proofs.lemmas.List.Elements.{filter-append}
+use Rattle.std.proofs.lemmas.{Bool.{cases_eq, eq-eqb, ne_eqb}, Option.slice_get_within, List.append-nil, List.Elements.filter-append}
 use Rattle.fis_view.specs.Frames.{Stamped}
 use Rattle.ruled_links.specs.Links.{IsLink}
 use Rattle.pm_ports.specs.Port.{PortState, with_down, with_up}
-use Rattle.multiplier.specs.Arbiter.{control_port}
-use Rattle.multiplier.specs.Rules.{FromDeviceRule, FromHostRule, ToControl, ToDevice, ToNobody, ToPort}
-use Rattle.multiplier.specs.State.{PmState, falling, passes_to, pm_port, port_at}
-use Rattle.multiplier.specs.declared.multiplier.Passed.{Passed}
-use Rattle.multiplier.specs.declared.multiplier.Passed.TheVariants as passed
+use Rattle.multiplier.specs.{Arbiter.control_port, Rules.{FromDeviceRule, FromHostRule, ToControl, ToDevice, ToNobody, ToPort}}
+use Rattle.multiplier.specs.{State.{PmState, falling, passes_to, pm_port, port_at}, declared.multiplier.Passed.Passed}
 use Rattle.multiplier.specs.Between.{Answer as Answers, FromPort, Gives, Notice, Ports, at}
-use Rattle.multiplier.proofs.Door.{gives, has_down, kept_part}
-use Rattle.multiplier.proofs.Door.{other_port, this_port}
-use Rattle.hba_driver.specs.HostTurns.{Host}
-use Rattle.hba_driver.specs.declared.request.Request.{Request}
+use Rattle.multiplier.specs.declared.multiplier.Passed.TheVariants as passed
+use Rattle.multiplier.proofs.Door.{gives, has_down, kept_part, other_port, this_port}
+use Rattle.hba_driver.specs.{HostTurns.Host, declared.request.Request.Request}
 use Rattle.pm_world.specs.Downward.{is_down_to, is_passed, is_pushed, is_taken_at, on_down_link, times}
 use Rattle.pm_world.specs.Links.{HostPassesDown, PortPassesDown, held_down, is_down}
 use Rattle.pm_world.specs.Places.{IsOrderly, Place, Places, Queue, pushed, with_device, with_downward, with_host, with_multiplier}
-use Rattle.pm_world.specs.Rules.{CameActs, CameRule, DiskSendActs, DiskSendRule, DiskTakeActs, DiskTakeRule, GoneActs, GoneRule, HostPushRule, HostTakeRule, InjectActs, InjectRule, PmDownRule, PmFromDeviceRule, PmFromHostRule, PmPresenceRule, PmUpRule, PollRule, PutRule, Rule, SubmitRule, TickRule, offered}
-use Rattle.pm_world.specs.declared.step.Step.{Step}
+use Rattle.pm_world.specs.Rules.{CameActs, CameRule, DiskSendActs, DiskSendRule, DiskTakeActs, DiskTakeRule, GoneActs, GoneRule, HostPushRule}
+use Rattle.pm_world.specs.Rules.{HostTakeRule, InjectActs, InjectRule, PmDownRule, PmFromDeviceRule, PmFromHostRule, PmPresenceRule, PmUpRule}
+use Rattle.pm_world.specs.{Rules.{PollRule, PutRule, Rule, SubmitRule, TickRule, offered}, declared.{step.Step.Step, step.Answer.Answer}}
 use Rattle.pm_world.specs.declared.step.Step.TheVariants as step
-use Rattle.pm_world.specs.declared.step.Answer.{Answer}
 use Rattle.pm_world.specs.declared.step.Answer.TheVariants as answer
-use Rattle.pm_world.proofs.links.LinkLemmas.{RecordedAt, StillGone, chained, goes_on-append, nothing_left, one_goes_on, option_fits, recorded_at, still}
-use Rattle.pm_world.proofs.steps.Lists.{slice_get-set_same, slice_get-set_other}
-use Rattle.pm_world.proofs.steps.Steps.{at_both, at_device}
+use Rattle.pm_world.proofs.links.LinkLemmas.{RecordedAt, StillGone, chained, goes_on-append, nothing_left, one_goes_on, option_fits, recorded_at}
+use Rattle.pm_world.proofs.{links.LinkLemmas.still, steps.{Lists.{slice_get-set_same, slice_get-set_other}, Steps.{at_both, at_device}}}
 
 -- ---- how many answers say so
 

@@ -1,41 +1,25 @@
 -- For `ordered_is_not_stale`. Commands of requests go out only if IDENTIFY data were accepted since the last order to
 -- clear their port. This holds over a run of a world.
-use Rattle.std.proofs.Common.{◌≡◌, ℕ, ◌<◌, ◌==◌, ◌&&◌, ◌||◌, Bool, true, false, List, [], ◌∷◌, length, drop, map}
-use Rattle.std.proofs.Common.{Some, Ok, refl, sym, ap, subst, ◌∙◌}
-use Rattle.std.specs.Prelude.{if◌then◌else◌, ◌%◌, slice_index}
-use Rattle.std.specs.List.{list_any}
+use Rattle.std.proofs.Common.{◌≡◌, ℕ, ◌<◌, ◌==◌, ◌&&◌, ◌||◌, Bool, true, false, List, [], ◌∷◌, length, drop, map, Some, Ok, refl, sym, ap, subst, ◌∙◌}
+use Rattle.std.specs.{Prelude.{if◌then◌else◌, ◌%◌, slice_index}, List.list_any}
 use Rattle.std.proofs.lemmas.Bool.{and_parts, eqb-true, false≢true}
 use Rattle.fis_view.specs.Frames.{Stamped}
 use Rattle.host_memory.specs.Memory.{zeroed}
 use Rattle.hba_fbs.specs.declared.report.TakeReport.{TakeReport}
-use Rattle.hba_driver.specs.declared.mode.Mode.TheVariants.{Switching}
-use Rattle.hba_driver.specs.declared.request.Request.{Request}
-use Rattle.hba_driver.specs.HostTurns.{DoesAll, Host, HostTurn, Pushed, Ticked, Took, sight_in}
+use Rattle.hba_driver.specs.declared.{mode.Mode.TheVariants.Switching, request.Request.Request}
+use Rattle.hba_driver.specs.{HostTurns.{DoesAll, Host, HostTurn, Pushed, Ticked, Took, sight_in}, Known.{is_identity, is_request}, Laws.flushes}
+use Rattle.hba_driver.specs.{Ticks.effects, Between.IsAsking}
 use Rattle.hba_driver.specs.Known as host
-use Rattle.hba_driver.specs.Known.{is_identity, is_request}
-use Rattle.hba_driver.specs.Laws.{flushes}
-use Rattle.hba_driver.specs.Ticks.{effects}
-use Rattle.hba_driver.specs.Between.{IsAsking}
 use Rattle.hba_driver.proofs.Door.{asking_known, asking_opens, asking_turn, zeroed_right}
 use Rattle.multiplier.specs.State.{pm_port}
-use Rattle.pm_world.specs.Attached.{Attached}
-use Rattle.pm_world.specs.Downward.{pushed_by}
-use Rattle.pm_world.specs.Places.{IsOrderly, Places, is_config, new_world}
+use Rattle.pm_world.specs.{Attached.Attached, Downward.pushed_by, Places.{IsOrderly, Places, is_config, new_world}}
 use Rattle.pm_world.specs.Rules.{CameRule, DiskSendRule, DiskTakeRule, GoneRule, InjectRule, PmDownRule, PmFromDeviceRule, PmPresenceRule, Rule, Run}
-use Rattle.pm_world.specs.Turns.{turn_of}
-use Rattle.pm_world.specs.declared.step.Config.{Config}
-use Rattle.pm_world.specs.declared.step.Step.{Step}
+use Rattle.pm_world.specs.{Turns.turn_of, declared.{step.Config.Config, step.Step.Step, step.Answer.Answer}, Stale.{identified_by, orders_clear}}
 use Rattle.pm_world.specs.declared.step.Step.TheVariants as step
-use Rattle.pm_world.specs.declared.step.Answer.{Answer}
 use Rattle.pm_world.specs.declared.step.Answer.TheVariants as answer
-use Rattle.pm_world.proofs.turns.Delivery.{sized}
-use Rattle.pm_world.proofs.turns.HostFold.{rule_does}
-use Rattle.pm_world.proofs.steps.Orderly.{opening_orderly, orderly_after}
-use Rattle.pm_world.proofs.upward.PortMarks.{AllHavePortMarks, opening_marks, rule_marks}
-use Rattle.pm_world.proofs.steps.Steps.{at_both, at_device}
-use Rattle.pm_world.specs.Stale.{identified_by, orders_clear}
-use Rattle.pm_world.proofs.ports.DownLemmas.{DownChange, Gone, Put as Came, Quiet, down_change}
-use Rattle.pm_world.proofs.ports.EachLemmas.{any_one}
+use Rattle.pm_world.proofs.{turns.{Delivery.sized, HostFold.rule_does}, steps.Orderly.{opening_orderly, orderly_after}}
+use Rattle.pm_world.proofs.{upward.PortMarks.{AllHavePortMarks, opening_marks, rule_marks}, steps.Steps.{at_both, at_device}}
+use Rattle.pm_world.proofs.ports.{DownLemmas.{DownChange, Gone, Put as Came, Quiet, down_change}, EachLemmas.any_one}
 
 -- ## What is asked
 

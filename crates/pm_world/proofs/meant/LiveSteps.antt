@@ -4,31 +4,17 @@ use Rattle.std.proofs.Common.{◌≡◌, ℕ, ◌<◌, ◌==◌, Bool, true, fal
 use Rattle.std.proofs.lemmas.Bool.{and_parts, eqb-true, false≢true}
 use Rattle.std.specs.Prelude.{◌||◌}
 use Rattle.fis_view.specs.Frames.{Stamped}
-use Rattle.hba_driver.specs.declared.plan.Device.TheVariants.{Ready}
-use Rattle.hba_driver.specs.declared.request.Request.{Request}
-use Rattle.hba_driver.specs.declared.request.Ticket.{Ticket}
-use Rattle.hba_driver.specs.declared.slot.Phase.{Phase}
-use Rattle.hba_driver.specs.declared.slot.Phase.TheVariants.{Issued, Waits}
-use Rattle.hba_driver.specs.Drivers.{Entry, device_at, is_issued_in, rephased, waits_in}
-use Rattle.hba_driver.specs.HostTurns.{DoesAll, Host, HostTurn, Pushed, Submitted, Ticked}
-use Rattle.hba_driver.specs.Known.{is_request}
-use Rattle.hba_driver.specs.Queued.{IsQueuedBy, IsSomeCommand, Stood, Taken}
-use Rattle.hba_driver.specs.Submits.{new_entry}
-use Rattle.hba_driver.specs.Tended.{IsLiveAt}
-use Rattle.hba_driver.specs.Between.{IsAsking}
+use Rattle.hba_driver.specs.declared.{plan.Device.TheVariants.Ready, request.Request.Request, request.Ticket.Ticket}
+use Rattle.hba_driver.specs.{declared.slot.Phase.{Phase, TheVariants.{Issued, Waits}}, Drivers.{Entry, device_at, is_issued_in, rephased, waits_in}}
+use Rattle.hba_driver.specs.{HostTurns.{DoesAll, Host, HostTurn, Pushed, Submitted, Ticked}, Known.is_request}
+use Rattle.hba_driver.specs.{Queued.{IsQueuedBy, IsSomeCommand, Stood, Taken}, Submits.new_entry, Tended.IsLiveAt, Between.IsAsking}
 use Rattle.hba_driver.proofs.Door.{queued_by, request_of_slot, turn_addressed}
 use Rattle.multiplier.specs.State.{pm_port}
-use Rattle.pm_world.specs.Downward.{pushed_by}
-use Rattle.pm_world.specs.Places.{Places}
-use Rattle.pm_world.specs.Rules.{Rule}
-use Rattle.pm_world.specs.Stale.{orders_clear}
-use Rattle.pm_world.specs.Turns.{turn_of}
-use Rattle.pm_world.specs.declared.step.Step.{Step}
-use Rattle.pm_world.specs.declared.step.Step.TheVariants as step
+use Rattle.pm_world.specs.{Downward.pushed_by, Places.Places, Rules.Rule, Stale.orders_clear, Turns.turn_of, declared.step.Step.Step}
 use Rattle.pm_world.specs.declared.step.Answer.{Answer}
+use Rattle.pm_world.specs.declared.step.Step.TheVariants as step
 use Rattle.pm_world.specs.declared.step.Answer.TheVariants as answer
-use Rattle.pm_world.proofs.turns.HostFold.{rule_does}
-use Rattle.pm_world.proofs.meant.IdentifiedLemmas.{is_request_to}
+use Rattle.pm_world.proofs.{turns.HostFold.rule_does, meant.IdentifiedLemmas.is_request_to}
 
 -- ## Turns that take no request and end none
 

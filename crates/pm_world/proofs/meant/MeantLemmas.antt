@@ -1,25 +1,14 @@
 -- For `commands_are_meant`. For whom commands are meant, in each step: what was identified stays so while requests of
 -- its device wait or are issued.
-use Rattle.std.proofs.Common.{◌≡◌, ℕ, ◌<◌, ◌==◌, Bool, true, false, List, [], ◌∷◌, ◌++◌}
-use Rattle.std.proofs.Common.{Option, Some, Ok, refl, sym, ap, subst, ◌∙◌, inl, inr}
-use Rattle.std.proofs.lemmas.Bool.{and_from, cases_Bool, eq-eqb, false≢true, true≢false, true_from_ne_false}
-use Rattle.std.proofs.lemmas.Option.{same_Some}
+use Rattle.std.proofs.Common.{◌≡◌, ℕ, ◌<◌, ◌==◌, Bool, true, false, List, [], ◌∷◌, ◌++◌, Option, Some, Ok, refl, sym, ap, subst, ◌∙◌, inl, inr}
+use Rattle.std.proofs.lemmas.{Bool.{and_from, cases_Bool, eq-eqb, false≢true, true≢false, true_from_ne_false}, Option.same_Some}
 use Rattle.fis_view.specs.Frames.{Stamped}
-use Rattle.hba_driver.specs.declared.plan.Device.TheVariants.{Ready}
-use Rattle.hba_driver.specs.declared.slot.Phase.TheVariants.{Waits}
-use Rattle.hba_driver.specs.Drivers.{Entry, device_at, rephased}
-use Rattle.hba_driver.specs.Known.{is_request}
-use Rattle.hba_driver.specs.Tended.{IsLiveAt}
-use Rattle.hba_driver.specs.Between.{IsAsking, is_trusted}
+use Rattle.hba_driver.specs.{declared.{plan.Device.TheVariants.Ready, slot.Phase.TheVariants.Waits}, Drivers.{Entry, device_at, rephased}}
+use Rattle.hba_driver.specs.{Known.is_request, Tended.IsLiveAt, Between.{IsAsking, is_trusted}}
 use Rattle.multiplier.specs.State.{falling, pm_port}
-use Rattle.pm_world.specs.Cleared.{is_up_from}
-use Rattle.pm_world.specs.Downward.{falling_to, fell_to, pushed_by}
-use Rattle.pm_world.specs.Places.{Places}
-use Rattle.pm_world.specs.Rules.{Rule}
-use Rattle.pm_world.specs.Stale.{identified_by, is_clear, latest, orders_clear}
-use Rattle.pm_world.specs.declared.step.Step.{Step}
+use Rattle.pm_world.specs.{Cleared.is_up_from, Downward.{falling_to, fell_to, pushed_by}, Places.Places, Rules.Rule}
+use Rattle.pm_world.specs.{Stale.{identified_by, is_clear, latest, orders_clear}, declared.{step.Step.Step, step.Answer.Answer}}
 use Rattle.pm_world.specs.declared.step.Step.TheVariants as step
-use Rattle.pm_world.specs.declared.step.Answer.{Answer}
 use Rattle.pm_world.specs.declared.step.Answer.TheVariants as answer
 use Rattle.pm_world.proofs.ports.DownLemmas.{DownChange, Gone, IsFallen, Put, Quiet, down_change, falls_keep}
 use Rattle.pm_world.proofs.ports.EachLemmas.{Each, Nothing, each_map, each_more, some_or_none}

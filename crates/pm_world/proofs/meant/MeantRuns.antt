@@ -1,52 +1,32 @@
 -- For `commands_are_meant`. For whom the commands are meant that a device takes: over a run of a world, and from a new
 -- one.
-use Rattle.std.proofs.Common.{◌≡◌, ◌⊎◌, ℕ, ◌<◌, ◌==◌, ◌&&◌, Bool, true, false, List, [], ◌∷◌, ◌++◌, length, take}
-use Rattle.std.proofs.Common.{Option, Some, None, Ok, refl, sym, ap, subst, ◌∙◌, inl, inr}
+use Rattle.std.proofs.Common.{◌≡◌, ◌⊎◌, ℕ, ◌<◌, ◌==◌, ◌&&◌, Bool, true, false, List, [], ◌∷◌, ◌++◌, length, take, Option, Some, None, Ok, refl, sym}
+use Rattle.std.proofs.Common.{ap, subst, ◌∙◌, inl, inr}
 use Rattle.std.specs.Prelude.{option_to_list, slice_get}
 use Rattle.std.proofs.lemmas.Bool.{and_parts, cases_Bool, eqb-true, false≢true, not-false}
 use Rattle.fis_view.specs.Frames.{Stamped}
 use Rattle.host_memory.specs.Memory.{zeroed}
 use Rattle.hba_fbs.specs.declared.report.TakeReport.{TakeReport}
-use Rattle.hba_driver.specs.declared.mode.Mode.TheVariants.{Switching}
-use Rattle.hba_driver.specs.declared.request.Request.{Request}
-use Rattle.hba_driver.specs.declared.request.Ticket.{Ticket}
-use Rattle.hba_driver.specs.declared.slot.Phase.{Phase}
-use Rattle.hba_driver.specs.declared.slot.Phase.TheVariants.{Issued, Waits}
-use Rattle.hba_driver.specs.Drivers.{Entry, is_issued_in, rephased}
-use Rattle.hba_driver.specs.Known.{is_request}
-use Rattle.hba_driver.specs.Queued.{IsCommandOf}
-use Rattle.hba_driver.specs.Submits.{new_entry}
-use Rattle.hba_driver.specs.Tended.{IsLiveAt}
-use Rattle.hba_driver.specs.Between.{IsAsking}
+use Rattle.hba_driver.specs.declared.{mode.Mode.TheVariants.Switching, request.Request.Request, request.Ticket.Ticket}
+use Rattle.hba_driver.specs.{declared.slot.Phase.{Phase, TheVariants.{Issued, Waits}}, Drivers.{Entry, is_issued_in, rephased}, Known.is_request}
+use Rattle.hba_driver.specs.{Queued.IsCommandOf, Submits.new_entry, Tended.IsLiveAt, Between.IsAsking}
 use Rattle.hba_driver.proofs.Door as accept
 use Rattle.hba_driver.proofs.Door.{asking_opens, zeroed_right}
 use Rattle.multiplier.specs.State.{falling, port_at}
-use Rattle.pm_world.specs.Attached.{Attached}
-use Rattle.pm_world.specs.Cleared.{PassesNone, is_up_from}
-use Rattle.pm_world.specs.Downward.{falling_to, fell_to, on_down_link, pushed_by}
-use Rattle.pm_world.specs.Meant.{AnswersAreMeant, CommandsAreMeant, IsMeant, WasSubmittedFor}
-use Rattle.pm_world.specs.Places.{Places, is_config, new_world}
-use Rattle.pm_world.specs.Rules.{DiskTakeRule, Rule, Run}
-use Rattle.pm_world.specs.Runs.{IsStepOf, over}
-use Rattle.pm_world.specs.Stale.{InOrder, connection, identified_by, latest, orders_clear, unsent_after}
-use Rattle.pm_world.specs.declared.step.Config.{Config}
-use Rattle.pm_world.specs.declared.step.Step.{Step}
+use Rattle.pm_world.specs.{Attached.Attached, Cleared.{PassesNone, is_up_from}, Downward.{falling_to, fell_to, on_down_link, pushed_by}}
+use Rattle.pm_world.specs.{Meant.{AnswersAreMeant, CommandsAreMeant, IsMeant, WasSubmittedFor}, Places.{Places, is_config, new_world}}
+use Rattle.pm_world.specs.{Rules.{DiskTakeRule, Rule, Run}, Runs.{IsStepOf, over}}
+use Rattle.pm_world.specs.{Stale.{InOrder, connection, identified_by, latest, orders_clear, unsent_after}, declared.step.Config.Config}
+use Rattle.pm_world.specs.declared.{step.Step.Step, step.Answer.Answer}
 use Rattle.pm_world.specs.declared.step.Step.TheVariants as step
-use Rattle.pm_world.specs.declared.step.Answer.{Answer}
 use Rattle.pm_world.specs.declared.step.Answer.TheVariants as answer
-use Rattle.pm_world.proofs.turns.Delivery.{sized}
-use Rattle.pm_world.proofs.ports.EachLemmas.{Each, each_map}
+use Rattle.pm_world.proofs.{turns.Delivery.sized, ports.EachLemmas.{Each, each_map}}
 use Rattle.pm_world.proofs.meant.IdentifiedLemmas.{AllIdentified, all_identified, asking_step, is_request_to, known_after}
-use Rattle.pm_world.proofs.meant.LiveSteps.{IsOwn, TakesAt}
-use Rattle.pm_world.proofs.meant.MeantLemmas.{Fell, IsOf, Means, latest_then, means_now}
-use Rattle.pm_world.proofs.upward.FrameMoves.{rule_moves}
-use Rattle.pm_world.proofs.steps.Openings.{nothing_falls}
-use Rattle.pm_world.proofs.meant.OrderTurns.{orders_in_order}
-use Rattle.pm_world.proofs.reported.ReportedLemmas.{first_of, later_of}
+use Rattle.pm_world.proofs.{meant.{LiveSteps.{IsOwn, TakesAt}, MeantLemmas.{Fell, IsOf, Means, latest_then, means_now}}, upward.FrameMoves.rule_moves}
+use Rattle.pm_world.proofs.{steps.Openings.nothing_falls, meant.OrderTurns.orders_in_order, reported.ReportedLemmas.{first_of, later_of}}
 use Rattle.pm_world.proofs.upward.PortMarks.{AllHavePortMarks, opening_marks, rule_marks}
 use Rattle.pm_world.proofs.meant.StaleLemmas.{Holds, IsComing, IsServed, holds_now, none_coming, opening_holds, still, waits_then}
-use Rattle.pm_world.proofs.steps.Steps.{at_device}
-use Rattle.pm_world.proofs.ports.UpLemmas.{took_step}
+use Rattle.pm_world.proofs.{steps.Steps.at_device, ports.UpLemmas.took_step}
 
 -- ## Submitted in a run
 

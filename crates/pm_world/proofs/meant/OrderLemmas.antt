@@ -1,44 +1,26 @@
 -- For `none_is_stale`. What is known of slot 31 of the host, of port n and of the answers that name it, in each world
 -- on the way.
 use Rattle.std.proofs.Common.{◌≡◌, ℕ, ◌<◌, ◌==◌, ◌&&◌, Bool, true, false, List, [], ◌∷◌, ◌++◌, Option, Some, None, Ok, refl, sym, ap, subst, ◌∙◌, inl, inr}
-use Rattle.std.specs.Prelude.{if◌then◌else◌}
-use Rattle.std.specs.List.{list_any}
+use Rattle.std.specs.{Prelude.if◌then◌else◌, List.list_any, Int.bit_at}
 use Rattle.std.proofs.lemmas.Bool.{eqb-true, false≢true, true≢false, false_from_ne_true}
-use Rattle.std.specs.Int.{bit_at}
 use Rattle.fis_view.specs.Frames.{Stamped}
-use Rattle.hba_driver.specs.declared.order.Order.{Order}
-use Rattle.hba_driver.specs.declared.order.Order.TheVariants.{Scan, Clear}
-use Rattle.hba_driver.specs.Slot31.{Asks, Stage31, Waits}
-use Rattle.hba_driver.specs.Scans.{IsFound, found}
+use Rattle.hba_driver.specs.{declared.order.Order.{Order, TheVariants.{Scan, Clear}}, Slot31.{Asks, Stage31, Waits}, Scans.{IsFound, found}}
 use Rattle.hba_driver.specs.Between.{AreOfTheir, IsGoing}
-use Rattle.pm_control.specs.Answers.{IsAnswer, answer_to_request, registers_after_request}
-use Rattle.pm_control.specs.Requests.{request_in}
-use Rattle.pm_control.specs.declared.request.Request.{Request}
-use Rattle.pm_registers.specs.Port.{inserted, removed}
+use Rattle.pm_control.specs.{Answers.{IsAnswer, answer_to_request, registers_after_request}, Requests.request_in, declared.request.Request.Request}
+use Rattle.pm_registers.specs.{Port.{inserted, removed}, RegisterMap.RegisterMap}
 use Rattle.pm_registers.specs.RegisterMap as map
-use Rattle.pm_registers.specs.RegisterMap.{RegisterMap}
-use Rattle.multiplier.specs.Arbiter.{control_port}
-use Rattle.multiplier.specs.State.{control_stamp, pm_port}
-use Rattle.pm_world.specs.Cleared.{clears_x, is_cleared, is_up_from}
-use Rattle.pm_world.specs.Downward.{pushed_by}
-use Rattle.pm_world.specs.Places.{IsOrderly, Places}
-use Rattle.pm_world.specs.Rules.{Rule}
-use Rattle.pm_world.specs.declared.step.Step.{Step}
-use Rattle.pm_world.specs.declared.step.Answer.{Answer}
+use Rattle.multiplier.specs.{Arbiter.control_port, State.{control_stamp, pm_port}}
+use Rattle.pm_world.specs.{Cleared.{clears_x, is_cleared, is_up_from}, Downward.pushed_by, Places.{IsOrderly, Places}, Rules.Rule}
+use Rattle.pm_world.specs.{declared.{step.Step.Step, step.Answer.Answer}, Line.{IsLine, NoneDown, NoneUp, is_reply}}
+use Rattle.pm_world.specs.Stale.{is_clear, is_from, orders_clear, unsent_after}
 use Rattle.pm_world.specs.declared.step.Answer.TheVariants as answer
 use Rattle.pm_world.proofs.cleared.Cleared as ports
-use Rattle.pm_world.proofs.cleared.Cleared.{rule_goes, run_waits}
-use Rattle.pm_world.proofs.steps.Orderly.{orderly_after}
-use Rattle.pm_world.proofs.upward.PortMarks.{AllHavePortMarks, rule_marks}
-use Rattle.pm_world.specs.Line.{IsLine, NoneDown, NoneUp, is_reply}
-use Rattle.pm_world.specs.Stale.{is_clear, is_from, orders_clear, unsent_after}
+use Rattle.pm_world.proofs.{cleared.Cleared.{rule_goes, run_waits}, steps.Orderly.orderly_after, upward.PortMarks.{AllHavePortMarks, rule_marks}}
 use Rattle.pm_world.proofs.meant.ChangeLemmas.{Change, Falls, Hears, IsBank, IsPlain, Replies, Rises, Stays, Takes, Turns}
-use Rattle.pm_world.proofs.ports.DownLemmas.{DownChange, Gone, Put, Quiet, down_change}
-use Rattle.pm_world.proofs.ports.EachLemmas.{Each, Nothing, any_one, each_map, each_more}
+use Rattle.pm_world.proofs.ports.{DownLemmas.{DownChange, Gone, Put, Quiet, down_change}, EachLemmas.{Each, Nothing, any_one, each_map, each_more}}
 use Rattle.pm_world.proofs.ports.KeepingLemmas.{IsTrue, true_after}
 use Rattle.pm_world.proofs.meant.PortLemmas.{AreFit, WritesChanges, fit_same, fit_set, inserted_fits, removed_fits, request_fit, summary_waits}
-use Rattle.pm_world.proofs.meant.RequestLemmas.{IsScan, names, scan_names}
-use Rattle.pm_world.proofs.ports.UpLemmas.{Left, Rose, Same, UpChange, up_change}
+use Rattle.pm_world.proofs.{meant.RequestLemmas.{IsScan, names, scan_names}, ports.UpLemmas.{Left, Rose, Same, UpChange, up_change}}
 
 -- ## What is known
 

@@ -1,53 +1,35 @@
 -- For `none_is_stale`. Each step keeps what is known of slot 31, of port n and of the answers that name it. So the
 -- orders to clear a port are in order over every run.
 use Rattle.std.proofs.Common.{◌≡◌, ◌≢◌, ℕ, ◌*◌, ◌^◌, ◌<◌, ◌≤◌, ◌==◌, ◌&&◌, Bool, true, false, not, bit_and, All, List, [], ◌∷◌, ◌++◌, length, drop, Option, Some, None, Ok, refl, sym, ap, subst, ◌∙◌, inl, inr, arith}
-use Rattle.std.specs.Prelude.{if◌then◌else◌, nat_le, ◌%◌, ◌||◌}
-use Rattle.std.specs.Int.{bit_at}
-use Rattle.std.specs.List.{list_any}
-use Rattle.std.proofs.lemmas.Bool.{and_from, and_parts, cases_Bool, cases_eq, eq-eqb, eqb-true, leb-true, ne_eqb, false≢true, true≢false, false_from_ne_true, true_from_ne_false}
-use Rattle.std.proofs.lemmas.Nat.Bits.{and_pow}
+use Rattle.std.specs.{Prelude.{if◌then◌else◌, nat_le, ◌%◌, ◌||◌}, Int.bit_at, List.list_any}
+use Rattle.std.proofs.lemmas.Bool.{and_from, and_parts, cases_Bool, cases_eq, eq-eqb, eqb-true, leb-true, ne_eqb, false≢true, true≢false}
+use Rattle.std.proofs.lemmas.{Bool.{false_from_ne_true, true_from_ne_false}, Nat.Bits.and_pow}
 use Rattle.fis_view.specs.Frames.{Stamped}
 use Rattle.host_memory.specs.Memory.{zeroed}
-use Rattle.hba_fbs.specs.Taking.{port_of}
-use Rattle.hba_fbs.specs.declared.report.TakeReport.{TakeReport}
-use Rattle.hba_driver.specs.declared.mode.Mode.TheVariants.{Switching}
-use Rattle.hba_driver.specs.declared.order.Order.TheVariants.{ResetOff, Scan, Clear}
-use Rattle.hba_driver.specs.Drivers.{Driver}
-use Rattle.hba_driver.specs.HostTurns.{Does, Host, HostTurn, Polled, Pushed, Put, Submitted, Ticked, Took}
-use Rattle.hba_driver.specs.Scans.{Finds, IsFound, ScansOn, found}
-use Rattle.hba_driver.specs.Slot31.{Asks, Fails, Follows31, IsAt31, IsNext31, MayBe31, Resets, Rests, Signs, Stage31, Stands31, TakesOn, TicksOn, Waits, is_idle, is_pending, is_quiet}
+use Rattle.hba_fbs.specs.{Taking.port_of, declared.report.TakeReport.TakeReport}
+use Rattle.hba_driver.specs.{declared.{mode.Mode.TheVariants.Switching, order.Order.TheVariants.{ResetOff, Scan, Clear}}, Drivers.Driver}
+use Rattle.hba_driver.specs.{HostTurns.{Does, Host, HostTurn, Polled, Pushed, Put, Submitted, Ticked, Took}, Scans.{Finds, IsFound, ScansOn, found}}
+use Rattle.hba_driver.specs.Slot31.{Asks, Fails, Follows31, IsAt31, IsNext31, MayBe31, Resets, Rests, Signs, Stage31, Stands31, TakesOn, TicksOn}
+use Rattle.hba_driver.specs.{Slot31.{Waits, is_idle, is_pending, is_quiet}, Between.{AreOfTheir, IsGoing}}
 use Rattle.hba_driver.specs.Slot31 as slot31
-use Rattle.hba_driver.specs.Between.{AreOfTheir, IsGoing}
-use Rattle.hba_driver.proofs.Door.{found_opens, going_opens, none_issued, opens31, poll_plan}
-use Rattle.hba_driver.proofs.Door.{scans_on, turn_addressed, zeroed_right}
+use Rattle.hba_driver.proofs.Door.{found_opens, going_opens, none_issued, opens31, poll_plan, scans_on, turn_addressed, zeroed_right}
 use Rattle.pm_control.specs.Requests.{request_in}
-use Rattle.pm_registers.specs.Bits.{shares}
-use Rattle.pm_registers.specs.Port.{bit_x}
-use Rattle.multiplier.specs.Arbiter.{control_port}
-use Rattle.multiplier.specs.State.{PmState, pm_port}
-use Rattle.pm_world.specs.Attached.{Attached}
-use Rattle.pm_world.specs.Cleared.{clears_x}
-use Rattle.pm_world.specs.Downward.{pushed_by}
-use Rattle.pm_world.specs.Places.{Places, Queue, is_config, new_world}
-use Rattle.pm_world.specs.Rules.{Rule, Run}
-use Rattle.pm_world.specs.declared.step.Config.{Config}
-use Rattle.pm_world.specs.declared.step.Step.{Step}
+use Rattle.pm_registers.specs.{Bits.shares, Port.bit_x}
+use Rattle.multiplier.specs.{Arbiter.control_port, State.{PmState, pm_port}}
+use Rattle.pm_world.specs.{Attached.Attached, Cleared.clears_x, Downward.pushed_by, Places.{Places, Queue, is_config, new_world}, Rules.{Rule, Run}}
+use Rattle.pm_world.specs.{declared.{step.Config.Config, step.Step.Step, step.Answer.Answer}, Line.{AreNotices, OnLine, is_reply}}
+use Rattle.pm_world.specs.Stale.{InOrder, IsInOrder, NoneIsStale, is_clear, is_from, orders_clear, unsent_after}
 use Rattle.pm_world.specs.declared.step.Step.TheVariants as step
-use Rattle.pm_world.specs.declared.step.Answer.{Answer}
 use Rattle.pm_world.specs.declared.step.Answer.TheVariants as answer
-use Rattle.pm_world.proofs.turns.Delivery.{sized}
-use Rattle.pm_world.proofs.steps.Orderly.{opening_orderly}
-use Rattle.pm_world.proofs.upward.PortMarks.{HasPortMark, opening_marks}
-use Rattle.pm_world.specs.Line.{AreNotices, OnLine, is_reply}
+use Rattle.pm_world.proofs.{turns.Delivery.sized, steps.Orderly.opening_orderly, upward.PortMarks.{HasPortMark, opening_marks}}
 use Rattle.pm_world.proofs.control_port.LineLemmas.{awaited_reply, heard_line, may_come, pushed_line, taken_line, tick_line, turned}
 use Rattle.pm_world.proofs.control_port.ListLemmas.{line_passes, line_quiet, line_reply, line_rises, line_up, line_waits, notices_app}
-use Rattle.pm_world.specs.Stale.{InOrder, IsInOrder, NoneIsStale, is_clear, is_from, orders_clear, unsent_after}
-use Rattle.pm_world.proofs.meant.ChangeLemmas.{Change, Falls, Hears, IsOfHost, IsPlain, IsSilent, Replies, Rises, Stays, Takes, Turns, plain_change, tick_step}
-use Rattle.pm_world.proofs.ports.EachLemmas.{Nothing, any_one, each_more}
-use Rattle.pm_world.proofs.meant.IdentifiedLemmas.{push_step}
+use Rattle.pm_world.proofs.meant.ChangeLemmas.{Change, Falls, Hears, IsOfHost, IsPlain, IsSilent, Replies, Rises, Stays, Takes, Turns, plain_change}
+use Rattle.pm_world.proofs.{meant.ChangeLemmas.tick_step, ports.EachLemmas.{Nothing, any_one, each_more}, meant.IdentifiedLemmas.push_step}
 use Rattle.pm_world.proofs.ports.KeepingLemmas.{drop_own, opening_true}
-use Rattle.pm_world.proofs.meant.OrderLemmas.{Held, IsScanning, IsShut, Knows, Only, Tells, fit_now, held_on, none_clean, none_named, none_only, only_clean, only_now, order_in, orderly_now, plain_orders, plain_pushed, plain_shut, plain_unsent, risen_now, scan_now, shut_on, true_now}
-use Rattle.pm_world.proofs.meant.PortLemmas.{AreFit, WritesChanges, opening_fit}
+use Rattle.pm_world.proofs.meant.OrderLemmas.{Held, IsScanning, IsShut, Knows, Only, Tells, fit_now, held_on, none_clean, none_named, none_only}
+use Rattle.pm_world.proofs.meant.OrderLemmas.{only_clean, only_now, order_in, orderly_now, plain_orders, plain_pushed, plain_shut, plain_unsent}
+use Rattle.pm_world.proofs.meant.{OrderLemmas.{risen_now, scan_now, shut_on, true_now}, PortLemmas.{AreFit, WritesChanges, opening_fit}}
 use Rattle.pm_world.proofs.meant.RequestLemmas.{IsScan, asked, clears_order, order_asks, order_changes, order_clears}
 use Rattle.pm_world.proofs.meant.StaleLemmas.{ordered_is_not_stale}
 

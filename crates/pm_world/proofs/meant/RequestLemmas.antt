@@ -1,35 +1,21 @@
 -- For `none_is_stale`. What the commands of the driver's orders ask of the control port, and what it answers to the
 -- read of GSCR[32].
 use Rattle.std.proofs.Common.{◌≡◌, ℕ, ◌+◌, ◌*◌, ◌<◌, ◌≤◌, ◌==◌, ◌&&◌, Bool, true, false, bit_and, List, Option, Some, None, refl, sym, ap, subst, ◌∙◌, inl, inr, arith}
-use Rattle.std.specs.Prelude.{◌/◌, ◌%◌, ◌^◌, if◌then◌else◌}
-use Rattle.std.specs.Int.{bit_at, from_bool}
-use Rattle.std.proofs.lemmas.Bool.{cases_eq, eq-eqb, eqb-true, false≢true}
-use Rattle.std.proofs.lemmas.Nat.{pow_below}
-use Rattle.std.proofs.lemmas.Option.{same_Some}
-use Rattle.fis_view.specs.Built.{IsBuilt, cut, d2h_given, h2d_given}
-use Rattle.fis_view.specs.Frames.{Stamped}
-use Rattle.fis_view.specs.Seen.{seen}
-use Rattle.fis_view.specs.Table.{C, Command, Control, Count, D2h, Device, Features, H2d, Lba, field, places}
-use Rattle.fis_view.specs.declared.build.H2dFields.{H2dFields}
+use Rattle.std.specs.{Prelude.{◌/◌, ◌%◌, ◌^◌, if◌then◌else◌}, Int.{bit_at, from_bool}}
+use Rattle.std.proofs.lemmas.{Bool.{cases_eq, eq-eqb, eqb-true, false≢true}, Nat.pow_below, Option.same_Some}
+use Rattle.fis_view.specs.{Built.{IsBuilt, cut, d2h_given, h2d_given}, Frames.Stamped, Seen.seen}
+use Rattle.fis_view.specs.{Table.{C, Command, Control, Count, D2h, Device, Features, H2d, Lba, field, places}, declared.build.H2dFields.H2dFields}
 use Rattle.fis_view.specs.declared.frame.Stamp.{Stamp}
-use Rattle.hba_driver.specs.declared.order.Order.{Order}
-use Rattle.hba_driver.specs.declared.order.Order.TheVariants.{ResetOn, ResetOff, CountPorts, SetMask, Enable, Open, Scan, Clear, Detect}
-use Rattle.hba_driver.specs.Orders.{changes, control_port, error_mask, error_ports, features_on, order_fields, port_count, reads, scontrol, serror, sstatus, writes}
-use Rattle.hba_driver.specs.Sights.{answer_in}
-use Rattle.hba_driver.specs.Slot31.{IsLow}
+use Rattle.hba_driver.specs.declared.order.Order.{Order, TheVariants.{ResetOn, ResetOff, CountPorts, SetMask, Enable, Open, Scan, Clear, Detect}}
+use Rattle.hba_driver.specs.Orders.{changes, control_port, error_mask, error_ports, features_on, order_fields, port_count, reads, scontrol, serror}
+use Rattle.hba_driver.specs.{Orders.{sstatus, writes}, Sights.answer_in, Slot31.IsLow}
 use Rattle.slots.specs.Slots.{has_bit}
-use Rattle.pm_control.specs.Answers.{IsAnswer, answer_to_request, value_answer}
-use Rattle.pm_control.specs.Requests.{address_in, request_in, request_under, value_in}
-use Rattle.pm_control.specs.declared.request.Address.{Address}
-use Rattle.pm_control.specs.declared.request.Request.{Request}
-use Rattle.pm_control.specs.declared.request.Request.TheVariants.{Read, Write, Unknown, Reset, EndReset}
-use Rattle.pm_registers.specs.Bits.{shares}
-use Rattle.pm_registers.specs.Port.{bit_x}
-use Rattle.pm_registers.specs.RegisterMap.{RegisterMap, asks, summary}
+use Rattle.pm_control.specs.{Answers.{IsAnswer, answer_to_request, value_answer}, Requests.{address_in, request_in, request_under, value_in}}
+use Rattle.pm_control.specs.declared.{request.Address.Address, request.Request.{Request, TheVariants.{Read, Write, Unknown, Reset, EndReset}}}
+use Rattle.pm_registers.specs.{Bits.shares, Port.bit_x, RegisterMap.{RegisterMap, asks, summary}}
 use Rattle.pm_registers.proofs.Door.{bits_where_fits}
 use Rattle.pm_world.specs.Cleared.{clears_x}
-use Rattle.pm_world.proofs.control_port.SaidLemmas.{asks_end, asks_reset}
-use Rattle.pm_world.proofs.meant.PortLemmas.{WritesChanges}
+use Rattle.pm_world.proofs.{control_port.SaidLemmas.{asks_end, asks_reset}, meant.PortLemmas.WritesChanges}
 
 -- ## What is asked
 

@@ -2,40 +2,19 @@
 -- medium.
 use Rattle.std.proofs.Common.{◌≡◌, ◌-◌, ◌*◌, ◌+◌, ◌<◌, ℕ, true, List, [], ◌∷◌, ◌++◌, append_assoc, length, refl, ap, subst, sym, ◌∙◌, Option, Some, None}
 use Rattle.std.specs.Prelude.{IsSomeAnd, slice_get, slice_index}
-use Rattle.host_memory.specs.Memory.{client_start}
-use Rattle.host_memory.specs.Place.{place}
-use Rattle.disk_model.specs.declared.plan.DiskPlan.{DiskPlan}
-use Rattle.disk_model.specs.declared.unit.Unit.TheVariants.{Disk, Scripted}
-use Rattle.disk_model.specs.Disks.{DiskValue, Moment}
-use Rattle.disk_model.specs.Histories.{DiskOf, Happening}
-use Rattle.disk_model.specs.Runs.{DiskStandsFor, IsDiskRun, moment}
-use Rattle.hba_driver.specs.declared.mode.Mode.TheVariants.{Switching}
-use Rattle.hba_driver.specs.declared.slot.Phase.TheVariants.{Issued}
-use Rattle.hba_driver.specs.Drivers.{rephased}
-use Rattle.hba_driver.specs.Events.{shared_by}
-use Rattle.hba_driver.specs.Orders.{is_queued}
-use Rattle.hba_driver.specs.Served.{IsServed}
-use Rattle.hba_driver.specs.Submits.{new_entry}
-use Rattle.pm_world.specs.Attached.{Attached, Modelled, Own, StandsFor, plan_of}
-use Rattle.pm_world.specs.Disks.{DiskRun, EndedSince, FlushedSince, HasDisk, disk_history}
-use Rattle.pm_world.specs.HonestEnds.{StandsAt}
-use Rattle.pm_world.specs.Flushing.{FlushesFollowWrites, HasWrites}
-use Rattle.pm_world.specs.InOrder.{disk_run}
-use Rattle.pm_world.specs.Places.{Place, Places, is_config, new_world}
-use Rattle.pm_world.specs.ReadBack.{IsPart, Shows}
-use Rattle.pm_world.specs.Runs.{over}
-use Rattle.pm_world.specs.Turns.{turn_of}
-use Rattle.pm_world.specs.Units.{LivesOn, happens}
-use Rattle.pm_world.specs.declared.step.Answer.TheVariants as answer
+use Rattle.host_memory.specs.{Memory.client_start, Place.place}
+use Rattle.disk_model.specs.{declared.{plan.DiskPlan.DiskPlan, unit.Unit.TheVariants.{Disk, Scripted}}, Disks.{DiskValue, Moment}}
+use Rattle.disk_model.specs.{Histories.{DiskOf, Happening}, Runs.{DiskStandsFor, IsDiskRun, moment}}
+use Rattle.hba_driver.specs.{declared.{mode.Mode.TheVariants.Switching, slot.Phase.TheVariants.Issued}, Drivers.rephased, Events.shared_by}
+use Rattle.hba_driver.specs.{Orders.is_queued, Served.IsServed, Submits.new_entry}
+use Rattle.pm_world.specs.{Attached.{Attached, Modelled, Own, StandsFor, plan_of}, Disks.{DiskRun, EndedSince, FlushedSince, HasDisk, disk_history}}
+use Rattle.pm_world.specs.{HonestEnds.StandsAt, Flushing.{FlushesFollowWrites, HasWrites}, InOrder.disk_run}
+use Rattle.pm_world.specs.{Places.{Place, Places, is_config, new_world}, ReadBack.{IsPart, Shows}, Runs.over, Turns.turn_of, Units.{LivesOn, happens}}
 use Rattle.pm_world.specs.declared.step.Config.{Config}
+use Rattle.pm_world.specs.declared.step.Answer.TheVariants as answer
 use Rattle.pm_world.specs.declared.step.Step.TheVariants as step
-use Rattle.pm_world.proofs.turns.Delivery.{sized}
-use Rattle.pm_world.proofs.honest.HonestRuns.{disk_runs}
-use Rattle.pm_world.proofs.media.InOrderLemmas.{history_part}
-use Rattle.pm_world.proofs.media.ReadBackLemmas.{writes_stay_there}
-use Rattle.pm_world.proofs.honest.DisksLemmas.{same_plan}
-use Rattle.pm_world.proofs.media.SubmittedLemmas.{written_as_submitted}
-use Rattle.pm_world.proofs.serving.TouchedLemmas.{touched_served}
+use Rattle.pm_world.proofs.{turns.Delivery.sized, honest.HonestRuns.disk_runs, media.{InOrderLemmas.history_part, ReadBackLemmas.writes_stay_there}}
+use Rattle.pm_world.proofs.{honest.DisksLemmas.same_plan, media.SubmittedLemmas.written_as_submitted, serving.TouchedLemmas.touched_served}
 use Rattle.pm_world.proofs.units.Units.{units_lived_on}
 
 -- ## What a disk shows at the end of its run

@@ -1,39 +1,18 @@
 -- For `reads_follow_writes`. A read that is submitted in a run after the poll of a write brings the bytes of the write.
 use Rattle.std.proofs.Common.{◌≡◌, ◌-◌, ◌*◌, ◌+◌, ◌<◌, ◌≤◌, ℕ, zero, suc, true, List, [], ◌∷◌, ◌++◌, append_assoc, drop, length, length-append, refl, ap, subst, sym, ◌∙◌, arith}
-use Rattle.std.specs.Prelude.{slice_index}
-use Rattle.std.proofs.Math.Path.{path_j, subst_refl}
-use Rattle.std.specs.List.{flat_map, range_with_len}
-use Rattle.std.proofs.lemmas.Grind.{flat_map-append}
-use Rattle.host_memory.specs.Memory.{Memory, client_start}
-use Rattle.host_memory.specs.Place.{place}
-use Rattle.disk_model.specs.Histories.{Happening}
-use Rattle.disk_model.specs.Last.{NoneCovers}
-use Rattle.hba_driver.specs.declared.mode.Mode.TheVariants.{Switching}
-use Rattle.hba_driver.specs.declared.request.Completion.{Completion}
-use Rattle.hba_driver.specs.declared.request.Request.{Request}
-use Rattle.hba_driver.specs.declared.request.Ticket.{Ticket}
-use Rattle.hba_driver.specs.declared.request.Work.TheVariants.{Read}
-use Rattle.hba_driver.specs.Drivers.{Entry}
-use Rattle.hba_driver.specs.Submits.{new_entry}
-use Rattle.pm_world.specs.Attached.{Attached}
-use Rattle.pm_world.specs.Disks.{Before, DiskRun, EndedSince, Since, WasSubmitted, disk_history}
-use Rattle.pm_world.specs.InOrder.{IsLeftSince, ReadsFollowWrites, disk_run}
-use Rattle.pm_world.specs.Places.{Places, is_config, new_world}
-use Rattle.pm_world.specs.Polled.{IsPolledHonestly}
-use Rattle.pm_world.specs.ReadBack.{IsOneByte, IsPart}
-use Rattle.pm_world.specs.Rules.{Run}
-use Rattle.pm_world.specs.Runs.{IsStepOf, Telling, over, world_before}
-use Rattle.pm_world.specs.Submitted.{StandsThere}
-use Rattle.pm_world.specs.Tickets.{AreCounted, given_by}
-use Rattle.pm_world.specs.Units.{happens}
-use Rattle.pm_world.specs.declared.step.Config.{Config}
-use Rattle.pm_world.specs.declared.step.Step.{Step}
+use Rattle.std.specs.{Prelude.slice_index, List.{flat_map, range_with_len}}
+use Rattle.std.proofs.{Math.Path.{path_j, subst_refl}, lemmas.Grind.flat_map-append}
+use Rattle.host_memory.specs.{Memory.{Memory, client_start}, Place.place}
+use Rattle.disk_model.specs.{Histories.Happening, Last.NoneCovers}
+use Rattle.hba_driver.specs.declared.{mode.Mode.TheVariants.Switching, request.Completion.Completion, request.Request.Request, request.Ticket.Ticket}
+use Rattle.hba_driver.specs.{declared.request.Work.TheVariants.Read, Drivers.Entry, Submits.new_entry}
+use Rattle.pm_world.specs.{Attached.Attached, Disks.{Before, DiskRun, EndedSince, Since, WasSubmitted, disk_history}}
+use Rattle.pm_world.specs.{InOrder.{IsLeftSince, ReadsFollowWrites, disk_run}, Places.{Places, is_config, new_world}, Polled.IsPolledHonestly}
+use Rattle.pm_world.specs.{ReadBack.{IsOneByte, IsPart}, Rules.Run, Runs.{IsStepOf, Telling, over, world_before}, Submitted.StandsThere}
+use Rattle.pm_world.specs.{Tickets.{AreCounted, given_by}, Units.happens, declared.{step.Config.Config, step.Step.Step, step.Answer.Answer}}
 use Rattle.pm_world.specs.declared.step.Step.TheVariants as step
-use Rattle.pm_world.specs.declared.step.Answer.{Answer}
 use Rattle.pm_world.specs.declared.step.Answer.TheVariants as answer
-use Rattle.pm_world.proofs.upward.Law.{run_append}
-use Rattle.pm_world.proofs.media.ReadSubmittedLemmas.{reads_bring_submitted}
-use Rattle.pm_world.proofs.turns.Tickets.{keeps_tickets}
+use Rattle.pm_world.proofs.{upward.Law.run_append, media.ReadSubmittedLemmas.reads_bring_submitted, turns.Tickets.keeps_tickets}
 
 -- ## Lists
 

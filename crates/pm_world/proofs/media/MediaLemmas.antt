@@ -1,22 +1,13 @@
 -- For `media_change_by_writes`. The medium of a disk in a world is that of the writes that ended.
 use Rattle.std.proofs.Common.{◌≡◌, ℕ, List, [], ◌++◌, append_assoc, refl, ap, subst, sym, ◌∙◌, Option, Some, None}
 use Rattle.std.specs.Prelude.{IsSomeAnd, slice_get}
-use Rattle.disk_model.specs.declared.plan.DiskPlan.{DiskPlan}
-use Rattle.disk_model.specs.declared.unit.Unit.TheVariants.{Disk, Scripted}
-use Rattle.disk_model.specs.Disks.{DiskValue, Moment}
-use Rattle.disk_model.specs.Histories.{DiskOf, Happening}
-use Rattle.disk_model.specs.Ledger.{ledger, medium_with}
-use Rattle.disk_model.specs.Runs.{DiskStandsFor, IsDiskRun, moment}
+use Rattle.disk_model.specs.{declared.{plan.DiskPlan.DiskPlan, unit.Unit.TheVariants.{Disk, Scripted}}, Disks.{DiskValue, Moment}}
+use Rattle.disk_model.specs.{Histories.{DiskOf, Happening}, Ledger.{ledger, medium_with}, Runs.{DiskStandsFor, IsDiskRun, moment}}
 use Rattle.disk_model.proofs.Door.{agrees}
 use Rattle.hba_driver.specs.declared.mode.Mode.TheVariants.{Switching}
-use Rattle.pm_world.specs.Attached.{Attached, Modelled, Own, StandsFor, plan_of}
-use Rattle.pm_world.specs.Disks.{HasDisk}
-use Rattle.pm_world.specs.Media.{HasMedium, MediaAreOfWrites, ShowsWrites}
-use Rattle.pm_world.specs.Places.{Place, new_world}
-use Rattle.pm_world.specs.Runs.{over}
-use Rattle.pm_world.specs.Units.{LivesOn, happens}
-use Rattle.pm_world.proofs.honest.DisksLemmas.{part_front, same_plan}
-use Rattle.pm_world.proofs.units.Units.{units_lived_on}
+use Rattle.pm_world.specs.{Attached.{Attached, Modelled, Own, StandsFor, plan_of}, Disks.HasDisk, Media.{HasMedium, MediaAreOfWrites, ShowsWrites}}
+use Rattle.pm_world.specs.{Places.{Place, new_world}, Runs.over, Units.{LivesOn, happens}}
+use Rattle.pm_world.proofs.{honest.DisksLemmas.{part_front, same_plan}, units.Units.units_lived_on}
 
 module _ (units : List Attached) (n sectors : ℕ) (plan : DiskPlan) (past : List Happening) (disk : HasDisk units n plan sectors past) (since : List Happening) where
   abbrev history : List Happening

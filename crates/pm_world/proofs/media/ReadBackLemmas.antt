@@ -1,33 +1,20 @@
 -- For `reads_bring_writes`. A read that was submitted once a write had ended brings its bytes, and they stay on the
 -- medium.
-use Rattle.std.proofs.Common.{◌≡◌, ◌*◌, ℕ, zero, suc, ◌+◌, ◌<◌, List, [], ◌∷◌, ◌++◌, All, append_assoc, drop, length, take, refl, ap, subst, sym, ◌∙◌, arith}
-use Rattle.std.proofs.Common.{Option, Some, None}
+use Rattle.std.proofs.Common.{◌≡◌, ◌*◌, ℕ, zero, suc, ◌+◌, ◌<◌, List, [], ◌∷◌, ◌++◌, All, append_assoc, drop, length, take, refl, ap, subst, sym, ◌∙◌}
+use Rattle.std.proofs.Common.{arith, Option, Some, None}
 use Rattle.std.specs.Prelude.{IsSomeAnd, MatchOption, slice_get}
-use Rattle.disk_model.specs.declared.plan.DiskPlan.{DiskPlan}
-use Rattle.disk_model.specs.declared.unit.Unit.TheVariants.{Disk, Scripted}
-use Rattle.disk_model.specs.Disks.{DiskValue, Moment}
-use Rattle.disk_model.specs.Chunks.{sectors_at}
-use Rattle.disk_model.specs.Fronts.{IsFront}
-use Rattle.disk_model.specs.Histories.{DiskOf, Happening}
-use Rattle.disk_model.specs.Last.{LieOn, Lies, NoneCovers}
-use Rattle.disk_model.specs.Ledger.{IsSize, Written, ledger, medium_with}
-use Rattle.disk_model.specs.Runs.{DiskStandsFor, IsDiskRun, moment}
+use Rattle.disk_model.specs.{declared.{plan.DiskPlan.DiskPlan, unit.Unit.TheVariants.{Disk, Scripted}}, Disks.{DiskValue, Moment}, Chunks.sectors_at}
+use Rattle.disk_model.specs.{Fronts.IsFront, Histories.{DiskOf, Happening}, Last.{LieOn, Lies, NoneCovers}}
+use Rattle.disk_model.specs.{Ledger.{IsSize, Written, ledger, medium_with}, Runs.{DiskStandsFor, IsDiskRun, moment}}
 use Rattle.disk_model.proofs.Door.{agrees, lie_on, shows_the_last}
-use Rattle.pm_world.specs.Attached.{Attached, Modelled, Own, StandsFor, plan_of}
-use Rattle.pm_world.proofs.honest.DisksLemmas.{part_front, same_plan}
-use Rattle.hba_laws.specs.Client.{own}
-use Rattle.hba_laws.specs.History.{filled}
+use Rattle.pm_world.specs.{Attached.{Attached, Modelled, Own, StandsFor, plan_of}, Disks.disk_history}
+use Rattle.pm_world.specs.{HonestEnds.{ReadsSectors, StandsAt, WritesSectors}, Places.{Place, new_world}, Runs.over, Units.{LivesOn, happens}}
+use Rattle.pm_world.specs.ReadBack.{DisksHaveWrites, ReadsBringWrites, Shows, WritesStayThere}
+use Rattle.pm_world.proofs.{honest.DisksLemmas.{part_front, same_plan}, units.Units.{units_live_on, units_lived_on}, honest.HonestRuns.disk_runs}
+use Rattle.hba_laws.specs.{Client.own, History.filled}
 use Rattle.hba_driver.specs.declared.mode.Mode.TheVariants.{Switching}
-use Rattle.pm_world.specs.Disks.{disk_history}
-use Rattle.pm_world.specs.HonestEnds.{ReadsSectors, StandsAt, WritesSectors}
-use Rattle.pm_world.specs.Places.{Place, new_world}
-use Rattle.pm_world.specs.Runs.{over}
-use Rattle.pm_world.specs.Units.{LivesOn, happens}
 use Rattle.pm_world.specs.declared.step.Answer.TheVariants as answer
 use Rattle.pm_world.specs.declared.step.Step.TheVariants as step
-use Rattle.pm_world.proofs.units.Units.{units_live_on, units_lived_on}
-use Rattle.pm_world.specs.ReadBack.{DisksHaveWrites, ReadsBringWrites, Shows, WritesStayThere}
-use Rattle.pm_world.proofs.honest.HonestRuns.{disk_runs}
 
 -- ## Lists
 

@@ -1,26 +1,13 @@
 -- For `writes_are_as_submitted`. A read after a write brings the bytes with which the write was submitted.
 use Rattle.std.proofs.Common.{◌≡◌, ◌-◌, ◌<◌, Some}
-use Rattle.std.specs.Prelude.{slice_index}
-use Rattle.host_memory.specs.Memory.{client_start}
-use Rattle.host_memory.specs.Place.{place}
-use Rattle.hba_laws.specs.Client.{own}
-use Rattle.hba_laws.specs.History.{filled}
-use Rattle.hba_driver.specs.Events.{shared_by}
-use Rattle.hba_driver.specs.Served.{IsServed}
-use Rattle.hba_driver.specs.Submits.{new_entry}
-use Rattle.hba_driver.specs.declared.slot.Phase.TheVariants.{Issued}
-use Rattle.hba_driver.specs.Drivers.{rephased}
-use Rattle.pm_world.specs.Places.{new_world}
-use Rattle.pm_world.specs.Runs.{over}
-use Rattle.pm_world.specs.Turns.{turn_of}
-use Rattle.pm_world.specs.Disks.{EndedSince, host_turns}
-use Rattle.pm_world.specs.Polled.{IsReportedIn}
+use Rattle.std.specs.Prelude.{slice_index, length}
+use Rattle.host_memory.specs.{Memory.client_start, Place.place}
+use Rattle.hba_laws.specs.{Client.own, History.filled}
+use Rattle.hba_driver.specs.{Events.shared_by, Served.IsServed, Submits.new_entry, declared.slot.Phase.TheVariants.Issued, Drivers.rephased}
+use Rattle.pm_world.specs.{Places.new_world, Runs.over, Turns.turn_of, Disks.{EndedSince, host_turns}, Polled.IsReportedIn}
 use Rattle.pm_world.specs.Submitted.{ReadsBringSubmitted}
-use Rattle.pm_world.proofs.turns.Delivery.{sized}
-use Rattle.pm_world.proofs.media.ReadBackLemmas.{reads_bring_writes}
-use Rattle.pm_world.proofs.media.SubmittedLemmas.{sent_as_submitted}
+use Rattle.pm_world.proofs.{turns.Delivery.sized, media.{ReadBackLemmas.reads_bring_writes, SubmittedLemmas.sent_as_submitted}}
 use Rattle.pm_world.proofs.serving.TouchedLemmas.{touched_served}
-use Rattle.std.specs.Prelude.{length}
 
 pub reads_bring_submitted : ReadsBringSubmitted
 reads_bring_submitted config units fits steps answers was run c polled writes sectors plan past disk queued d same now f t read l reads r part i j one none =

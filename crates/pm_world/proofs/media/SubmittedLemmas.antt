@@ -1,59 +1,32 @@
 -- For `writes_are_as_submitted`. What went out for a write is what stood in client memory when the write was submitted.
-use Rattle.std.proofs.Common.{◌≡◌, ◌==◌, ℕ, ◌+◌, ◌*◌, ◌-◌, ◌<◌, ◌≤◌, Bool, true, false, not, List, [], ◌∷◌, ◌++◌, length, refl, sym, ap, subst, ◌∙◌, inl, inr, arith}
-use Rattle.std.proofs.Common.{Option, Some, None}
+use Rattle.std.proofs.Common.{◌≡◌, ◌==◌, ℕ, ◌+◌, ◌*◌, ◌-◌, ◌<◌, ◌≤◌, Bool, true, false, not, List, [], ◌∷◌, ◌++◌, length, refl, sym, ap, subst, ◌∙◌}
+use Rattle.std.proofs.Common.{inl, inr, arith, Option, Some, None}
 use Rattle.std.specs.Prelude.{◌⊎◌, nat_lt, slice_get, slice_index}
-use Rattle.std.proofs.lemmas.Bool.{false≢true, or_parts, true≢false}
-use Rattle.std.proofs.lemmas.Bool.Decides.{nat_tests}
-use Rattle.std.proofs.lemmas.Option.{slice_get-get_or}
-use Rattle.host_memory.specs.Memory.{client_start, is_memory_size, zeroed}
-use Rattle.host_memory.specs.Place.{LiesInClient, place, total_of}
-use Rattle.host_memory.specs.declared.table.Prd.{Prd}
+use Rattle.std.proofs.lemmas.{Bool.{false≢true, or_parts, true≢false}, Bool.Decides.nat_tests, Option.slice_get-get_or}
+use Rattle.host_memory.specs.{Memory.{client_start, is_memory_size, zeroed}, Place.{LiesInClient, place, total_of}, declared.table.Prd.Prd}
 use Rattle.host_memory.proofs.Door.{place_inside}
-use Rattle.slots.specs.Slots.{match_some}
-use Rattle.slots.specs.Work.{is_read as is_reading}
+use Rattle.slots.specs.{Slots.match_some, Work.is_read as is_reading}
 use Rattle.hba_fbs.specs.Taking.{port_of}
-use Rattle.hba_laws.specs.Client.{Touches, client, own}
-use Rattle.hba_laws.specs.Delivering.{completes_now, event_taken}
-use Rattle.hba_laws.specs.History.{History, Transfer, completes, filled, issued}
+use Rattle.hba_laws.specs.{Client.{Touches, client, own}, Delivering.{completes_now, event_taken}}
+use Rattle.hba_laws.specs.{History.{History, Transfer, completes, filled, issued}, Sent.{AreGathered, HoldsWrites, IsWriting}}
 use Rattle.hba_laws.specs.Hosts as event
-use Rattle.hba_laws.specs.Sent.{AreGathered, HoldsWrites, IsWriting}
 use Rattle.hba_laws.proofs.Door.{data_is_gathered, sent_stands_in_place}
-use Rattle.hba_driver.specs.declared.mode.Mode.TheVariants.{Switching}
-use Rattle.hba_driver.specs.declared.request.Request.{Request}
-use Rattle.hba_driver.specs.declared.request.Ticket.{Ticket}
-use Rattle.hba_driver.specs.declared.request.Work.{Work}
-use Rattle.hba_driver.specs.declared.request.Work.TheVariants.{Write}
-use Rattle.hba_driver.specs.declared.slot.Phase.TheVariants.{Waits, Issued}
-use Rattle.hba_driver.specs.Delivered.{TookDelivers}
-use Rattle.hba_driver.specs.Drivers.{Driver, Entry, entry_at, is_read, rephased}
-use Rattle.hba_driver.specs.Events.{IsSoundHost, events_over, opening_host, shared_by}
-use Rattle.hba_driver.specs.HostTurns.{Does, DoesAll, Host, HostTurn, Submitted, Took, Tooks}
-use Rattle.hba_driver.specs.Requests.{is_mismatch}
-use Rattle.hba_driver.specs.Served.{IsIssueOf, IsOrdered, IsRequest, IsServed, IsStep}
-use Rattle.hba_driver.specs.Submits.{end_of, new_entry}
-use Rattle.hba_driver.specs.Between.{Fresh, HaveGoodPrds}
-use Rattle.hba_driver.proofs.Door.{as_long, comes_from, each_run_keeps, good_since}
-use Rattle.hba_driver.proofs.Door.{hosts_stay_sound, in_slots, is_taken, issue_inside, turns_hold_writes, zeroed_right}
-use Rattle.pm_world.specs.Attached.{Attached}
-use Rattle.pm_world.specs.Places.{Places, is_config, new_world}
-use Rattle.pm_world.specs.Rules.{Run}
-use Rattle.pm_world.specs.Runs.{IsStepOf, over}
-use Rattle.pm_world.specs.Turns.{turn_of}
-use Rattle.pm_world.specs.declared.step.Config.{Config}
-use Rattle.pm_world.specs.declared.step.Step.{Step}
+use Rattle.hba_driver.specs.declared.{mode.Mode.TheVariants.Switching, request.Request.Request, request.Ticket.Ticket}
+use Rattle.hba_driver.specs.{declared.{request.Work.{Work, TheVariants.Write}, slot.Phase.TheVariants.{Waits, Issued}}, Delivered.TookDelivers}
+use Rattle.hba_driver.specs.{Drivers.{Driver, Entry, entry_at, is_read, rephased}, Events.{IsSoundHost, events_over, opening_host, shared_by}}
+use Rattle.hba_driver.specs.{HostTurns.{Does, DoesAll, Host, HostTurn, Submitted, Tooks}, Requests.is_mismatch}
+use Rattle.hba_driver.specs.{Served.{IsIssueOf, IsOrdered, IsRequest, IsServed, IsStep}, Submits.{end_of, new_entry}, Between.{Fresh, HaveGoodPrds}}
+use Rattle.hba_driver.proofs.Door.{as_long, comes_from, each_run_keeps, good_since, hosts_stay_sound, in_slots, is_taken, issue_inside}
+use Rattle.hba_driver.proofs.Door.{turns_hold_writes, zeroed_right}
+use Rattle.pm_world.specs.{Attached.Attached, Places.{Places, is_config, new_world}, Rules.Run, Runs.{IsStepOf, over}, Turns.turn_of}
+use Rattle.pm_world.specs.{declared.{step.Config.Config, step.Step.Step, step.Answer.Answer}, Disks.{EndedSince, host_turns}, Polled.IsReportedIn}
+use Rattle.pm_world.specs.{Submitted.{SentAsSubmitted, StandsThere, WrittenAsSubmitted}, HostTouches.{AreTouched, goes, opens}}
 use Rattle.pm_world.specs.declared.step.Step.TheVariants as step
-use Rattle.pm_world.specs.declared.step.Answer.{Answer}
 use Rattle.pm_world.specs.declared.step.Answer.TheVariants as answer
-use Rattle.pm_world.specs.Disks.{EndedSince, host_turns}
-use Rattle.pm_world.specs.Polled.{IsReportedIn}
-use Rattle.pm_world.specs.Submitted.{SentAsSubmitted, StandsThere, WrittenAsSubmitted}
-use Rattle.pm_world.specs.HostTouches.{AreTouched, goes, opens}
-use Rattle.pm_world.proofs.polls.ClientLemmas.{IsUnread, came_next, later, same_entry, turn_stays}
-use Rattle.pm_world.proofs.turns.Delivery.{sized}
-use Rattle.pm_world.proofs.turns.HostFold.{does-append, run_does}
-use Rattle.pm_world.proofs.reported.ReportedLemmas.{StoodIn, open_before}
-use Rattle.pm_world.proofs.serving.TookLemmas.{host_takes}
-use Rattle.pm_world.proofs.serving.TouchedLemmas.{AreKept, GoesTouched, touched_delivers, touched_does, touched_kept, touched_over, touched_served, touched_sound, zero_at}
+use Rattle.pm_world.proofs.{polls.ClientLemmas.{IsUnread, came_next, later, same_entry, turn_stays}, turns.Delivery.sized}
+use Rattle.pm_world.proofs.{turns.HostFold.{does-append, run_does}, reported.ReportedLemmas.{StoodIn, open_before}, serving.TookLemmas.host_takes}
+use Rattle.pm_world.proofs.serving.TouchedLemmas.{AreKept, GoesTouched, touched_delivers, touched_does, touched_kept, touched_over, touched_served}
+use Rattle.pm_world.proofs.serving.TouchedLemmas.{touched_sound, zero_at}
 
 -- ## What went out was gathered, and its places are held
 
@@ -98,7 +71,6 @@ too_new : (old : Driver) (t : HostTurn) (s : ℕ) (e : Entry) → e.head.ticket 
 too_new old (Submitted dev request ticket) s e given fresh =
     let is : old.given + 1 ≡ e.head.ticket = ap (λ (x : Entry). x.head.ticket) fresh.1 in
     omega (arith, is, given)
-too_new old (Took frame report) s e given fresh = fresh
 too_new old other s e given fresh = fresh
 
 given_on : (old : Host) (t : HostTurn) (new : Host) → Does old t new → IsSoundHost old → (k : ℕ) → k ≤ old.driver.given → k ≤ new.driver.given

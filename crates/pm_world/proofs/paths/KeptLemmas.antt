@@ -2,34 +2,24 @@
 use Rattle.std.proofs.Common.{◌≡◌, ◌≢◌, ℕ, suc, ◌+◌, ◌<◌, ◌≤◌, Bool, true, false, List, [], ◌∷◌, ◌++◌, map, refl, sym, ap, subst, ◌∙◌, inl, inr}
 use Rattle.std.proofs.Common.{Option, Some, Ok, zero, arith}
 use Rattle.std.specs.Prelude.{if◌then◌else◌, is_none, slice_get, slice_set}
-use Rattle.std.proofs.lemmas.Bool.{cases_eq, eq-eqb, true≢false}
-use Rattle.std.proofs.lemmas.Option.{same_Some}
+use Rattle.std.proofs.lemmas.{Bool.{cases_eq, eq-eqb, true≢false}, Option.same_Some}
 use Rattle.multiplier.proofs.Door as ports
 use Rattle.multiplier.proofs.Door.{not_up_to}
-use Rattle.multiplier.specs.Rules.{with_device as connected, without_device}
-use Rattle.multiplier.specs.State.{PmState, port_at}
+use Rattle.multiplier.specs.{Rules.{with_device as connected, without_device}, State.{PmState, port_at}}
 use Rattle.pm_ports.specs.Port.{PortState, came_refusal as port_came_refusal, gone_refusal as port_gone_refusal, with_connection, with_removal}
 use Rattle.hba_driver.specs.declared.mode.Mode.{Mode}
-use Rattle.pm_world.specs.Attached.{Attached}
-use Rattle.pm_world.specs.Links.{on_presence}
+use Rattle.pm_world.specs.{Attached.Attached, Links.on_presence}
 use Rattle.pm_world.specs.Places.{IsOrderly, Place, Places, new_world_in, opening, with_device, with_multiplier}
 use Rattle.pm_world.specs.Rules.{CameActs, CameRule, DiskSendActs, DiskSendRule, DiskTakeActs, DiskTakeRule, GoneActs, GoneRule, InjectActs}
-use Rattle.pm_world.specs.Rules.{InjectRule, PmDownRule, PmFromDeviceRule, PmPresenceRule, Rule, Run, recorded}
-use Rattle.pm_world.specs.Runs.{AfterEveryRun}
-use Rattle.pm_world.specs.Traffic.{is_removed}
-use Rattle.pm_world.specs.declared.link.Change.{Change}
+use Rattle.pm_world.specs.{Rules.{InjectRule, PmDownRule, PmFromDeviceRule, PmPresenceRule, Rule, Run, recorded}, Runs.AfterEveryRun}
+use Rattle.pm_world.specs.{Traffic.is_removed, declared.{link.Change.Change, step.Config.Config, step.Step.Step, step.Answer.Answer}}
+use Rattle.pm_world.specs.{PathEnds.{AreBefore, IsBefore, IsUnremoved}, DevicePaths.StaysOn}
 use Rattle.pm_world.specs.declared.link.Change.TheVariants as change
-use Rattle.pm_world.specs.declared.step.Config.{Config}
-use Rattle.pm_world.specs.declared.step.Step.{Step}
 use Rattle.pm_world.specs.declared.step.Step.TheVariants as step
-use Rattle.pm_world.specs.declared.step.Answer.{Answer}
 use Rattle.pm_world.specs.declared.step.Answer.TheVariants as answer
-use Rattle.pm_world.proofs.steps.Lists.{slice_get-set_other, slice_get-set_same}
-use Rattle.pm_world.proofs.steps.Openings.{port_opening}
+use Rattle.pm_world.proofs.steps.{Lists.{slice_get-set_other, slice_get-set_same}, Openings.port_opening}
 use Rattle.pm_world.proofs.steps.Orderly.{device_roomy, down_roomy, heard_roomy, known, opening_orderly, orderly_after, roomy, up_roomy}
 use Rattle.pm_world.proofs.steps.Steps.{AtBoth, AtDevice, at_both, at_device}
-use Rattle.pm_world.specs.PathEnds.{AreBefore, IsBefore, IsUnremoved}
-use Rattle.pm_world.specs.DevicePaths.{StaysOn}
 
 -- if no removal is recorded, the connection is not removed
 pub unremoved : (n c : ℕ) (now : Places) → IsUnremoved n c now → is_removed n c now ≡ false
@@ -264,7 +254,6 @@ module _ (n k : ℕ) (old new : Places) (a : Answer) (u : IsUnremoved n k old) (
   unremoved_after step.PmUp orderly rule =
       let like = up_roomy old.multiplier old.upward a new.multiplier new.upward rule.0 (roomy orderly) in
       aside (ap (λ (w : Places). w.devices) rule.1) (like.1.1 n)
-  unremoved_after step.HostTake orderly rule = quiet (ap (λ (w : Places). w.devices) rule.1) (ap (λ (w : Places). w.multiplier) rule.1)
   unremoved_after other orderly rule = quiet (ap (λ (w : Places). w.devices) rule.1) (ap (λ (w : Places). w.multiplier) rule.1)
 
 stays_goes : (n c : ℕ) (a : Answer) → StaysOn n c a → GoesBefore n c a
@@ -353,7 +342,6 @@ module _ (n : ℕ) (old new : Places) (a : Answer) (q : Place) (now : slice_get 
   was (step.PmDown m) rule =
       let d : AtBoth old m (Ok a) new (PmDownRule m) = at_both old m a new (PmDownRule m) rule in
       was_at m d.place d.after d.is (ap (λ (w : Places). w.devices) d.new_is) (keeps_down m d.place old.multiplier a d.after d.left d.rule)
-  was step.PmFromHost rule = rests step.PmFromHost rule (λ p c r. absurd r.0) (ap (λ (w : Places). w.devices) rule.1)
   was other rule = rests other rule (λ p c r. absurd r.0) (ap (λ (w : Places). w.devices) rule.1)
 
 ahead_after : (n : ℕ) (old new : Places) (s : Step) (a : Answer) → IsOrderly old → Rule old s (Ok a) new → IsAhead n old → IsAhead n new

@@ -1,22 +1,16 @@
 -- For `paths_go_on`. Which connection the unit at a port is plugged in as, in each step that does not plug it in anew.
-use Rattle.std.proofs.Common.{◌≡◌, ◌==◌, ℕ, true, false, List, ◌∷◌, sym, ap, subst, ◌∙◌, inl, inr}
-use Rattle.std.proofs.Common.{Option, Some, None, Ok}
+use Rattle.std.proofs.Common.{◌≡◌, ◌==◌, ℕ, true, false, List, ◌∷◌, sym, ap, subst, ◌∙◌, inl, inr, Option, Some, None, Ok}
 use Rattle.std.specs.Prelude.{slice_get, slice_set, MatchOption}
 use Rattle.std.proofs.lemmas.Bool.{and_parts, cases_eq, eq-eqb, eqb-true, not-false, true≢false}
 use Rattle.fis_view.specs.Frames.{Stamped}
 use Rattle.multiplier.specs.State.{PmState}
-use Rattle.pm_world.specs.Downward.{on_down_link}
-use Rattle.pm_world.specs.Places.{Place, Places, after_sending, with_device, with_multiplier}
+use Rattle.pm_world.specs.{Downward.on_down_link, Places.{Place, Places, after_sending, with_device, with_multiplier}}
 use Rattle.pm_world.specs.Rules.{CameActs, CameRule, DiskSendActs, DiskSendRule, DiskTakeActs, DiskTakeRule, GoneActs, GoneRule, InjectActs}
-use Rattle.pm_world.specs.Rules.{InjectRule, PmDownRule, PmFromDeviceRule, PmPresenceRule, Rule, is_for}
-use Rattle.pm_world.specs.declared.step.Step.{Step}
+use Rattle.pm_world.specs.{Rules.{InjectRule, PmDownRule, PmFromDeviceRule, PmPresenceRule, Rule, is_for}, declared.step.Step.Step}
+use Rattle.pm_world.specs.{declared.step.Answer.Answer, PathEnds.IsOnly, DevicePaths.StaysOn}
 use Rattle.pm_world.specs.declared.step.Step.TheVariants as step
-use Rattle.pm_world.specs.declared.step.Answer.{Answer}
 use Rattle.pm_world.specs.declared.step.Answer.TheVariants as answer
-use Rattle.pm_world.proofs.steps.Lists.{slice_get-set_other, slice_get-set_same}
-use Rattle.pm_world.proofs.steps.Steps.{AtBoth, AtDevice, at_both, at_device}
-use Rattle.pm_world.specs.PathEnds.{IsOnly}
-use Rattle.pm_world.specs.DevicePaths.{StaysOn}
+use Rattle.pm_world.proofs.steps.{Lists.{slice_get-set_other, slice_get-set_same}, Steps.{AtBoth, AtDevice, at_both, at_device}}
 
 -- ## A place that is written over
 
@@ -162,7 +156,6 @@ module _ (n c : ℕ) (old : Places) (a : Answer) (new : Places) (only : IsOnly n
   only_after (step.PmDown m) rule =
       let d : AtBoth old m (Ok a) new (PmDownRule m) = at_both old m a new (PmDownRule m) rule in
       at_two m d.place d.after d.left d.is d.new_is (keeps_down m d.place old.multiplier a d.after d.left d.rule)
-  only_after step.PmFromHost rule = subst (λ (w : Places). IsOnly n c w) (sym rule.1) only
   only_after other rule = subst (λ (w : Places). IsOnly n c w) (sym rule.1) only
 
 -- ## What the unit takes

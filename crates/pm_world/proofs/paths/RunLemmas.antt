@@ -1,26 +1,19 @@
 -- For `paths_go_on`. A disk and the host stay linked over each run of a world.
-use Rattle.std.proofs.Common.{◌≡◌, ◌≢◌, ◌==◌, eqb, ℕ, Bool, true, false, List, [], ◌∷◌, refl, sym, ap, subst, ◌∙◌, inl, inr}
-use Rattle.std.proofs.Common.{Option, Some, None, Ok}
+use Rattle.std.proofs.Common.{◌≡◌, ◌≢◌, ◌==◌, eqb, ℕ, Bool, true, false, List, [], ◌∷◌, refl, sym, ap, subst, ◌∙◌, inl, inr, Option, Some, None, Ok}
 use Rattle.std.specs.Prelude.{if◌then◌else◌, slice_get, slice_set, MatchOption}
 use Rattle.std.proofs.lemmas.Bool.{cases_eq, eq-eqb, eqb-true, true≢false}
 use Rattle.multiplier.specs.State.{PmState}
 use Rattle.disk_model.specs.Histories.{Happening, Plugged, Sent}
-use Rattle.pm_world.specs.Units.{happens}
-use Rattle.pm_world.specs.Places.{Place, Places, with_device, with_multiplier}
-use Rattle.pm_world.specs.Rules.{CameActs, CameRule, DiskSendActs, DiskSendRule, DiskTakeRule, GoneActs, GoneRule, InjectActs}
-use Rattle.pm_world.specs.Rules.{InjectRule, PmDownRule, PmFromDeviceRule, PmPresenceRule, Rule, came_refusal, largest}
-use Rattle.pm_world.specs.declared.step.Step.{Step}
+use Rattle.pm_world.specs.{Units.happens, Places.{Place, Places, with_device, with_multiplier}}
+use Rattle.pm_world.specs.Rules.{CameActs, CameRule, DiskSendActs, DiskSendRule, DiskTakeRule, GoneActs, GoneRule, InjectActs, InjectRule, PmDownRule}
+use Rattle.pm_world.specs.{Rules.{PmFromDeviceRule, PmPresenceRule, Rule, came_refusal, largest}, declared.{step.Step.Step, step.Answer.Answer}}
+use Rattle.pm_world.specs.PathEnds.{AreAmong, IsThere, IsAway, IsUnremoved, befalls, descending, injects, unplugs}
+use Rattle.pm_world.specs.DevicePaths.{GoesOnPath, PluggedIsOnPath, StaysOn, UnitPathsGoOn}
 use Rattle.pm_world.specs.declared.step.Step.TheVariants as step
 use Rattle.pm_world.specs.declared.step.StepError.TheVariants as error
-use Rattle.pm_world.specs.declared.step.Answer.{Answer}
 use Rattle.pm_world.specs.declared.step.Answer.TheVariants as answer
-use Rattle.pm_world.proofs.downward.DownMoves.{rule_moves_down}
-use Rattle.pm_world.proofs.steps.Lists.{slice_get-set_other, slice_get-set_same}
-use Rattle.pm_world.proofs.steps.Steps.{AtBoth, AtDevice, at_both, at_device}
-use Rattle.pm_world.specs.PathEnds.{AreAmong, IsThere, IsAway, IsUnremoved}
-use Rattle.pm_world.specs.PathEnds.{befalls, descending, injects, unplugs}
-use Rattle.pm_world.specs.DevicePaths.{GoesOnPath, PluggedIsOnPath, StaysOn, UnitPathsGoOn}
-use Rattle.pm_world.proofs.paths.KeptLemmas.{came_unremoved, unremoved}
+use Rattle.pm_world.proofs.{downward.DownMoves.rule_moves_down, steps.Lists.{slice_get-set_other, slice_get-set_same}}
+use Rattle.pm_world.proofs.{steps.Steps.{AtBoth, AtDevice, at_both, at_device}, paths.KeptLemmas.{came_unremoved, unremoved}}
 use Rattle.pm_world.proofs.paths.PlaceLemmas.{KeepsPlace, keeps_down, keeps_from_device, keeps_inject, keeps_presence, keeps_send, keeps_take}
 use Rattle.pm_world.proofs.paths.PathLemmas.{away_after, none_on, rests_below, paths_go_on}
 
@@ -103,7 +96,6 @@ module _ (n c : ℕ) (old : Places) (a : Answer) (new : Places) (there : IsThere
   there_after (step.PmDown m) clean rule =
       let d : AtBoth old m (Ok a) new (PmDownRule m) = at_both old m a new (PmDownRule m) rule in
       at_two m d.place d.after d.left d.is d.new_is (λ same. keeps_down m d.place old.multiplier a d.after d.left d.rule)
-  there_after step.PmFromHost clean rule = subst (λ (w : Places). IsThere n c w) (sym rule.1) there
   there_after other clean rule = subst (λ (w : Places). IsThere n c w) (sym rule.1) there
 
 -- ## What an answer tells of the unit
@@ -208,8 +200,6 @@ going n old new port conn other stays rule = absurd rule.0
 -- it tells the unit nothing
 pub gone_tells : (n : ℕ) (old : Places) (s : Step) (port conn : ℕ) (new : Places) → [] ≡ happens n old s (answer.Gone port conn) new
 gone_tells n old (step.Came m) port conn new = refl
-gone_tells n old (step.DiskTake m) port conn new = refl
-gone_tells n old (step.DiskSend m) port conn new = refl
 gone_tells n old _ port conn new = refl
 
 -- ## One step
@@ -243,15 +233,11 @@ tells_of n c old s (answer.DiskTook port true) new there stays clean rule = reco
   where
     dropped_tells : (s : Step) → [] ≡ happens n old s (answer.DiskTook port true) new
     dropped_tells (step.Came m) = refl
-    dropped_tells (step.DiskTake m) = refl
-    dropped_tells (step.DiskSend m) = refl
     dropped_tells _ = refl
 tells_of n c old s a new there stays clean rule = record { same = quiet_tells s; stays = tt }
   where
     quiet_tells : (s : Step) → [] ≡ happens n old s a new
     quiet_tells (step.Came m) = refl
-    quiet_tells (step.DiskTake m) = refl
-    quiet_tells (step.DiskSend m) = refl
     quiet_tells _ = refl
 
 -- so its path goes on

@@ -1,33 +1,26 @@
 -- For `polled_is_honest`. A request that began is not issued again: what was issued for it and is not issued any more
 -- stays so.
-use Rattle.std.proofs.Common.{◌≡◌, ◌==◌, ℕ, ◌<◌, Bool, true, false, List, [], ◌∷◌, ◌++◌, drop, refl, sym, ap, ◌∙◌, inl, inr, arith}
-use Rattle.std.proofs.Common.{Option, Some, None}
+use Rattle.std.proofs.Common.{◌≡◌, ◌==◌, ℕ, ◌<◌, Bool, true, false, List, [], ◌∷◌, ◌++◌, drop, refl, sym, ap, ◌∙◌, inl, inr, arith, Option, Some, None}
 use Rattle.std.specs.Prelude.{◌⊎◌, if◌then◌else◌, map}
 use Rattle.std.proofs.lemmas.Bool.{cases_Bool, true≢false}
 use Rattle.fis_view.specs.Seen.{seen}
-use Rattle.hba_fbs.specs.declared.hearing.Happening.{Happening}
-use Rattle.hba_fbs.specs.declared.hearing.Happening.TheVariants as happening
-use Rattle.hba_fbs.specs.declared.status.Block.{Block}
-use Rattle.hba_fbs.specs.Sending as out
-use Rattle.hba_fbs.specs.Sending.{Outgoing, outgoing}
+use Rattle.hba_fbs.specs.{declared.{hearing.Happening.Happening, status.Block.Block}, Sending.{Outgoing, outgoing}}
 use Rattle.hba_fbs.specs.Taking.{admitted, heard_now, ignores, port_of}
-use Rattle.slots.specs.declared.answer.Answered.{Answered}
+use Rattle.hba_fbs.specs.declared.hearing.Happening.TheVariants as happening
+use Rattle.hba_fbs.specs.Sending as out
+use Rattle.slots.specs.{declared.answer.Answered.Answered, Slots.{Issue, holds, issue_at, match_some}, Work.{is_dma, is_read}}
 use Rattle.slots.specs.declared.answer.Answered.TheVariants as answered
-use Rattle.slots.specs.Slots.{Issue, holds, issue_at, match_some}
-use Rattle.slots.specs.Work.{is_dma, is_read}
 use Rattle.disk_simulation.specs.Same.{SlotCommand}
 use Rattle.disk_model.specs.Ledger.{empty}
 use Rattle.hba_laws.specs.Client.{By, Touches, own}
-use Rattle.hba_laws.specs.Delivering.{begun_by, by_device, event_heard, event_of, event_of_answer, event_of_block, event_sent, event_taken, is_control_issue, touched_by_out, touches_after}
-use Rattle.hba_laws.specs.History as event
+use Rattle.hba_laws.specs.Delivering.{begun_by, by_device, event_heard, event_of, event_of_answer, event_of_block, event_sent, event_taken}
+use Rattle.hba_laws.specs.Delivering.{is_control_issue, touched_by_out, touches_after}
 use Rattle.hba_laws.specs.History.{Event, History, Transfer, completes, issued, unless}
+use Rattle.hba_laws.specs.History as event
 use Rattle.hba_laws.specs.Hosts as host_event
-use Rattle.hba_driver.specs.Drivers.{Entry, entry_at, is_issued, waits_in}
-use Rattle.hba_driver.specs.Events.{IsSoundHost, events_over, shared_by}
-use Rattle.hba_driver.specs.HostTurns.{Does, Host, HostTurn, Pushed, Submitted, Ticked, Took}
-use Rattle.hba_driver.specs.Laws.{GoesOn}
-use Rattle.hba_driver.specs.Served.{IsOrdered, IsRequest, IsServed, IsStep, RunServes}
-use Rattle.hba_driver.specs.Steady.{slot_in}
+use Rattle.hba_driver.specs.{Drivers.{Entry, entry_at, is_issued, waits_in}, Events.{IsSoundHost, events_over, shared_by}}
+use Rattle.hba_driver.specs.{HostTurns.{Does, Host, HostTurn, Pushed, Ticked, Took}, Laws.GoesOn}
+use Rattle.hba_driver.specs.{Served.{IsOrdered, IsRequest, IsServed, IsStep, RunServes}, Steady.slot_in}
 use Rattle.disk_recovery.specs.Between.{CalmEnds}
 use Rattle.hba_driver.proofs.Door.{begun_calm, begun_slot, tick_beside}
 use Rattle.disk_recovery.proofs.Door.{beside_away, calm_ends}
@@ -58,12 +51,6 @@ none_issues : (s : ℕ) (e : Event) (past : History) (t : Transfer) → IsNoIssu
 none_issues s (event.Issued slot u) past t none h = absurd none
 none_issues s (event.SentControl slot) past t none h = unless_was (slot == s) (issued s past) t h
 none_issues s event.Emptied past t none h = cc
-none_issues s (event.Sent slot) past t none h = was_by (issued s past) (λ u. completes s (event.Sent slot) past u.work) t h
-none_issues s (event.SetUp tag offset count to_host) past t none h =
-    was_by (issued s past) (λ u. completes s (event.SetUp tag offset count to_host) past u.work) t h
-none_issues s (event.PioSetUp count to_host ends) past t none h =
-    was_by (issued s past) (λ u. completes s (event.PioSetUp count to_host ends) past u.work) t h
-none_issues s (event.Carried bytes) past t none h = was_by (issued s past) (λ u. completes s (event.Carried bytes) past u.work) t h
 none_issues s other past t none h = was_by (issued s past) (λ u. completes s other past u.work) t h
 
 abbrev IsNone : Option Event → Type 0
@@ -185,5 +172,4 @@ turn_freed old (Ticked acted) new does touches sound served serves s e f low her
   | inl is ↦ tick_freed old acted new does s e f low here there on begun is touches sound served serves freed
   | inr unissued ↦ unissued_freed new _ s f serves.last low there unissued e.head.dev
 ]
-turn_freed old (Submitted dev request ticket) new does touches sound served serves s e f low here there on begun freed = freed
 turn_freed old other new does touches sound served serves s e f low here there on begun freed = freed

@@ -1,74 +1,39 @@
 -- For `polled_is_honest`. A request that is polled as Done ended honestly.
-use Rattle.std.proofs.Common.{◌≡◌, ◌==◌, ◌&&◌, ◌||◌, ℕ, ◌*◌, ◌-◌, ◌<◌, Bool, true, false, not, List, [], ◌∷◌, ◌++◌, length, refl, sym, ap, subst, ◌∙◌, inl, inr, arith}
-use Rattle.std.proofs.Common.{Option, Some, None, Ok}
-use Rattle.std.specs.Prelude.{◌⊎◌, if◌then◌else◌, nat_lt, slice_index}
-use Rattle.std.specs.List.{list_any}
-use Rattle.std.proofs.lemmas.Bool.{cases_Bool, eq-eqb, false≢true, or_parts, true≢false}
-use Rattle.std.proofs.lemmas.Bool.Decides.{nat_tests}
-use Rattle.host_memory.specs.Memory.{client_start, is_memory_size, zeroed}
-use Rattle.host_memory.specs.Place.{LiesInClient, place, total_of}
+use Rattle.std.proofs.Common.{◌≡◌, ◌==◌, ◌&&◌, ◌||◌, ℕ, ◌*◌, ◌-◌, ◌<◌, Bool, true, false, not, List, [], ◌∷◌, ◌++◌, length, refl, sym, ap, subst, ◌∙◌}
+use Rattle.std.proofs.Common.{inl, inr, arith, Option, Some, None, Ok}
+use Rattle.std.specs.{Prelude.{◌⊎◌, if◌then◌else◌, nat_lt, slice_index}, List.list_any}
+use Rattle.std.proofs.lemmas.{Bool.{cases_Bool, eq-eqb, false≢true, or_parts, true≢false}, Bool.Decides.nat_tests}
+use Rattle.host_memory.specs.{Memory.{client_start, is_memory_size, zeroed}, Place.{LiesInClient, place, total_of}, declared.table.Prd.Prd}
 use Rattle.slots.specs.Slots.{match_some}
 use Rattle.hba_fbs.specs.Taking.{port_of}
-use Rattle.disk_model.specs.declared.plan.DiskPlan.{DiskPlan}
-use Rattle.disk_model.specs.Histories.{Happening}
-use Rattle.disk_model.specs.Chunks.{sectors_at}
-use Rattle.disk_model.specs.Ledger.{medium_with}
-use Rattle.hba_laws.specs.Client.{Touches, own}
-use Rattle.hba_laws.specs.Delivering.{by_device, completes_now, event_taken}
-use Rattle.hba_laws.specs.Delivering.{touched as touched_by}
-use Rattle.hba_laws.specs.Hosts as host_event
-use Rattle.hba_laws.specs.Sound.{IsHost}
-use Rattle.hba_laws.specs.History as event
+use Rattle.disk_model.specs.{declared.plan.DiskPlan.DiskPlan, Histories.Happening, Chunks.sectors_at, Ledger.medium_with}
+use Rattle.hba_laws.specs.{Client.{Touches, own}, Delivering.{by_device, completes_now, event_taken, touched as touched_by}, Sound.IsHost}
 use Rattle.hba_laws.specs.History.{Event, History, Transfer, completes, filled, issued, unless}
-use Rattle.hba_driver.specs.declared.request.Completion.{Completion}
-use Rattle.hba_driver.specs.declared.request.Outcome.TheVariants.{Done}
-use Rattle.hba_driver.specs.declared.request.Request.{Request}
-use Rattle.hba_driver.specs.declared.request.Ticket.{Ticket}
-use Rattle.hba_driver.specs.declared.request.Work.TheVariants.{Read, Write}
-use Rattle.hba_driver.specs.declared.slot.Phase.{Phase}
-use Rattle.hba_driver.specs.declared.slot.Phase.TheVariants.{Waits, Issued, Ended}
-use Rattle.hba_driver.specs.Delivered.{IsAtItsPlace, TookDelivers}
-use Rattle.hba_driver.specs.Drivers.{Driver, Entry, entry_at, is_read, rephased}
-use Rattle.hba_driver.specs.Events.{IsSoundHost, shared_by}
-use Rattle.hba_driver.specs.HostTurns.{DoesAll, HostTurn, Polled, Pushed, Put, Submitted, Ticked, Took, Tooks, polled_in}
-use Rattle.hba_driver.specs.Laws.{AreOnce, ends_as, gives}
-use Rattle.hba_driver.specs.Orders.{is_queued, request_fields}
-use Rattle.hba_driver.specs.Served.{IsServed}
+use Rattle.hba_laws.specs.Hosts as host_event
+use Rattle.hba_laws.specs.History as event
+use Rattle.hba_driver.specs.declared.{request.Completion.Completion, request.Outcome.TheVariants.Done, request.Request.Request, request.Ticket.Ticket}
+use Rattle.hba_driver.specs.declared.{request.Work.TheVariants.{Read, Write}, slot.Phase.{Phase, TheVariants.{Waits, Issued, Ended}}}
+use Rattle.hba_driver.specs.{Delivered.{IsAtItsPlace, TookDelivers}, Drivers.{Driver, Entry, entry_at, is_read, rephased}}
+use Rattle.hba_driver.specs.{Events.{IsSoundHost, shared_by}, HostTurns.{DoesAll, HostTurn, Polled, Submitted, Took, Tooks, polled_in}}
+use Rattle.hba_driver.specs.{Laws.{AreOnce, ends_as, gives}, Orders.{is_queued, request_fields}, Served.IsServed, Requests.is_mismatch}
+use Rattle.hba_driver.specs.{Submits.new_entry, Between.{AllStand, IsOnWay, PollFacts, Stands}}
 use Rattle.hba_commands.specs.Requests.{request_of, work_of}
-use Rattle.host_memory.specs.declared.table.Prd.{Prd}
-use Rattle.hba_driver.specs.Requests.{is_mismatch}
-use Rattle.hba_driver.specs.Submits.{new_entry}
-use Rattle.hba_driver.specs.Between.{AllStand, IsOnWay, PollFacts, Stands}
 use Rattle.hba_driver.proofs.Door as accept
-use Rattle.hba_driver.proofs.Door.{as_long, each_run_keeps, in_slots, is_taken, poll_facts}
-use Rattle.hba_driver.proofs.Door.{way_opens, zeroed_right}
-use Rattle.pm_world.specs.Attached.{Attached}
-use Rattle.pm_world.specs.Places.{Places, is_config, new_world}
-use Rattle.pm_world.specs.Rules.{Rule, Run}
-use Rattle.pm_world.specs.Runs.{IsStepOf, over}
-use Rattle.pm_world.specs.Turns.{turn_of}
-use Rattle.pm_world.specs.declared.step.Config.{Config}
-use Rattle.pm_world.specs.declared.step.Step.{Step}
+use Rattle.hba_driver.proofs.Door.{as_long, each_run_keeps, in_slots, is_taken, poll_facts, way_opens, zeroed_right}
+use Rattle.pm_world.specs.{Attached.Attached, Places.{Places, is_config, new_world}, Rules.{Rule, Run}, Runs.{IsStepOf, over}, Turns.turn_of}
+use Rattle.pm_world.specs.declared.{step.Config.Config, step.Step.Step, step.Answer.Answer}
+use Rattle.pm_world.specs.Disks.{Before, DiskRun, EndedSince, FlushedSince, HasDisk, Since, TookHonestly, WasSubmitted, disk_history, host_turns}
+use Rattle.pm_world.specs.HonestEnds.{EndsHonestly, ReadsSectors, StandsAt, WritesSectors}
+use Rattle.pm_world.specs.{Polled.{HonestPolls, IsFilledAt, IsPolledHonestly, IsReportedIn}, HostTouches.{AreTouched, opens}}
 use Rattle.pm_world.specs.declared.step.Step.TheVariants as step
-use Rattle.pm_world.specs.declared.step.Answer.{Answer}
 use Rattle.pm_world.specs.declared.step.Answer.TheVariants as answer
 use Rattle.pm_world.proofs.turns.Delivery.{sized}
 use Rattle.pm_world.proofs.honest.DisksLemmas.{IsIssued, IsRequestAt, MovesAll, has_command, issued_of_done, read_moves, request_at}
-use Rattle.pm_world.proofs.turns.HostFold.{does-append, run_does}
-use Rattle.pm_world.proofs.upward.PortMarks.{AllHavePortMarks, opening_marks, run_marks}
-use Rattle.pm_world.specs.Disks.{Before, DiskRun, EndedSince, FlushedSince, HasDisk, Since, TookHonestly, WasSubmitted, disk_history, host_turns}
-use Rattle.pm_world.specs.HonestEnds.{EndsHonestly, ReadsSectors, StandsAt, WritesSectors}
-use Rattle.pm_world.specs.Polled.{HonestPolls, IsFilledAt, IsPolledHonestly, IsReportedIn}
-use Rattle.pm_world.specs.HostTouches.{AreTouched, opens}
-use Rattle.pm_world.proofs.serving.BroughtLemmas.{leaves_filled}
-use Rattle.pm_world.proofs.polls.CalmLemmas.{IsFreed}
-use Rattle.pm_world.proofs.polls.ClientLemmas.{bytes_stay, came_next}
-use Rattle.pm_world.proofs.serving.FirstLemmas.{ComesRisen, comes_risen}
-use Rattle.pm_world.proofs.honest.HonestRuns.{disks_are_honest}
-use Rattle.pm_world.proofs.upward.Law.{run_append}
+use Rattle.pm_world.proofs.{turns.HostFold.{does-append, run_does}, upward.PortMarks.{AllHavePortMarks, opening_marks, run_marks}}
+use Rattle.pm_world.proofs.{serving.BroughtLemmas.leaves_filled, polls.{CalmLemmas.IsFreed, ClientLemmas.{bytes_stay, came_next}}}
+use Rattle.pm_world.proofs.{serving.FirstLemmas.{ComesRisen, comes_risen}, honest.HonestRuns.disks_are_honest, upward.Law.run_append}
 use Rattle.pm_world.proofs.polls.OneLemmas.{KeptIn, NoneOrders, kept_over, taken_of_one}
-use Rattle.pm_world.proofs.reported.ReportedLemmas.{SubmittedIn, TookIn, is_take, renamed, stand_over, way_over}
-use Rattle.pm_world.proofs.serving.TookLemmas.{host_takes}
+use Rattle.pm_world.proofs.{reported.ReportedLemmas.{SubmittedIn, TookIn, is_take, renamed, stand_over, way_over}, serving.TookLemmas.host_takes}
 use Rattle.pm_world.proofs.serving.TouchedLemmas.{GoesTouched, touched_delivers, touched_over, touched_served, touched_sound}
 
 -- ## A ticket is polled once
@@ -82,11 +47,7 @@ last_polled : (turns : List HostTurn) (c : Completion) (ticket : ℕ) → (c.tic
     → list_any (λ y. y == ticket) (polled_in (turns ++ Polled c ∷ [])) ≡ true
 last_polled [] c ticket same = ap (λ (b : Bool). b || false) same
 last_polled (Polled d ∷ turns) c ticket same = or_right (d.ticket.0 == ticket) _ (last_polled turns c ticket same)
-last_polled (Took frame report ∷ turns) c ticket same = last_polled turns c ticket same
-last_polled (Pushed frame ∷ turns) c ticket same = last_polled turns c ticket same
-last_polled (Ticked acted ∷ turns) c ticket same = last_polled turns c ticket same
-last_polled (Submitted dev request given ∷ turns) c ticket same = last_polled turns c ticket same
-last_polled (Put at bytes ∷ turns) c ticket same = last_polled turns c ticket same
+last_polled (other ∷ turns) c ticket same = last_polled turns c ticket same
 
 gives_none : (a b d : Bool) → a ≡ false → (a && b && d) ≡ false
 gives_none false b d h = refl
@@ -109,11 +70,7 @@ not_given (Polled d ∷ turns) c s e same once =
           absurd (true≢false (sym (last_polled turns c d.ticket.0 (same_ticket d.ticket.0 e.head.ticket c.ticket.0 equal same)) ∙ once.0))
       | inr not_equal ↦ not_equal
     ]
-not_given (Took frame report ∷ turns) c s e same once = not_given turns c s e same once
-not_given (Pushed frame ∷ turns) c s e same once = not_given turns c s e same once
-not_given (Ticked acted ∷ turns) c s e same once = not_given turns c s e same once
-not_given (Submitted dev request given ∷ turns) c s e same once = not_given turns c s e same once
-not_given (Put at bytes ∷ turns) c s e same once = not_given turns c s e same once
+not_given (other ∷ turns) c s e same once = not_given turns c s e same once
 
 -- ## What a FIS completes is not issued any more
 
@@ -144,12 +101,6 @@ completed_gone s event.Emptied past u done h = never (issued s past) done
     never : (o : Option Transfer) → match_some o false (λ t. false) ≡ true → ⊥
     never None done = false≢true done
     never (Some x) done = false≢true done
-completed_gone s (event.Sent slot) past u done h = by_issue (issued s past) (λ t. completes s (event.Sent slot) past t.work) u done h
-completed_gone s (event.SetUp tag offset count to_host) past u done h =
-    by_issue (issued s past) (λ t. completes s (event.SetUp tag offset count to_host) past t.work) u done h
-completed_gone s (event.PioSetUp count to_host ends) past u done h =
-    by_issue (issued s past) (λ t. completes s (event.PioSetUp count to_host ends) past t.work) u done h
-completed_gone s (event.Carried bytes) past u done h = by_issue (issued s past) (λ t. completes s (event.Carried bytes) past t.work) u done h
 completed_gone s other past u done h = by_issue (issued s past) (λ t. completes s other past t.work) u done h
 
 -- the event of a device completes what is issued in a slot of it

@@ -1,16 +1,9 @@
 -- For `connections_follow`. Connections come one after another, over every run from a new world.
 use Rattle.std.proofs.Common.{◌≡◌, ◌<◌, ℕ, true, List, length, Some}
 use Rattle.multiplier.specs.State.{port_at}
-use Rattle.pm_world.specs.Attached.{Attached}
-use Rattle.pm_world.specs.Places.{Places, is_config, new_world}
-use Rattle.pm_world.specs.Rules.{Run}
-use Rattle.pm_world.specs.Traffic.{is_removed}
-use Rattle.pm_world.specs.declared.step.Config.{Config}
-use Rattle.pm_world.specs.declared.step.Step.{Step}
-use Rattle.pm_world.specs.declared.step.Answer.{Answer}
-use Rattle.pm_world.specs.Connections.{ConnectionsFollow}
-use Rattle.pm_world.proofs.ports.FirmLemmas.{opening_firm, removed_before, run_firm}
-use Rattle.pm_world.proofs.ports.SentLemmas.{none_on_way}
+use Rattle.pm_world.specs.{Attached.Attached, Places.{Places, is_config, new_world}, Rules.Run, Traffic.is_removed, declared.step.Config.Config}
+use Rattle.pm_world.specs.{declared.{step.Step.Step, step.Answer.Answer}, Connections.ConnectionsFollow}
+use Rattle.pm_world.proofs.ports.{FirmLemmas.{opening_firm, removed_before, run_firm}, SentLemmas.none_on_way}
 
 are_removed : (config : Config) (units : List Attached) → is_config config (length units) ≡ true → (steps : List Step) (answers : List Answer) (now : Places)
     → Run (new_world config units) steps answers now → (n c d : ℕ) → n < 15 → (port_at now.multiplier n).present ≡ Some c → 0 < d → d < c

@@ -1,35 +1,24 @@
 -- For `ports_keep_to_one`. A port keeps to one connection between two clears. This holds in each step, and so in each
 -- run.
-use Rattle.std.proofs.Common.{◌≡◌, ◌≢◌, ◌⊎◌, ℕ, ◌<◌, ◌==◌, Bool, true, false, List, [], ◌∷◌, ◌++◌, length, drop, take, flat_map}
-use Rattle.std.proofs.Common.{Option, Some, None, Ok, refl, sym, ap, subst, ◌∙◌, inl, inr, arith}
+use Rattle.std.proofs.Common.{◌≡◌, ◌≢◌, ◌⊎◌, ℕ, ◌<◌, ◌==◌, Bool, true, false, List, [], ◌∷◌, ◌++◌, length, drop, take, flat_map, Option, Some, None}
+use Rattle.std.proofs.Common.{Ok, refl, sym, ap, subst, ◌∙◌, inl, inr, arith}
 use Rattle.std.specs.Prelude.{if◌then◌else◌}
-use Rattle.std.proofs.lemmas.Bool.{cases_eq, eqb-true, true≢false}
-use Rattle.std.proofs.lemmas.List.{length-replicate}
-use Rattle.std.proofs.lemmas.Option.{same_Some}
+use Rattle.std.proofs.lemmas.{Bool.{cases_eq, eqb-true, true≢false}, List.length-replicate, Option.same_Some}
 use Rattle.fis_view.specs.Frames.{Stamped}
-use Rattle.pm_registers.specs.Port.{opening_port}
-use Rattle.pm_registers.specs.RegisterMap.{forwards}
+use Rattle.pm_registers.specs.{Port.opening_port, RegisterMap.forwards}
 use Rattle.pm_ports.specs.Port.{only_if, rises}
-use Rattle.multiplier.specs.Arbiter.{control_port}
-use Rattle.multiplier.specs.Passing.{falls}
-use Rattle.multiplier.specs.State.{PmState, passes_to, port_at}
-use Rattle.multiplier.specs.declared.multiplier.Passed.TheVariants as passed
+use Rattle.multiplier.specs.{Arbiter.control_port, Passing.falls, State.{PmState, passes_to, port_at}}
 use Rattle.multiplier.specs.Between.{Answer as Answers, FromPort, Gives, Notice}
+use Rattle.multiplier.specs.declared.multiplier.Passed.TheVariants as passed
 use Rattle.multiplier.proofs.Door.{gives}
 use Rattle.hba_driver.specs.declared.mode.Mode.TheVariants.{Switching}
-use Rattle.pm_world.specs.Attached.{Attached}
-use Rattle.pm_world.specs.Cleared.{is_cleared}
-use Rattle.pm_world.specs.Downward.{fell_to}
-use Rattle.pm_world.specs.Places.{IsOrderly, Places, Queue, new_world}
-use Rattle.pm_world.specs.Rules.{PmUpRule, Rule, Run}
-use Rattle.pm_world.specs.declared.step.Config.{Config}
-use Rattle.pm_world.specs.declared.step.Step.{Step}
+use Rattle.pm_world.specs.{Attached.Attached, Cleared.is_cleared, Downward.fell_to, Places.{IsOrderly, Places, Queue, new_world}}
+use Rattle.pm_world.specs.{Rules.{PmUpRule, Rule, Run}, declared.{step.Config.Config, step.Step.Step, step.Answer.Answer}}
+use Rattle.pm_world.specs.Keeping.{AreOf, EachKeeps, Keep, PassesOnly, PortsKeep, passed_at, rose_from}
 use Rattle.pm_world.specs.declared.step.Step.TheVariants as step
-use Rattle.pm_world.specs.declared.step.Answer.{Answer}
 use Rattle.pm_world.specs.declared.step.Answer.TheVariants as answer
 use Rattle.pm_world.proofs.cleared.Cleared.{PortGoes, Shows, Waits, forwards_none, opening_shows, rule_goes}
 use Rattle.pm_world.proofs.steps.Orderly.{opening_orderly, orderly_after}
-use Rattle.pm_world.specs.Keeping.{AreOf, EachKeeps, Keep, PassesOnly, PortsKeep, passed_at, rose_from}
 
 -- ## One connection
 
@@ -113,7 +102,6 @@ fell_passed : (n : ℕ) (old : Places) (s : Step) (a : Answer) (new : Places) �
 fell_passed n old s (answer.Passed (passed.Down m)) new =
     if_passed n old.multiplier (m == n) (flat_map (falls (passes_to old.multiplier n)) (take 1 old.downward.frames))
     (falls_passed n old.multiplier (passes_to old.multiplier n) (take 1 old.downward.frames) (passes_open n old.multiplier))
-fell_passed n old s (answer.Passed p) new = tt
 fell_passed n old s a new = tt
 
 -- up

@@ -6,18 +6,13 @@ use Rattle.fis_view.specs.Frames.{Stamped}
 use Rattle.hba_fbs.specs.declared.report.TakeReport.{TakeReport}
 use Rattle.multiplier.specs.declared.multiplier.Passed.{Passed}
 use Rattle.multiplier.proofs.Door.{gives}
-use Rattle.pm_world.specs.Cleared.{is_up_from}
-use Rattle.pm_world.specs.Places.{IsOrderly, Places, Queue}
+use Rattle.pm_world.specs.{Cleared.is_up_from, Places.{IsOrderly, Places, Queue}}
 use Rattle.pm_world.specs.Rules.{CameRule, DiskSendRule, DiskTakeRule, GoneRule, InjectRule, PmDownRule, PmFromDeviceRule, PmPresenceRule, Rule}
-use Rattle.pm_world.specs.declared.step.Step.{Step}
+use Rattle.pm_world.specs.{declared.{step.Step.Step, step.Answer.Answer}, Stale.{identified_by, orders_clear}}
 use Rattle.pm_world.specs.declared.step.Step.TheVariants as step
-use Rattle.pm_world.specs.declared.step.Answer.{Answer}
 use Rattle.pm_world.specs.declared.step.Answer.TheVariants as answer
-use Rattle.pm_world.proofs.upward.FrameMoves.{rule_moves}
-use Rattle.pm_world.proofs.steps.Steps.{at_both, at_device}
+use Rattle.pm_world.proofs.{upward.FrameMoves.rule_moves, steps.Steps.{at_both, at_device}, ports.KeepingLemmas.{IsPassed, given_passed}}
 use Rattle.hba_driver.specs.Known.{is_identity}
-use Rattle.pm_world.specs.Stale.{identified_by, orders_clear}
-use Rattle.pm_world.proofs.ports.KeepingLemmas.{IsPassed, given_passed}
 
 -- ## The steps of some answers
 

@@ -1,24 +1,11 @@
 -- For `World::step` and `World::run`, clause `laws`. Every run obeys the laws.
 use Rattle.std.proofs.Common.{List, [], ◌∷◌}
 use Rattle.std.specs.Prelude.{Ok, Err, IfOk}
-use Rattle.pm_world.specs.Laws.{AreLawful}
-use Rattle.pm_world.specs.Places.{Places, IsOrderly}
-use Rattle.pm_world.specs.Rules.{Outcome}
-use Rattle.pm_world.specs.declared.step.Step.{Step}
-use Rattle.pm_world.specs.declared.step.Answer.{Answer}
-use Rattle.pm_world.proofs.cleared.Cleared.{new_devices_wait}
-use Rattle.pm_world.proofs.upward.Law.{nothing_lost, on_the_way}
-use Rattle.pm_world.proofs.upward.Prefix.{taken_is_prefix}
-use Rattle.pm_world.proofs.downward.LossLemmas.{nothing_lost_down}
-use Rattle.pm_world.proofs.upward.PortMarks.{own_port}
-use Rattle.pm_world.proofs.turns.Delivery.{delivers, keeps_apart}
-use Rattle.pm_world.proofs.turns.HostFold.{host_is_fold}
-use Rattle.pm_world.proofs.turns.Isolation.{isolates}
-use Rattle.pm_world.proofs.units.Units.{units_live_on, units_lived_on}
-use Rattle.pm_world.proofs.links.LinksPass.{keeps_links}
-use Rattle.pm_world.proofs.turns.Tickets.{keeps_tickets}
-use Rattle.pm_world.proofs.upward.Recorded.{tells_removals}
-use Rattle.pm_world.proofs.turns.TrueAnswers.{tells_truth}
+use Rattle.pm_world.specs.{Laws.AreLawful, Places.{Places, IsOrderly}, Rules.Outcome, declared.{step.Step.Step, step.Answer.Answer}}
+use Rattle.pm_world.proofs.{cleared.Cleared.new_devices_wait, upward.{Law.{nothing_lost, on_the_way}, Prefix.taken_is_prefix}}
+use Rattle.pm_world.proofs.{downward.LossLemmas.nothing_lost_down, upward.PortMarks.own_port, turns.Delivery.{delivers, keeps_apart}}
+use Rattle.pm_world.proofs.{turns.{HostFold.host_is_fold, Isolation.isolates}, units.Units.{units_live_on, units_lived_on}}
+use Rattle.pm_world.proofs.{links.LinksPass.keeps_links, turns.Tickets.keeps_tickets, upward.Recorded.tells_removals, turns.TrueAnswers.tells_truth}
 
 pub obeys : (old : Places) (steps : List Step) (answers : List Answer) (new : Places) → IsOrderly old → AreLawful old steps answers new
 obeys old steps answers new orderly run = record {

@@ -1,15 +1,9 @@
 -- For `World::step` and `World::run`. What steps make of a world that came by a run from a new one.
 use Rattle.std.proofs.Common.{List, [], ◌∷◌, ◌++◌, take, refl, sym, subst}
 use Rattle.std.specs.Prelude.{ℕ, IfErr, OnOk, Result, Ok, Err}
-use Rattle.pm_world.specs.Laws.{AreLawful}
-use Rattle.pm_world.specs.Places.{Places, new_world_in}
-use Rattle.pm_world.specs.Rules.{Outcome, Rule, Run, Stops}
-use Rattle.pm_world.specs.Runs.{IsReached}
-use Rattle.pm_world.specs.declared.step.Answer.{Answer}
-use Rattle.pm_world.specs.declared.step.Step.{Step}
-use Rattle.pm_world.specs.declared.step.StepError.{StepError}
-use Rattle.pm_world.proofs.upward.Law.{run_append}
-use Rattle.pm_world.proofs.steps.Refusals.{same_where_refused}
+use Rattle.pm_world.specs.{Laws.AreLawful, Places.{Places, new_world_in}, Rules.{Outcome, Rule, Run, Stops}, Runs.IsReached}
+use Rattle.pm_world.specs.declared.{step.Answer.Answer, step.Step.Step, step.StepError.StepError}
+use Rattle.pm_world.proofs.{upward.Law.run_append, steps.Refusals.same_where_refused}
 
 pub reached_run : (old : Places) (steps : List Step) (answers : List Answer) (new : Places) → IsReached old → Run old steps answers new → IsReached new
 reached_run old steps answers new r run = record {

@@ -2,27 +2,17 @@
 -- in a tick of the run.
 use Rattle.std.proofs.Common.{◌≡◌, ◌⊎◌, ℕ, true, false, List, [], ◌∷◌, drop, length, map, refl, sym, ap, subst, ◌∙◌, inl, inr, Some}
 use Rattle.fis_view.specs.Frames.{Stamped}
-use Rattle.hba_driver.specs.declared.request.Outcome.{Outcome}
-use Rattle.hba_driver.specs.declared.request.Outcome.TheVariants.{DeviceError}
-use Rattle.hba_driver.specs.declared.slot.Phase.{Phase}
-use Rattle.hba_driver.specs.declared.slot.Phase.TheVariants.{Waits, Ended}
+use Rattle.hba_driver.specs.declared.{request.Outcome.{Outcome, TheVariants.DeviceError}, slot.Phase.{Phase, TheVariants.{Waits, Ended}}}
 use Rattle.hba_driver.specs.Drivers.{Driver, Entry, entry_at, has_ended_in}
-use Rattle.hba_driver.specs.HostTurns.{DoesAll, Host, HostTurn, Pushed, Submitted, Ticked, Took, sight_in}
-use Rattle.hba_driver.specs.Laws.{Goes}
-use Rattle.hba_driver.specs.Sights.{file_shown}
+use Rattle.hba_driver.specs.{HostTurns.{DoesAll, Host, HostTurn, Pushed, Submitted, Ticked, Took, sight_in}, Laws.Goes, Sights.file_shown}
 use Rattle.hba_driver.specs.Between.{Fresh, PollFacts, Stood, ticks}
 use Rattle.hba_driver.proofs.Door as accept
 use Rattle.hba_driver.proofs.Door.{comes_from, errors_are_named, poll_facts}
-use Rattle.pm_world.specs.Named.{IsNamedIn, PolledErrorsAreNamed}
-use Rattle.pm_world.specs.Places.{Places, new_world}
-use Rattle.pm_world.specs.Rules.{Run}
-use Rattle.pm_world.specs.Turns.{turn_of}
-use Rattle.pm_world.specs.declared.step.Step.{Step}
-use Rattle.pm_world.specs.declared.step.Step.TheVariants as step
+use Rattle.pm_world.specs.{Named.{IsNamedIn, PolledErrorsAreNamed}, Places.{Places, new_world}, Rules.Run, Turns.turn_of, declared.step.Step.Step}
 use Rattle.pm_world.specs.declared.step.Answer.{Answer}
+use Rattle.pm_world.specs.declared.step.Step.TheVariants as step
 use Rattle.pm_world.specs.declared.step.Answer.TheVariants as answer
-use Rattle.pm_world.proofs.turns.HostFold.{rule_does}
-use Rattle.pm_world.proofs.reported.ReportedLemmas.{first_of, later_of}
+use Rattle.pm_world.proofs.{turns.HostFold.rule_does, reported.ReportedLemmas.{first_of, later_of}}
 
 -- ## Turns that are no ticks
 
@@ -52,7 +42,6 @@ unticked old s a new calm = tt
 waits_first : (old : Driver) (t : HostTurn) (slot : ℕ) (f : Entry) (outcome : Outcome) → f.head.phase ≡ Ended outcome → Fresh old t slot f → ⊥
 waits_first old (Submitted dev request ticket) slot f outcome ended fresh =
     let bad : Waits ≡ Ended outcome = ap (λ (x : Entry). x.head.phase) fresh.1 ∙ ended in cc bad
-waits_first old (Took frame report) slot f outcome ended fresh = fresh
 waits_first old other slot f outcome ended fresh = fresh
 
 same_over : (turns : List HostTurn) (old new : Host) → DoesAll old turns new → NoTicks turns → (slot : ℕ) (f : Entry) (outcome : Outcome)

@@ -6,30 +6,18 @@ use Rattle.std.specs.Prelude.{◌⊎◌}
 use Rattle.std.proofs.lemmas.Bool.{and_parts, eqb-true, false≢true}
 use Rattle.fis_view.specs.Frames.{Stamped}
 use Rattle.slots.specs.Slots.{has_bit}
-use Rattle.hba_fbs.specs.declared.report.TakeReport.{TakeReport}
-use Rattle.hba_fbs.specs.Taking.{port_of}
-use Rattle.hba_driver.specs.declared.request.Request.{Request}
-use Rattle.hba_driver.specs.declared.request.Ticket.{Ticket}
-use Rattle.hba_driver.specs.declared.slot.Phase.TheVariants.{Waits, Issued, Ended}
-use Rattle.hba_driver.specs.declared.slot.Phase.{Phase}
-use Rattle.hba_driver.specs.Drivers.{Entry, entry_at, has_ended_in, rephased}
-use Rattle.hba_driver.specs.Laws.{Goes}
-use Rattle.hba_driver.specs.HostTurns.{DoesAll, Host, HostTurn, Pushed, Submitted, Took}
-use Rattle.hba_driver.specs.Submits.{new_entry}
+use Rattle.hba_fbs.specs.{declared.report.TakeReport.TakeReport, Taking.port_of}
+use Rattle.hba_driver.specs.declared.{request.Request.Request, request.Ticket.Ticket, slot.Phase.{Phase, TheVariants.{Waits, Issued, Ended}}}
+use Rattle.hba_driver.specs.{Drivers.{Entry, entry_at, has_ended_in, rephased}, Laws.Goes}
+use Rattle.hba_driver.specs.{HostTurns.{DoesAll, Host, HostTurn, Pushed, Submitted, Took}, Submits.new_entry}
 use Rattle.hba_driver.specs.Between.{AllStand, Fresh, IsOnWay, Reports}
-use Rattle.hba_driver.proofs.Door.{all_wider, comes_from, free_other, turn_stands}
-use Rattle.hba_driver.proofs.Door.{way_turn}
+use Rattle.hba_driver.proofs.Door.{all_wider, comes_from, free_other, turn_stands, way_turn}
 use Rattle.pm_world.specs.Places.{Places}
 use Rattle.pm_world.specs.Rules.{CameRule, DiskSendRule, DiskTakeRule, GoneRule, InjectRule, PmDownRule, PmFromDeviceRule, PmPresenceRule, Rule, Run}
-use Rattle.pm_world.specs.Turns.{turn_of}
-use Rattle.pm_world.specs.declared.step.Step.{Step}
+use Rattle.pm_world.specs.{Turns.turn_of, declared.{step.Step.Step, step.Answer.Answer}, Runs.{IsStepOf, Telling, over}, Units.happens}
 use Rattle.pm_world.specs.declared.step.Step.TheVariants as step
-use Rattle.pm_world.specs.declared.step.Answer.{Answer}
 use Rattle.pm_world.specs.declared.step.Answer.TheVariants as answer
-use Rattle.pm_world.proofs.turns.HostFold.{rule_does}
-use Rattle.pm_world.proofs.steps.Steps.{at_both, at_device}
-use Rattle.pm_world.specs.Runs.{IsStepOf, Telling, over}
-use Rattle.pm_world.specs.Units.{happens}
+use Rattle.pm_world.proofs.{turns.HostFold.rule_does, steps.Steps.{at_both, at_device}}
 
 -- ## Steps of a run
 
@@ -105,7 +93,6 @@ is_take old new (step.PmFromDevice m) port conn number bytes report rule =
     absurd (at_both old m (answer.Took port conn number bytes report) new (PmFromDeviceRule m) rule).rule
 is_take old new (step.PmDown m) port conn number bytes report rule =
     absurd (at_both old m (answer.Took port conn number bytes report) new (PmDownRule m) rule).rule
-is_take old new step.PmFromHost port conn number bytes report rule = absurd rule.0
 is_take old new other port conn number bytes report rule = absurd rule.0
 
 -- ## Turns that take nothing

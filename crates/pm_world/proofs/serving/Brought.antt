@@ -1,12 +1,9 @@
 -- Where a read's bytes stand when it is done. They stand in the client memory of a world's host, each
 -- at its place, and are the disk's sectors (ACS-3, READ FPDMA QUEUED; AHCI 1.3.1, 4.2.3.3, Physical
 -- Region Descriptor Table). What a host delivers is cited from `hba_driver` (specs/Delivered.antt).
-use Rattle.std.specs.Prelude.{ℕ, ◌≡◌, ◌-◌, ◌<◌, ◌≤◌, List, length, Some}
-use Rattle.std.specs.Prelude.{slice_get, slice_index}
-use Rattle.host_memory.specs.Memory.{Memory, client_start}
-use Rattle.host_memory.specs.Place.{LiesInClient, place}
-use Rattle.disk_model.specs.Chunks.{sectors_at}
-use Rattle.disk_model.specs.Ledger.{Ledger, ReadOut, medium_with}
+use Rattle.std.specs.Prelude.{ℕ, ◌≡◌, ◌-◌, ◌<◌, ◌≤◌, List, length, Some, slice_get, slice_index}
+use Rattle.host_memory.specs.{Memory.{Memory, client_start}, Place.{LiesInClient, place}}
+use Rattle.disk_model.specs.{Chunks.sectors_at, Ledger.{Ledger, ReadOut, medium_with}}
 use Rattle.hba_laws.specs.History.{Transfer}
 use Rattle.disk_simulation.specs.Same.{SlotCommand}
 

@@ -2,24 +2,17 @@
 use Rattle.std.proofs.Common.{◌≡◌, ℕ, ◌<◌, ◌++◌, true, false, List, ◌∷◌, refl, sym, ap, subst, ◌∙◌, Option, Some, None}
 use Rattle.std.specs.Prelude.{if◌then◌else◌}
 use Rattle.std.proofs.lemmas.Bool.{eq-eqb, true≢false}
-use Rattle.slots.specs.Slots.{has_bit, is_pio, match_some}
-use Rattle.slots.specs.Work.{is_queued}
-use Rattle.slots.specs.declared.work.Work.{Work}
-use Rattle.hba_fbs.specs.declared.report.TakeReport.{TakeReport}
-use Rattle.hba_fbs.specs.Taking.{port_of}
+use Rattle.slots.specs.{Slots.{has_bit, is_pio, match_some}, Work.is_queued, declared.work.Work.Work}
+use Rattle.hba_fbs.specs.{declared.report.TakeReport.TakeReport, Taking.port_of}
 use Rattle.disk_model.specs.Ledger.{Ledger}
-use Rattle.hba_laws.specs.Client.{IsReading, Touches, own}
-use Rattle.hba_laws.specs.Delivering.{by_device, event_taken, completes_now, touched}
-use Rattle.hba_laws.specs.History as event
+use Rattle.hba_laws.specs.{Client.{IsReading, Touches, own}, Delivering.{by_device, event_taken, completes_now, touched}}
 use Rattle.hba_laws.specs.History.{Event, History, Transfer, completes, filled}
+use Rattle.hba_laws.specs.History as event
 use Rattle.hba_laws.specs.Hosts as host_event
-use Rattle.hba_driver.specs.Delivered.{IsAtItsPlace, TookDelivers}
-use Rattle.hba_driver.specs.Events.{shared_by}
-use Rattle.hba_driver.specs.HostTurns.{Host}
-use Rattle.disk_simulation.specs.Honest.{BroughtSectors}
+use Rattle.hba_driver.specs.{Delivered.{IsAtItsPlace, TookDelivers}, Events.shared_by, HostTurns.Host}
+use Rattle.disk_simulation.specs.{Honest.BroughtSectors, Same.SlotCommand}
 use Rattle.disk_simulation.proofs.Door.{no_end, not_pio}
 use Rattle.pm_world.proofs.serving.Brought.{IsBrought}
-use Rattle.disk_simulation.specs.Same.{SlotCommand}
 
 -- what completes a queued command fills nothing
 fills_nothing : (s : ℕ) (e : Event) (past : History) (w : Work) → is_queued w.kind ≡ true → completes s e past w ≡ true

@@ -1,40 +1,23 @@
 -- For `ports_rest_at_a_flush`. Up to the first FIS of a disk, the host serves the disk and gives it nothing.
-use Rattle.std.proofs.Common.{◌≡◌, ◌≢◌, eqb, ◌==◌, ◌⊎◌, ℕ, ◌<◌, Bool, true, false, List, [], ◌∷◌, ◌++◌, drop, length, map, refl, sym, ap, subst, ◌∙◌, inl, inr}
-use Rattle.std.proofs.Common.{Ok}
-use Rattle.std.specs.Prelude.{Result}
-use Rattle.std.specs.List.{flat_map}
-use Rattle.std.proofs.lemmas.Bool.{eq-eqb, true≢false}
-use Rattle.std.proofs.lemmas.List.{append-nil}
-use Rattle.std.proofs.lemmas.List.Elements.{All-head}
-use Rattle.fis_view.specs.Frames.{Stamped}
-use Rattle.fis_view.specs.Seen.{seen}
-use Rattle.fis_view.specs.declared.view.Fis.{Fis}
+use Rattle.std.proofs.Common.{◌≡◌, ◌≢◌, eqb, ◌==◌, ◌⊎◌, ℕ, ◌<◌, Bool, true, false, List, [], ◌∷◌, ◌++◌, drop, length, map, refl, sym, ap, subst, ◌∙◌}
+use Rattle.std.proofs.Common.{inl, inr, Ok}
+use Rattle.std.specs.{Prelude.Result, List.flat_map}
+use Rattle.std.proofs.lemmas.{Bool.{eq-eqb, true≢false}, List.append-nil, List.Elements.All-head}
+use Rattle.fis_view.specs.{Frames.Stamped, Seen.seen, declared.{view.Fis.Fis, view.FisFault.FisFault}}
 use Rattle.fis_view.specs.declared.view.Fis.TheVariants as view
-use Rattle.fis_view.specs.declared.view.FisFault.{FisFault}
 use Rattle.host_memory.specs.Memory.{is_memory_size}
 use Rattle.hba_fbs.specs.Taking.{port_of}
-use Rattle.disk_model.specs.declared.request.Request.{Request}
+use Rattle.disk_model.specs.{declared.request.Request.Request, Ends.{Fits, FitsAll, FitsRequest, IsCareful}, Histories.{Happening, Plugged, Received}}
+use Rattle.disk_model.specs.{Ledger.{Signs, empty, listens}, Requests.request_of}
 use Rattle.disk_model.specs.declared.request.Request.TheVariants as asked
-use Rattle.disk_model.specs.Ends.{Fits, FitsAll, FitsRequest, IsCareful}
-use Rattle.disk_model.specs.Histories.{Happening, Plugged, Received}
-use Rattle.disk_model.specs.Ledger.{Signs, empty, listens}
-use Rattle.disk_model.specs.Requests.{request_of}
 use Rattle.hba_laws.specs.Client.{own}
-use Rattle.hba_driver.specs.Events.{shared_by}
-use Rattle.hba_driver.specs.HostTurns.{HostTurn}
-use Rattle.hba_driver.specs.Steady.{IsCalmTick, IsFlushTick}
+use Rattle.hba_driver.specs.{Events.shared_by, HostTurns.HostTurn, Steady.{IsCalmTick, IsFlushTick}}
 use Rattle.disk_simulation.specs.Hosted.{IsKept}
 use Rattle.disk_simulation.proofs.Door.{hosted_is_kept}
-use Rattle.pm_world.specs.Places.{Places}
-use Rattle.pm_world.specs.Rules.{Rule}
-use Rattle.pm_world.specs.Turns.{IsOfItsPort, turn_of}
-use Rattle.pm_world.specs.declared.step.Step.{Step}
-use Rattle.pm_world.specs.declared.step.Answer.{Answer}
+use Rattle.pm_world.specs.{Places.Places, Rules.Rule, Turns.{IsOfItsPort, turn_of}, declared.{step.Step.Step, step.Answer.Answer}, PathEnds.for_port}
 use Rattle.pm_world.specs.declared.step.Answer.TheVariants as answer
 use Rattle.pm_world.proofs.upward.PortMarks.{AllHavePortMarks, run_marks}
-use Rattle.pm_world.specs.PathEnds.{for_port}
-use Rattle.pm_world.proofs.serving.HostLemmas.{DriversServe, HasPushed, HostOn, step_flushes, step_keeps, step_pushes}
-use Rattle.pm_world.proofs.ports.DownLemmas.{given_for}
+use Rattle.pm_world.proofs.{serving.HostLemmas.{DriversServe, HasPushed, HostOn, step_flushes, step_keeps, step_pushes}, ports.DownLemmas.given_for}
 use Rattle.pm_world.proofs.paths.PathLemmas.{drop_front}
 
 -- the host took a FIS of port n
@@ -56,7 +39,6 @@ no_request other fits = let e : Signs ∷ [] ≡ [] = fits.awaited in cc e
 
 nothing_fits : (f : Result Fis FisFault) → Fits (listens empty Plugged) f → ⊥
 nothing_fits (Ok (view.RegH2D f)) fits = no_request (request_of f) fits.1
-nothing_fits (Ok (view.Payload f)) fits = fits
 nothing_fits _ fits = fits
 
 careless : (bytes : List ℕ) (later : List Happening) → IsCareful (Plugged ∷ Received bytes ∷ later) → ⊥

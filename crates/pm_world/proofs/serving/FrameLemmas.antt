@@ -1,39 +1,25 @@
 -- For `ports_rest_at_a_flush`. What a host gives is a frame.
-use Rattle.std.proofs.Common.{◌≡◌, ◌==◌, ◌&&◌, ℕ, suc, ◌+◌, ◌-◌, ◌*◌, ◌%◌, ◌≤◌, Bool, true, false, List, [], ◌∷◌, drop, length, refl, sym, ap, subst, ◌∙◌, inl, inr}
-use Rattle.std.proofs.Common.{Option, Some, None, arith, replicate}
-use Rattle.std.specs.Prelude.{if◌then◌else◌, nat_le, IsTrue, MatchOption}
-use Rattle.std.specs.Option.{option_or}
-use Rattle.std.proofs.lemmas.Bool.{cases_Bool, cases_lt}
-use Rattle.std.proofs.lemmas.Bool.Decides.{nat_tests}
+use Rattle.std.proofs.Common.{◌≡◌, ◌==◌, ◌&&◌, ℕ, suc, ◌+◌, ◌-◌, ◌*◌, ◌%◌, ◌≤◌, Bool, true, false, List, [], ◌∷◌, drop, length, refl, sym, ap, subst}
+use Rattle.std.proofs.Common.{◌∙◌, inl, inr, Option, Some, None, arith, replicate}
+use Rattle.std.specs.{Prelude.{if◌then◌else◌, nat_le, IsTrue, MatchOption}, Option.option_or}
+use Rattle.std.proofs.lemmas.{Bool.{cases_Bool, cases_lt}, Bool.Decides.nat_tests}
 use Rattle.std.proofs.lemmas.List.{get_or-replicate, get_or_past, length-drop, length-replicate, length-take-le}
 use Rattle.std.proofs.lemmas.List.FromFn.{get_or-map-range_with_len, length-map-range_with_len}
 use Rattle.fis_view.specs.Frames.{IsFrame, Stamped}
 use Rattle.host_memory.specs.Memory.{Memory, is_memory_size}
 use Rattle.hba_commands.specs.declared.command.Command.{Command}
-use Rattle.hba_commands.specs.Commands.{cfis_at, command_at, command_in, command_under, has_table, is_proper, total_at}
-use Rattle.hba_commands.specs.Headers.{header_at}
+use Rattle.hba_commands.specs.{Commands.{cfis_at, command_at, command_in, command_under, has_table, is_proper, total_at}, Headers.header_at}
 use Rattle.hba_commands.specs.Requests.{request_at, work_of}
-use Rattle.slots.specs.Data.{payload, payload_len}
-use Rattle.slots.specs.Slots.{Issue, Slots, context_of, has_bit, issue_at}
-use Rattle.slots.specs.Table.{IsContext, IsContextOf}
+use Rattle.slots.specs.{Data.{payload, payload_len}, Slots.{Issue, Slots, context_of, has_bit, issue_at}, Table.{IsContext, IsContextOf}}
 use Rattle.slots.specs.declared.table.Context.{Context}
-use Rattle.hba_fbs.specs.declared.register.Register.{Register}
-use Rattle.hba_fbs.specs.declared.register.Register.TheVariants.{Ci}
-use Rattle.hba_fbs.specs.declared.report.TakeReport.{TakeReport}
-use Rattle.hba_fbs.specs.Issuing.{asked, commands_with}
-use Rattle.hba_fbs.specs.Sending.{Data, Gives, Order, Outgoing, data_fis, gathered, outgoing}
-use Rattle.hba_fbs.specs.Tables.{prds_of}
-use Rattle.hba_fbs.specs.Taking.{ignores, port_of}
-use Rattle.hba_fbs.specs.Views.{Port, last_command}
-use Rattle.hba_fbs.specs.Writing.{Accepts, commands_after}
-use Rattle.hba_laws.specs.Client.{Touches}
+use Rattle.hba_fbs.specs.{declared.{register.Register.{Register, TheVariants.Ci}, report.TakeReport.TakeReport}, Issuing.{asked, commands_with}}
+use Rattle.hba_fbs.specs.{Sending.{Data, Gives, Order, Outgoing, data_fis, gathered, outgoing}, Tables.prds_of, Taking.{ignores, port_of}}
+use Rattle.hba_fbs.specs.{Views.{Port, last_command}, Writing.{Accepts, commands_after}}
+use Rattle.hba_laws.specs.{Client.Touches, Hosts.{Does, Flushed, Gave, HostEvent, Runs, TakesFrame, Took, Wrote}, Sound.{AreHosts, IsHost}}
 use Rattle.hba_laws.specs.Hosts as event
-use Rattle.hba_laws.specs.Hosts.{Does, Flushed, Gave, HostEvent, Put, Rewrote, Runs, Stored, TakesFrame, Took, Wrote}
-use Rattle.hba_laws.specs.Sound.{AreHosts, IsHost}
 use Rattle.hba_laws.proofs.Door as outgoing_lemmas
 use Rattle.hba_laws.proofs.Door.{gives_commands}
-use Rattle.hba_driver.specs.Events.{IsSoundHost, events_over, shared_by}
-use Rattle.hba_driver.specs.HostTurns.{Host, HostTurn, Pushes}
+use Rattle.hba_driver.specs.{Events.{IsSoundHost, events_over, shared_by}, HostTurns.{Host, HostTurn, Pushes}}
 use Rattle.pm_world.specs.HostTouches.{AreTouched, goes, opens}
 use Rattle.pm_world.proofs.serving.TouchedLemmas.{touched_sound}
 

@@ -3,41 +3,25 @@ use Rattle.std.proofs.Common.{◌≡◌, ◌≢◌, ◌==◌, ℕ, ◌<◌, Bool
 use Rattle.std.proofs.Common.{Option, Some, None, Ok}
 use Rattle.std.specs.Prelude.{◌⊎◌, if◌then◌else◌}
 use Rattle.std.proofs.lemmas.List.{append-nil}
-use Rattle.fis_view.specs.Frames.{IsFrame, Stamped, marked}
-use Rattle.fis_view.specs.Seen.{seen}
+use Rattle.fis_view.specs.{Frames.{IsFrame, Stamped, marked}, Seen.seen}
 use Rattle.host_memory.specs.Memory.{is_memory_size}
-use Rattle.hba_fbs.specs.declared.report.TakeReport.{TakeReport}
-use Rattle.hba_fbs.specs.Taking.{port_of}
-use Rattle.disk_model.specs.Ends.{IsRight}
-use Rattle.disk_model.specs.Histories.{Happening, Plugged, Received, Sent}
-use Rattle.disk_model.specs.Ledger.{ledger}
+use Rattle.hba_fbs.specs.{declared.report.TakeReport.TakeReport, Taking.port_of}
+use Rattle.disk_model.specs.{Ends.IsRight, Histories.{Happening, Plugged, Received, Sent}, Ledger.ledger}
 use Rattle.multiplier.specs.State.{pm_port}
-use Rattle.hba_laws.specs.Client.{Touches}
-use Rattle.hba_laws.specs.Delivering.{touches_after}
-use Rattle.hba_driver.specs.declared.request.Request.{Request}
-use Rattle.hba_driver.specs.declared.request.Ticket.{Ticket}
-use Rattle.hba_driver.specs.Events.{events_over, shared_by}
-use Rattle.hba_driver.specs.HostTurns.{DoesAll, Host, HostTurn, Polled, Pushed, Put, Submitted, Ticked, Took}
-use Rattle.hba_driver.specs.Steady.{IsCalmTick, IsFlushTick}
-use Rattle.disk_simulation.specs.Heard.{IsTakenWell}
-use Rattle.disk_simulation.specs.Joined.{IsShort}
-use Rattle.disk_recovery.specs.Kept.{CalmTurnsKeep, FlushOpens, IsCalmTurn, IsServedHonestly, OpensHonestly, PushesKeep, ServesOn, TakesKeep, given_to}
+use Rattle.hba_laws.specs.{Client.Touches, Delivering.touches_after}
+use Rattle.hba_driver.specs.{declared.{request.Request.Request, request.Ticket.Ticket}, Events.{events_over, shared_by}}
+use Rattle.hba_driver.specs.{HostTurns.{DoesAll, Host, HostTurn, Polled, Pushed, Put, Submitted, Ticked, Took}, Steady.{IsCalmTick, IsFlushTick}}
+use Rattle.disk_simulation.specs.{Heard.IsTakenWell, Joined.IsShort, Same.SlotCommand}
+use Rattle.disk_recovery.specs.Kept.{CalmTurnsKeep, FlushOpens, IsCalmTurn, IsServedHonestly, OpensHonestly, PushesKeep, ServesOn, TakesKeep}
+use Rattle.disk_recovery.specs.Kept.{given_to}
 use Rattle.disk_recovery.proofs.Door.{calm_turns_keep, flush_opens, opens_honestly, pushes_keep, takes_keep}
 use Rattle.pm_world.specs.Places.{Places, Queue}
 use Rattle.pm_world.specs.Rules.{CameRule, DiskSendRule, DiskTakeRule, GoneRule, InjectRule, PmDownRule, PmFromDeviceRule, PmPresenceRule, Rule}
-use Rattle.pm_world.specs.Turns.{turn_of}
-use Rattle.pm_world.specs.declared.step.Step.{Step}
+use Rattle.pm_world.specs.{Turns.turn_of, declared.{step.Step.Step, step.Answer.Answer}, HostTouches.{AreTouched, goes}, PathEnds.for_port}
 use Rattle.pm_world.specs.declared.step.Step.TheVariants as step
-use Rattle.pm_world.specs.declared.step.Answer.{Answer}
 use Rattle.pm_world.specs.declared.step.Answer.TheVariants as answer
-use Rattle.pm_world.proofs.turns.HostFold.{rule_does}
-use Rattle.pm_world.proofs.steps.Steps.{at_both, at_device}
-use Rattle.pm_world.specs.HostTouches.{AreTouched, goes}
-use Rattle.pm_world.specs.PathEnds.{for_port}
-use Rattle.pm_world.proofs.serving.FrameLemmas.{pushes_frame}
-use Rattle.pm_world.proofs.serving.GivenLemmas.{HasGiven, host_gives}
-use Rattle.pm_world.proofs.paths.PathLemmas.{drop_front}
-use Rattle.disk_simulation.specs.Same.{SlotCommand}
+use Rattle.pm_world.proofs.{turns.HostFold.rule_does, steps.Steps.{at_both, at_device}, serving.FrameLemmas.pushes_frame}
+use Rattle.pm_world.proofs.{serving.GivenLemmas.{HasGiven, host_gives}, paths.PathLemmas.drop_front}
 
 -- ## The host
 
@@ -99,8 +83,6 @@ module _ (law : DriversServe) (n len : ℕ) (below : n < 15) (right : is_memory_
 
 pub idle_turn : (old new : Places) (s : Step) → (turn_of old s answer.Idle new ≡ []) ⊎ (turn_of old s answer.Idle new ≡ Pushed None ∷ [])
 idle_turn old new step.HostPush = inr refl
-idle_turn old new (step.Submit dev request) = inl refl
-idle_turn old new (step.Put at bytes) = inl refl
 idle_turn old new _ = inl refl
 
 pub record IsSubmit (turns : List HostTurn) (ticket : ℕ) : Type 0 where
@@ -110,9 +92,7 @@ pub record IsSubmit (turns : List HostTurn) (ticket : ℕ) : Type 0 where
 
 pub submitted_turn : (old new : Places) (s : Step) (ticket : Ticket) → (turn_of old s (answer.Submitted ticket) new ≡ [])
     ⊎ IsSubmit (turn_of old s (answer.Submitted ticket) new) ticket.0
-submitted_turn old new step.HostPush ticket = inl refl
 submitted_turn old new (step.Submit dev request) ticket = inr (record { dev = dev; request = request; is = refl })
-submitted_turn old new (step.Put at bytes) ticket = inl refl
 submitted_turn old new _ ticket = inl refl
 
 pub record IsPut (turns : List HostTurn) : Type 0 where
@@ -121,10 +101,30 @@ pub record IsPut (turns : List HostTurn) : Type 0 where
   pub is : turns ≡ Put at bytes ∷ []
 
 pub put_turn : (old new : Places) (s : Step) → (turn_of old s answer.Put new ≡ []) ⊎ IsPut (turn_of old s answer.Put new)
-put_turn old new step.HostPush = inl refl
-put_turn old new (step.Submit dev request) = inl refl
 put_turn old new (step.Put at bytes) = inr (record { at = at; bytes = bytes; is = refl })
 put_turn old new _ = inl refl
+
+-- a step with such an answer is not a turn of the host
+abbrev pub IsNoTurn : Answer → Type 0
+IsNoTurn (answer.Took port conn number bytes report) = ⊥
+IsNoTurn answer.Pushed = ⊥
+IsNoTurn answer.Ticked = ⊥
+IsNoTurn answer.Idle = ⊥
+IsNoTurn (answer.Submitted ticket) = ⊥
+IsNoTurn (answer.Polled completion) = ⊥
+IsNoTurn answer.Put = ⊥
+IsNoTurn a = Prim.Unit {0}
+
+pub none_told : (old new : Places) (s : Step) (a : Answer) → IsNoTurn a → turn_of old s a new ≡ []
+none_told old new s (answer.Took port conn number bytes report) quiet = absurd quiet
+none_told old new s answer.Pushed quiet = absurd quiet
+none_told old new s answer.Ticked quiet = absurd quiet
+none_told old new s answer.Idle quiet = absurd quiet
+none_told old new s (answer.Submitted ticket) quiet = absurd quiet
+none_told old new s (answer.Polled completion) quiet = absurd quiet
+none_told old new s answer.Put quiet = absurd quiet
+none_told old new (step.Put at bytes) a quiet = refl
+none_told old new s a quiet = refl
 
 -- what is pushed is what the link has now and did not have before
 pub pushed_turn : (old new : Places) (s : Step) → Rule old s (Ok answer.Pushed) new
@@ -231,80 +231,4 @@ module _ (law : DriversServe) (n len : ℕ) (below : n < 15) (right : is_memory_
     | inl none ↦ no_turn (turn_of old s answer.Put new) none (rule_does old s answer.Put new rule)
     | inr one ↦ calm_turn (turn_of old s answer.Put new) (Put one.at one.bytes) one.is (rule_does old s answer.Put new rule) tt
   ]
-  step_keeps answer.Blocked rule beside = no_turn (turn_of old s answer.Blocked new) (none_turn s) (rule_does old s answer.Blocked new rule)
-    where
-      none_turn : (s : Step) → turn_of old s answer.Blocked new ≡ []
-      none_turn step.HostPush = refl
-      none_turn (step.Submit dev request) = refl
-      none_turn (step.Put at given) = refl
-      none_turn _ = refl
-  step_keeps (answer.Came port conn) rule beside = no_turn (turn_of old s (answer.Came port conn) new) (none_turn s) (rule_does old s (answer.Came port conn) new rule)
-    where
-      none_turn : (s : Step) → turn_of old s (answer.Came port conn) new ≡ []
-      none_turn step.HostPush = refl
-      none_turn (step.Submit dev request) = refl
-      none_turn (step.Put at given) = refl
-      none_turn _ = refl
-  step_keeps (answer.Gone port conn) rule beside = no_turn (turn_of old s (answer.Gone port conn) new) (none_turn s) (rule_does old s (answer.Gone port conn) new rule)
-    where
-      none_turn : (s : Step) → turn_of old s (answer.Gone port conn) new ≡ []
-      none_turn step.HostPush = refl
-      none_turn (step.Submit dev request) = refl
-      none_turn (step.Put at given) = refl
-      none_turn _ = refl
-  step_keeps (answer.Sent port conn number bytes) rule beside = no_turn (turn_of old s (answer.Sent port conn number bytes) new) (none_turn s) (rule_does old s (answer.Sent port conn number bytes) new rule)
-    where
-      none_turn : (s : Step) → turn_of old s (answer.Sent port conn number bytes) new ≡ []
-      none_turn step.HostPush = refl
-      none_turn (step.Submit dev request) = refl
-      none_turn (step.Put at given) = refl
-      none_turn _ = refl
-  step_keeps (answer.DiskTook port dropped) rule beside = no_turn (turn_of old s (answer.DiskTook port dropped) new) (none_turn s) (rule_does old s (answer.DiskTook port dropped) new rule)
-    where
-      none_turn : (s : Step) → turn_of old s (answer.DiskTook port dropped) new ≡ []
-      none_turn step.HostPush = refl
-      none_turn (step.Submit dev request) = refl
-      none_turn (step.Put at given) = refl
-      none_turn _ = refl
-  step_keeps (answer.Presence port) rule beside = no_turn (turn_of old s (answer.Presence port) new) (none_turn s) (rule_does old s (answer.Presence port) new rule)
-    where
-      none_turn : (s : Step) → turn_of old s (answer.Presence port) new ≡ []
-      none_turn step.HostPush = refl
-      none_turn (step.Submit dev request) = refl
-      none_turn (step.Put at given) = refl
-      none_turn _ = refl
-  step_keeps (answer.Offered port dropped) rule beside = no_turn (turn_of old s (answer.Offered port dropped) new) (none_turn s) (rule_does old s (answer.Offered port dropped) new rule)
-    where
-      none_turn : (s : Step) → turn_of old s (answer.Offered port dropped) new ≡ []
-      none_turn step.HostPush = refl
-      none_turn (step.Submit dev request) = refl
-      none_turn (step.Put at given) = refl
-      none_turn _ = refl
-  step_keeps (answer.Passed passed) rule beside = no_turn (turn_of old s (answer.Passed passed) new) (none_turn s) (rule_does old s (answer.Passed passed) new rule)
-    where
-      none_turn : (s : Step) → turn_of old s (answer.Passed passed) new ≡ []
-      none_turn step.HostPush = refl
-      none_turn (step.Submit dev request) = refl
-      none_turn (step.Put at given) = refl
-      none_turn _ = refl
-  step_keeps (answer.Up port) rule beside = no_turn (turn_of old s (answer.Up port) new) (none_turn s) (rule_does old s (answer.Up port) new rule)
-    where
-      none_turn : (s : Step) → turn_of old s (answer.Up port) new ≡ []
-      none_turn step.HostPush = refl
-      none_turn (step.Submit dev request) = refl
-      none_turn (step.Put at given) = refl
-      none_turn _ = refl
-  step_keeps (answer.Down port) rule beside = no_turn (turn_of old s (answer.Down port) new) (none_turn s) (rule_does old s (answer.Down port) new rule)
-    where
-      none_turn : (s : Step) → turn_of old s (answer.Down port) new ≡ []
-      none_turn step.HostPush = refl
-      none_turn (step.Submit dev request) = refl
-      none_turn (step.Put at given) = refl
-      none_turn _ = refl
-  step_keeps (answer.Refused e) rule beside = no_turn (turn_of old s (answer.Refused e) new) (none_turn s) (rule_does old s (answer.Refused e) new rule)
-    where
-      none_turn : (s : Step) → turn_of old s (answer.Refused e) new ≡ []
-      none_turn step.HostPush = refl
-      none_turn (step.Submit dev request) = refl
-      none_turn (step.Put at given) = refl
-      none_turn _ = refl
+  step_keeps other rule beside = no_turn (turn_of old s other new) (none_told old new s other tt) (rule_does old s other new rule)

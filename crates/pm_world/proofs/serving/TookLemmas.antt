@@ -32,7 +32,6 @@ host_takes old new (step.PmFromDevice m) port conn number bytes report rule =
     absurd (at_both old m (answer.Took port conn number bytes report) new (PmFromDeviceRule m) rule).rule
 host_takes old new (step.PmDown m) port conn number bytes report rule =
     absurd (at_both old m (answer.Took port conn number bytes report) new (PmDownRule m) rule).rule
-host_takes old new step.PmFromHost port conn number bytes report rule = absurd rule.0
 host_takes old new other port conn number bytes report rule = absurd rule.0
 
 -- a marked frame is as long as the frame

@@ -6,10 +6,8 @@ use Rattle.std.proofs.lemmas.Option.{slice_get_read}
 use Rattle.fis_view.specs.Frames.{Stamped}
 use Rattle.disk_model.specs.Histories.{Received}
 use Rattle.multiplier.specs.State.{PmState}
-use Rattle.pm_world.specs.Attached.{Attached, WantsRoom}
-use Rattle.pm_world.specs.Places.{Places, Place, Queue, FirstLeaves, with_device, with_multiplier}
-use Rattle.pm_world.specs.Rules.{Outcome, OnDeviceAndMultiplier, TakeWants, is_for}
-use Rattle.pm_world.specs.declared.step.StepError.TheVariants.{OutOfMemory}
+use Rattle.pm_world.specs.{Attached.{Attached, WantsRoom}, Places.{Places, Place, Queue, FirstLeaves, with_device, with_multiplier}}
+use Rattle.pm_world.specs.{Rules.{Outcome, OnDeviceAndMultiplier, TakeWants, is_for}, declared.step.StepError.TheVariants.OutOfMemory}
 
 -- its rule holds of the device's place and the multiplier
 pub on_both : (now old : Places) (n : ℕ) (place after : Place) (outcome : Outcome) (left : PmState) (R : Place → PmState → Outcome → Place → PmState → Type 0)

@@ -1,9 +1,7 @@
 -- For `World::run` and `paths_go_on`. Elements of a list after a write, and the frames of a connection in joined lists.
 use Rattle.std.proofs.Common.{◌≡◌, ◌≢◌, ℕ, zero, suc, List, [], ◌∷◌, ◌++◌, Some, None, Bool, true, false, cond, refl, sym, ap, map}
 use Rattle.std.specs.Prelude.{slice_get, slice_set, ◌&&◌, ◌==◌, if◌then◌else◌}
-use Rattle.std.proofs.lemmas.Option.{same_Some}
-use Rattle.std.proofs.lemmas.List.{map-append}
-use Rattle.std.proofs.lemmas.List.Elements.{filter-append}
+use Rattle.std.proofs.lemmas.{Option.same_Some, List.map-append, List.Elements.filter-append}
 use Rattle.fis_view.specs.Frames.{Stamped, marked}
 use Rattle.pm_world.specs.Traffic.{stamped, of_conn, all_marked}
 

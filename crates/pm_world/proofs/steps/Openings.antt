@@ -5,11 +5,8 @@ use Rattle.fis_view.specs.Frames.{Stamped}
 use Rattle.pm_ports.specs.Port.{PortState, empty_port}
 use Rattle.multiplier.specs.State.{port_at}
 use Rattle.hba_driver.specs.declared.mode.Mode.{Mode}
-use Rattle.pm_world.specs.Attached.{Attached}
-use Rattle.pm_world.specs.declared.step.Config.{Config}
-use Rattle.pm_world.specs.Downward.{falling_to, on_down_link}
-use Rattle.pm_world.specs.Places.{opening, new_world, new_world_in}
-use Rattle.pm_world.specs.Traffic.{all_marked, of_conn, on_link, waiting, transit}
+use Rattle.pm_world.specs.{Attached.Attached, declared.step.Config.Config, Downward.{falling_to, on_down_link}}
+use Rattle.pm_world.specs.{Places.{opening, new_world, new_world_in}, Traffic.{all_marked, of_conn, on_link, waiting, transit}}
 
 on_opening : (capacity : ℕ) (units : List Attached) (n : ℕ) → on_link (slice_get (map (opening capacity) units) n) ≡ []
 on_opening capacity [] n = refl

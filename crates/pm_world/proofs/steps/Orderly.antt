@@ -1,42 +1,32 @@
 -- For `paths_go_on`, clause `orderly`. Every world is orderly: a new one is, and no step makes it otherwise.
 use Rattle.std.proofs.Common.{◌≡◌, ℕ, ◌<◌, ◌≤◌, ◌==◌, Bool, true, false, List, [], ◌∷◌, length, map, Option, Some, None, refl, sym, ap, ◌∙◌, subst, arith}
 use Rattle.std.specs.Prelude.{slice_set, is_none, is_some, nat_le, if◌then◌else◌, Ok, MatchOption, MatchBool, ◌&&◌, ◌%◌}
-use Rattle.std.proofs.lemmas.Bool.{and_parts, eqb-true, leb-false, leb-true}
-use Rattle.std.proofs.lemmas.Option.{same_Some}
-use Rattle.std.proofs.lemmas.List.{length-set, length-map, length-replicate}
-use Rattle.fis_view.specs.Frames.{Stamped}
-use Rattle.fis_view.specs.declared.frame.Stamp.{Stamp}
-use Rattle.fis_view.specs.declared.build.D2hFields.{D2hFields}
-use Rattle.pm_ports.specs.Port.{PortState, empty_port, is_present, with_connection, with_removal, with_up, came_refusal as port_came_refusal, gone_refusal as port_gone_refusal}
-use Rattle.pm_ports.specs.declared.port.GoneError.TheVariants.{NotThere}
+use Rattle.std.proofs.lemmas.{Bool.{and_parts, eqb-true, leb-false, leb-true}, Option.same_Some, List.{length-set, length-map, length-replicate}}
+use Rattle.fis_view.specs.{Frames.Stamped, declared.{frame.Stamp.Stamp, build.D2hFields.D2hFields}}
+use Rattle.pm_ports.specs.Port.{PortState, empty_port, is_present, with_connection, with_removal, with_up, came_refusal as port_came_refusal}
+use Rattle.pm_ports.specs.{Port.gone_refusal as port_gone_refusal, declared.port.GoneError.TheVariants.NotThere}
 use Rattle.pm_ports.specs.declared.port.PortError.TheVariants.{AlreadyThere, OldConnection}
 use Rattle.pm_control.specs.Answers.{IsAnswer, IsNotice, answer_to}
 use Rattle.pm_registers.specs.RegisterMap.{after_notice}
 use Rattle.multiplier.specs.Arbiter.{control_port}
 use Rattle.multiplier.specs.State.{PmState, control_stamp, counted, held, passes_to, pm_port, port_at, next_place, rising, with_port}
 use Rattle.multiplier.specs.Rules.{FromHostRule, PlaceGives, PortGives, ControlGives, ToControl, ToDevice, ToNobody, held_source, may_go_back}
-use Rattle.multiplier.specs.Rules.{with_device as connected, without_device}
+use Rattle.multiplier.specs.{Rules.{with_device as connected, without_device}, declared.multiplier.Passed.Passed, Between.at as state_at}
 use Rattle.multiplier.specs.declared.given.Source.TheVariants as source
-use Rattle.multiplier.specs.declared.multiplier.Passed.{Passed}
 use Rattle.multiplier.specs.declared.multiplier.Passed.TheVariants as passed
-use Rattle.multiplier.specs.Between.{at as state_at}
 use Rattle.multiplier.proofs.Door as ports
 use Rattle.multiplier.proofs.Door.{still_up_to}
 use Rattle.hba_driver.specs.declared.mode.Mode.{Mode}
-use Rattle.pm_world.specs.Attached.{Attached}
-use Rattle.pm_world.specs.DevicePaths.{ReachedAreOrderly}
-use Rattle.pm_world.specs.Places.{KnowsItsConnections, Places, Place, Queue, IsOrderly, is_config, new_world_in, opening, with_device, with_multiplier, with_upward, with_downward, with_host}
-use Rattle.pm_world.specs.Rules.{OnDevice, OnDeviceAndMultiplier, PmPresenceRule, PmFromDeviceRule, PmDownRule, PmFromHostRule, PmUpRule, CameRule, DiskSendRule, GoneRule, InjectRule, DiskTakeRule, Rule, Run, Outcome, recorded}
-use Rattle.pm_world.specs.Traffic.{is_removed}
-use Rattle.pm_world.specs.declared.link.Change.{Change}
+use Rattle.pm_world.specs.{Attached.Attached, DevicePaths.ReachedAreOrderly}
+use Rattle.pm_world.specs.Places.{KnowsItsConnections, Places, Place, Queue, IsOrderly, is_config, new_world_in, opening, with_device}
+use Rattle.pm_world.specs.Places.{with_multiplier, with_upward, with_downward, with_host}
+use Rattle.pm_world.specs.Rules.{OnDevice, OnDeviceAndMultiplier, PmPresenceRule, PmFromDeviceRule, PmDownRule, PmFromHostRule, PmUpRule, CameRule}
+use Rattle.pm_world.specs.{Rules.{DiskSendRule, GoneRule, InjectRule, DiskTakeRule, Rule, Run, Outcome, recorded}, Traffic.is_removed}
+use Rattle.pm_world.specs.declared.{link.Change.Change, step.Config.Config, step.Step.Step, step.Answer.Answer}
 use Rattle.pm_world.specs.declared.link.Change.TheVariants as change
-use Rattle.pm_world.specs.declared.step.Config.{Config}
-use Rattle.pm_world.specs.declared.step.Step.{Step}
 use Rattle.pm_world.specs.declared.step.Step.TheVariants as step
-use Rattle.pm_world.specs.declared.step.Answer.{Answer}
 use Rattle.pm_world.specs.declared.step.Answer.TheVariants as answer
-use Rattle.pm_world.proofs.steps.Openings.{port_opening}
-use Rattle.pm_world.proofs.steps.Steps.{AtDevice, AtBoth, at_device, at_both}
+use Rattle.pm_world.proofs.steps.{Openings.port_opening, Steps.{AtDevice, AtBoth, at_device, at_both}}
 
 -- ---- a port of the multiplier after a write to one
 
@@ -225,10 +215,9 @@ control_roomy pm frame _ after rule is = absurd rule
 port_roomy : (pm : PmState) (frame : Stamped) (o : Option ℕ) (p : Passed) (after : PmState) → MatchOption o (ToNobody pm (Ok p) after) (λ conn. ToDevice pm (pm_port frame) conn frame (Ok p) after) → IsRoomy pm → Leads pm after
 port_roomy pm frame None passed.Dropped after rule is =
     subst (Leads pm) (sym rule) (record { room = is.room; answer = is.answer; knows = is.knows }, (refl, λ n. refl))
-port_roomy pm frame None _ after rule is = absurd rule
 port_roomy pm frame (Some conn) (passed.Down m) after rule is =
     same_answer pm after (ports_as pm after (pm_port frame) _ (ap (λ (q : PmState). q.ports) rule.2) refl) (ap (λ (q : PmState). q.answer) rule.2) is
-port_roomy pm frame (Some conn) _ after rule is = absurd rule
+port_roomy pm frame other _ after rule is = absurd rule
 
 passed_roomy : (pm : PmState) (frame : Stamped) (p : Passed) (after : PmState) → FromHostRule pm frame (Ok p) after → IsRoomy pm → Leads pm after
 passed_roomy pm frame p after rule is = by_test (pm_port frame == control_port) rule

@@ -4,13 +4,12 @@ use Rattle.std.specs.Prelude.{slice_get, Ok, Err, MatchOption, OnErr}
 use Rattle.multiplier.specs.State.{PmState}
 use Rattle.hba_driver.specs.HostTurns.{Host}
 use Rattle.pm_world.specs.Places.{IsOrderly, Places, Place, Queue, with_device, with_multiplier, with_upward, with_downward, with_host}
-use Rattle.pm_world.specs.Rules.{Outcome, CameRule, GoneRule, DiskSendRule, InjectRule, DiskTakeRule, PmPresenceRule, PmFromDeviceRule, PmDownRule, PmFromHostRule, PmUpRule, HostPushRule, OnDevice, OnDeviceAndMultiplier, Rule}
-use Rattle.pm_world.specs.declared.step.Step.{Step}
-use Rattle.pm_world.specs.declared.step.Step.TheVariants as step
+use Rattle.pm_world.specs.Rules.{Outcome, CameRule, GoneRule, DiskSendRule, InjectRule, DiskTakeRule, PmPresenceRule, PmFromDeviceRule, PmDownRule}
+use Rattle.pm_world.specs.{Rules.{PmFromHostRule, PmUpRule, HostPushRule, OnDevice, OnDeviceAndMultiplier, Rule}, declared.step.Step.Step}
 use Rattle.pm_world.specs.declared.step.StepError.{StepError}
+use Rattle.pm_world.specs.declared.step.Step.TheVariants as step
 use Rattle.pm_world.specs.declared.step.StepError.TheVariants as error
-use Rattle.pm_world.proofs.steps.Lists.{slice_set-same}
-use Rattle.pm_world.proofs.steps.Orderly.{orderly_after}
+use Rattle.pm_world.proofs.steps.{Lists.slice_set-same, Orderly.orderly_after}
 
 on_device_same : (old : Places) (n : ℕ) (e : StepError) (new : Places) (R : Place → Outcome → Place → Type 0) → ((place after : Place) → R place (Err e) after → after ≡ place) → OnDevice old n (Err e) new R → new ≡ old
 on_device_same old n e new R same h = by_cases (slice_get old.devices n) refl h
@@ -57,7 +56,6 @@ refused old step.PmFromHost e new rule =
 refused old step.PmUp e new rule =
     let same = up_same old.multiplier old.upward e new.multiplier new.upward rule.0 in
     rule.1 ∙ ap (λ (m : PmState). with_upward (with_multiplier old m) new.upward) same.0 ∙ ap (λ (q : Queue). with_upward old q) same.1
-refused old step.HostTake e new rule = absurd rule.0
 refused old step.HostPush e new rule =
     let same = push_same old.host old.downward e new.host new.downward rule.0 in
     rule.1 ∙ ap (λ (h : Host). with_downward (with_host old h) new.downward) same.0 ∙ ap (λ (q : Queue). with_downward old q) same.1

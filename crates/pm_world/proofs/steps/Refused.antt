@@ -1,20 +1,17 @@
 -- For `World::run`. The first refusal of a step is never lack of memory, and it is the refusal that the step gives.
 use Rattle.std.proofs.Common.{◌≡◌, ℕ, ◌+◌, List, Bool, true, false, Option, Some, None, refl, sym, subst}
-use Rattle.std.specs.Prelude.{slice_get, Ok, Err, MatchOption, unwrap_or, if◌then◌else◌, not, ◌==◌, ◌||◌, nat_lt, length}
-use Rattle.std.specs.Option.{option_map_or}
+use Rattle.std.specs.{Prelude.{slice_get, Ok, Err, MatchOption, unwrap_or, if◌then◌else◌, not, ◌==◌, ◌||◌, nat_lt, length}, Option.option_map_or}
 use Rattle.std.proofs.lemmas.Option.{same_Some}
 use Rattle.fis_view.specs.Frames.{is_frame}
 use Rattle.host_memory.specs.Memory.{client_start}
 use Rattle.multiplier.specs.State.{PmState}
-use Rattle.hba_driver.specs.HostTurns.{Host}
-use Rattle.hba_driver.specs.Requests.{in_use}
-use Rattle.hba_driver.specs.Submits.{end_of}
+use Rattle.hba_driver.specs.{HostTurns.Host, Requests.in_use, Submits.end_of}
 use Rattle.pm_world.specs.Places.{Places, Place, Queue, with_device, with_multiplier}
-use Rattle.pm_world.specs.Rules.{Outcome, Refuses, came_refusal, gone_refusal, send_refusal, inject_refusal, no_refusal, port_refusal, put_refusal, refusal, largest}
-use Rattle.pm_world.specs.Rules.{CameRule, GoneRule, DiskSendRule, InjectRule, DiskTakeRule, TakeWants, PmPresenceRule, PmFromDeviceRule, PmDownRule, PmFromHostRule, PmUpRule, HostPushRule, OnDevice, OnDeviceAndMultiplier, Rule}
-use Rattle.pm_world.specs.declared.step.Step.{Step}
+use Rattle.pm_world.specs.Rules.{Outcome, Refuses, came_refusal, gone_refusal, send_refusal, inject_refusal, no_refusal, port_refusal, put_refusal}
+use Rattle.pm_world.specs.Rules.{refusal, largest, CameRule, GoneRule, DiskSendRule, InjectRule, DiskTakeRule, TakeWants, PmPresenceRule}
+use Rattle.pm_world.specs.Rules.{PmFromDeviceRule, PmDownRule, PmFromHostRule, PmUpRule, HostPushRule, OnDevice, OnDeviceAndMultiplier, Rule}
+use Rattle.pm_world.specs.declared.{step.Step.Step, step.StepError.StepError}
 use Rattle.pm_world.specs.declared.step.Step.TheVariants as step
-use Rattle.pm_world.specs.declared.step.StepError.{StepError}
 use Rattle.pm_world.specs.declared.step.StepError.TheVariants as error
 
 -- a refusal, if there is one, is named: it is not lack of memory
@@ -26,13 +23,7 @@ IsNamed (Some e) = Unit {0}
 pub refuses_named : (first : Option StepError) (e : StepError) → IsNamed first → first ≡ Some e → Refuses first e
 refuses_named None e named is = cc
 refuses_named (Some error.OutOfMemory) e named is = absurd named
-refuses_named (Some error.BadBytes) e named is = subst (λ (v : StepError). Refuses (Some error.BadBytes) v) (same_Some error.BadBytes e is) refl
-refuses_named (Some error.NoSuchPort) e named is = subst (λ (v : StepError). Refuses (Some error.NoSuchPort) v) (same_Some error.NoSuchPort e is) refl
-refuses_named (Some error.AlreadyThere) e named is = subst (λ (v : StepError). Refuses (Some error.AlreadyThere) v) (same_Some error.AlreadyThere e is) refl
-refuses_named (Some error.NotThere) e named is = subst (λ (v : StepError). Refuses (Some error.NotThere) v) (same_Some error.NotThere e is) refl
-refuses_named (Some error.Spent) e named is = subst (λ (v : StepError). Refuses (Some error.Spent) v) (same_Some error.Spent e is) refl
-refuses_named (Some error.Outside) e named is = subst (λ (v : StepError). Refuses (Some error.Outside) v) (same_Some error.Outside e is) refl
-refuses_named (Some error.InUse) e named is = subst (λ (v : StepError). Refuses (Some error.InUse) v) (same_Some error.InUse e is) refl
+refuses_named (Some other) e named is = subst (λ (v : StepError). Refuses (Some other) v) (same_Some other e is) refl
 
 -- lack of memory is the error if no refusal applies
 pub refuses_or_wants : (first : Option StepError) → IsNamed first → Refuses first (unwrap_or first error.OutOfMemory)

@@ -3,8 +3,7 @@
 use Rattle.std.proofs.Common.{◌≡◌, ℕ, Option, Some, None, refl}
 use Rattle.std.specs.Prelude.{slice_get, Ok, Err, MatchOption}
 use Rattle.multiplier.specs.State.{PmState}
-use Rattle.pm_world.specs.Places.{Places, Place, with_device, with_multiplier}
-use Rattle.pm_world.specs.Rules.{Outcome, AtPort, OnDevice, OnDeviceAndMultiplier}
+use Rattle.pm_world.specs.{Places.{Places, Place, with_device, with_multiplier}, Rules.{Outcome, AtPort, OnDevice, OnDeviceAndMultiplier}}
 use Rattle.pm_world.specs.declared.step.Answer.{Answer}
 use Rattle.pm_world.specs.declared.step.StepError.TheVariants as error
 

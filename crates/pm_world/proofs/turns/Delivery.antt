@@ -2,19 +2,11 @@
 use Rattle.std.proofs.Common.{rules, ◌≡◌, ℕ, List, [], ◌∷◌, ◌++◌, true, sym, subst, length}
 use Rattle.std.specs.Prelude.{Ok}
 use Rattle.host_memory.specs.Memory.{is_memory_size, zeroed}
-use Rattle.hba_driver.specs.declared.mode.Mode.{Mode}
-use Rattle.hba_driver.specs.Delivered.{HasCome, touches_of}
-use Rattle.hba_driver.specs.HostTurns.{Does, DoesAll, Host, HostTurn, Took}
+use Rattle.hba_driver.specs.{declared.mode.Mode.Mode, Delivered.{HasCome, touches_of}, HostTurns.{Does, DoesAll, Host, HostTurn, Took}}
 use Rattle.hba_driver.proofs.Door.{turns_deliver, zeroed_right}
-use Rattle.pm_world.specs.IssuedApart.{AreKeptApart, IsApart, IsKeptApart, KeepsApart}
-use Rattle.pm_world.specs.Delivery.{Delivers, EachDelivers, HasDelivered, Tells}
-use Rattle.pm_world.specs.Places.{Places, is_config, new_world_in, opening_host_in}
-use Rattle.pm_world.specs.Rules.{Rule, Run}
-use Rattle.pm_world.specs.Runs.{over}
-use Rattle.pm_world.specs.Turns.{turn_of}
-use Rattle.pm_world.specs.declared.step.Config.{Config}
-use Rattle.pm_world.specs.declared.step.Step.{Step}
-use Rattle.pm_world.specs.declared.step.Answer.{Answer}
+use Rattle.pm_world.specs.{IssuedApart.{AreKeptApart, IsApart, IsKeptApart, KeepsApart}, Delivery.{Delivers, EachDelivers, HasDelivered, Tells}}
+use Rattle.pm_world.specs.{Places.{Places, is_config, new_world_in, opening_host_in}, Rules.{Rule, Run}, Runs.over, Turns.turn_of}
+use Rattle.pm_world.specs.declared.{step.Config.Config, step.Step.Step, step.Answer.Answer}
 use Rattle.pm_world.specs.declared.step.Answer.TheVariants as answer
 use Rattle.pm_world.proofs.turns.HostFold.{host_is_fold, rule_does, run_does}
 

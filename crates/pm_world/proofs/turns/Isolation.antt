@@ -3,19 +3,11 @@ use Rattle.std.proofs.Common.{List, length}
 use Rattle.host_memory.specs.Memory.{zeroed}
 use Rattle.hba_laws.specs.Isolation.{AreOfDevices}
 use Rattle.hba_laws.proofs.Door.{fold_of_own, histories_by_own}
-use Rattle.hba_driver.specs.declared.mode.Mode.{Mode}
-use Rattle.hba_driver.specs.Events.{AreEvents, IsSoundHostIn, events_over, shared_by}
-use Rattle.hba_driver.specs.HostTurns.{DoesAll, Host, HostTurn}
+use Rattle.hba_driver.specs.{declared.mode.Mode.Mode, Events.{AreEvents, IsSoundHostIn, events_over, shared_by}, HostTurns.{DoesAll, Host, HostTurn}}
 use Rattle.hba_driver.proofs.Door.{each_run_tells, hosts_stay_sound, turns_are_events, zeroed_right}
-use Rattle.pm_world.specs.Isolation.{AreFoldsOfOwn, AreHistoriesOfOwn, AreIsolated, Isolates}
-use Rattle.pm_world.specs.Places.{Places, new_world_in, opening_host_in}
-use Rattle.pm_world.specs.Rules.{Run}
-use Rattle.pm_world.specs.Runs.{over}
-use Rattle.pm_world.specs.Turns.{turn_of}
-use Rattle.pm_world.specs.declared.step.Step.{Step}
-use Rattle.pm_world.specs.declared.step.Answer.{Answer}
-use Rattle.pm_world.proofs.turns.Delivery.{sized}
-use Rattle.pm_world.proofs.turns.HostFold.{run_does}
+use Rattle.pm_world.specs.{Isolation.{AreFoldsOfOwn, AreHistoriesOfOwn, AreIsolated, Isolates}, Places.{Places, new_world_in, opening_host_in}}
+use Rattle.pm_world.specs.{Rules.Run, Runs.over, Turns.turn_of, declared.{step.Step.Step, step.Answer.Answer}}
+use Rattle.pm_world.proofs.turns.{Delivery.sized, HostFold.run_does}
 
 module _ (old : Host) (turns : List HostTurn) (new : Host) (does : DoesAll old turns new) where
   folds : (e : AreEvents old new turns does) → AreOfDevices (shared_by old) (shared_by new) (events_over old new turns does) e.runs → AreFoldsOfOwn old turns new does e

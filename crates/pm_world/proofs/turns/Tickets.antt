@@ -1,40 +1,27 @@
 -- For the field `tickets` of `laws`. Over every run tickets are kept: what the answers of a run tell of them is what
 -- the host's turns do.
 use Rattle.std.proofs.Common.{◌≡◌, ℕ, List, [], ◌∷◌, ◌++◌, true, length, map, drop, Some, refl, sym, ap, subst, ◌∙◌, append_assoc}
-use Rattle.std.specs.Prelude.{Ok}
-use Rattle.std.specs.List.{flat_map, range_with_len}
+use Rattle.std.specs.{Prelude.Ok, List.{flat_map, range_with_len}}
 use Rattle.std.proofs.lemmas.Grind.{flat_map-append}
 use Rattle.fis_view.specs.Frames.{Stamped}
 use Rattle.host_memory.specs.Memory.{is_memory_size, zeroed}
-use Rattle.hba_driver.specs.declared.mode.Mode.{Mode}
-use Rattle.hba_driver.specs.declared.request.Ticket.{Ticket}
-use Rattle.hba_driver.specs.HostTurns.{DoesAll, Host, HostTurn, Took, Pushed, Ticked, Submitted, Polled, Put, given_in, polled_in}
-use Rattle.hba_driver.specs.HostTurns.{polled_by as turn_polls}
+use Rattle.hba_driver.specs.declared.{mode.Mode.Mode, request.Ticket.Ticket}
+use Rattle.hba_driver.specs.HostTurns.{DoesAll, Host, HostTurn, Pushed, Submitted, Put, given_in, polled_in, polled_by as turn_polls}
 use Rattle.hba_driver.specs.Laws.{AreOnce, TurnsKeep}
 use Rattle.hba_driver.proofs.Door.{each_run_keeps, hosts_stay_sound, zeroed_right}
 use Rattle.pm_world.specs.Places.{Places, new_world_in, opening_host_in}
 use Rattle.pm_world.specs.Rules.{CameRule, GoneRule, DiskSendRule, InjectRule, DiskTakeRule, PmPresenceRule, PmFromDeviceRule, PmDownRule, Rule, Run}
-use Rattle.pm_world.specs.Runs.{over}
-use Rattle.pm_world.specs.Tickets.{KeepsTickets, given_by, polled_by}
-use Rattle.pm_world.specs.Turns.{turn_of}
-use Rattle.pm_world.specs.declared.step.Step.{Step}
+use Rattle.pm_world.specs.{Runs.over, Tickets.{KeepsTickets, given_by, polled_by}, Turns.turn_of, declared.{step.Step.Step, step.Answer.Answer}}
 use Rattle.pm_world.specs.declared.step.Step.TheVariants as step
-use Rattle.pm_world.specs.declared.step.Answer.{Answer}
 use Rattle.pm_world.specs.declared.step.Answer.TheVariants as answer
-use Rattle.pm_world.proofs.turns.Delivery.{sized}
-use Rattle.pm_world.proofs.turns.HostFold.{host_is_fold}
-use Rattle.pm_world.proofs.steps.Steps.{at_device, at_both}
+use Rattle.pm_world.proofs.{turns.{Delivery.sized, HostFold.host_is_fold}, steps.Steps.{at_device, at_both}}
 
 -- ---- turns, and then turns
 
 given-append : (xs ys : List HostTurn) → given_in (xs ++ ys) ≡ given_in xs ++ given_in ys
 given-append [] ys = refl
-given-append (Took frame report ∷ xs) ys = given-append xs ys
-given-append (Pushed frame ∷ xs) ys = given-append xs ys
-given-append (Ticked acted ∷ xs) ys = given-append xs ys
 given-append (Submitted dev request ticket ∷ xs) ys = ap (λ (l : List ℕ). ticket ∷ l) (given-append xs ys)
-given-append (Polled completion ∷ xs) ys = given-append xs ys
-given-append (Put at bytes ∷ xs) ys = given-append xs ys
+given-append (other ∷ xs) ys = given-append xs ys
 
 polled-append : (xs ys : List HostTurn) → polled_in (xs ++ ys) ≡ polled_in xs ++ polled_in ys
 polled-append [] ys = refl

@@ -2,19 +2,12 @@
 use Rattle.std.proofs.Common.{◌≡◌, ℕ, List, [], ◌∷◌, ◌++◌, true, sym, subst, length}
 use Rattle.std.specs.Prelude.{Ok}
 use Rattle.host_memory.specs.Memory.{is_memory_size, zeroed}
-use Rattle.hba_driver.specs.declared.mode.Mode.{Mode}
-use Rattle.hba_driver.specs.HostTurns.{Does, DoesAll, Host, HostTurn, Polled}
+use Rattle.hba_driver.specs.{declared.mode.Mode.Mode, HostTurns.{Does, DoesAll, Host, HostTurn, Polled}}
 use Rattle.hba_driver.proofs.Door.{done_is_true, writes_are_accepted, zeroed_right}
-use Rattle.pm_world.specs.TrueAnswers.{EachIsTrue, IsTrue, TellsTruth}
-use Rattle.pm_world.specs.Places.{Places, new_world_in, opening_host_in}
-use Rattle.pm_world.specs.Rules.{Rule, Run}
-use Rattle.pm_world.specs.Runs.{over}
-use Rattle.pm_world.specs.Turns.{turn_of}
-use Rattle.pm_world.specs.declared.step.Step.{Step}
-use Rattle.pm_world.specs.declared.step.Answer.{Answer}
+use Rattle.pm_world.specs.{TrueAnswers.{EachIsTrue, IsTrue, TellsTruth}, Places.{Places, new_world_in, opening_host_in}, Rules.{Rule, Run}, Runs.over}
+use Rattle.pm_world.specs.{Turns.turn_of, declared.{step.Step.Step, step.Answer.Answer}}
 use Rattle.pm_world.specs.declared.step.Answer.TheVariants as answer
-use Rattle.pm_world.proofs.turns.Delivery.{sized}
-use Rattle.pm_world.proofs.turns.HostFold.{rule_does}
+use Rattle.pm_world.proofs.turns.{Delivery.sized, HostFold.rule_does}
 
 module _ (mode : Mode) (memory : ℕ) (right : is_memory_size memory ≡ true) (turns : List HostTurn) (old : Places) (does : DoesAll (opening_host_in mode memory) turns old.host) where
   is_true : (s : Step) (a : Answer) (new : Places) → Rule old s (Ok a) new → IsTrue mode memory turns old.host does a

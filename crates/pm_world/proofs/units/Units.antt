@@ -1,23 +1,18 @@
 -- For the fields `live_on` and `lived_on` of `laws`. Each unit lives on through its own history.
 use Rattle.std.proofs.Common.{◌≡◌, ◌≢◌, ℕ, zero, suc, List, [], ◌∷◌, ◌++◌, Option, Some, None, true, false, refl, sym, ap, subst, ◌∙◌, append_assoc, inl, inr, map}
 use Rattle.std.specs.Prelude.{slice_get, slice_set, option_map, IsSomeAnd, MatchOption, Ok, take}
-use Rattle.std.proofs.lemmas.Bool.{cases_eq, eq-eqb, ne_eqb}
-use Rattle.std.proofs.lemmas.List.{append-nil}
+use Rattle.std.proofs.lemmas.{Bool.{cases_eq, eq-eqb, ne_eqb}, List.append-nil}
 use Rattle.fis_view.specs.Frames.{Stamped}
-use Rattle.disk_model.specs.Histories.{Happening, Received, Sent, Plugged, Loaded, Plan}
+use Rattle.disk_model.specs.Histories.{Happening, Received, Sent, Loaded, Plan}
 use Rattle.multiplier.specs.State.{PmState}
-use Rattle.pm_world.specs.Attached.{Attached as Device, plan_of, StandsFor}
-use Rattle.pm_world.specs.Downward.{on_down_link}
-use Rattle.pm_world.specs.Units.{happens, MaySendAll, LivesOn, UnitsLiveOn, UnitsLivedOn}
-use Rattle.pm_world.specs.Places.{Places, Place, opening, new_world_in}
-use Rattle.pm_world.specs.Rules.{Outcome, CameActs, GoneActs, DiskSendActs, InjectActs, DiskTakeActs, CameRule, GoneRule, DiskSendRule, InjectRule, DiskTakeRule, PmPresenceRule, PmFromDeviceRule, PmDownRule, OnDevice, OnDeviceAndMultiplier, Rule, Run}
-use Rattle.pm_world.specs.Runs.{over}
-use Rattle.pm_world.specs.declared.step.Step.{Step}
+use Rattle.pm_world.specs.{Attached.{Attached as Device, plan_of, StandsFor}, Downward.on_down_link}
+use Rattle.pm_world.specs.{Units.{happens, MaySendAll, LivesOn, UnitsLiveOn, UnitsLivedOn}, Places.{Places, Place, opening, new_world_in}}
+use Rattle.pm_world.specs.Rules.{Outcome, CameActs, GoneActs, DiskSendActs, InjectActs, DiskTakeActs, CameRule, GoneRule, DiskSendRule, InjectRule}
+use Rattle.pm_world.specs.{Rules.{DiskTakeRule, PmPresenceRule, PmFromDeviceRule, PmDownRule, OnDevice, OnDeviceAndMultiplier, Rule, Run}, Runs.over}
+use Rattle.pm_world.specs.declared.{step.Step.Step, step.Answer.Answer}
 use Rattle.pm_world.specs.declared.step.Step.TheVariants as step
-use Rattle.pm_world.specs.declared.step.Answer.{Answer}
 use Rattle.pm_world.specs.declared.step.Answer.TheVariants as answer
-use Rattle.pm_world.proofs.steps.Lists.{slice_get-set_same, slice_get-set_other}
-use Rattle.pm_world.proofs.steps.Steps.{at_device, at_both}
+use Rattle.pm_world.proofs.steps.{Lists.{slice_get-set_same, slice_get-set_other}, Steps.{at_device, at_both}}
 
 -- ---- one unit
 
@@ -33,11 +28,10 @@ may_send-append : (plan : Plan) (history first second : List Happening) → MayS
 may_send-append plan history [] second may more = subst (λ (h : List Happening). MaySendAll plan h second) (append-nil history) more
 may_send-append plan history (Sent bytes ∷ first) second may more =
     (may.0, may_send-append plan (history ++ Sent bytes ∷ []) first second may.1 (subst (λ (h : List Happening). MaySendAll plan h second) (sym (append_assoc history (Sent bytes ∷ []) first)) more))
-may_send-append plan history (Received bytes ∷ first) second may more =
-    may_send-append plan (history ++ Received bytes ∷ []) first second may (subst (λ (h : List Happening). MaySendAll plan h second) (sym (append_assoc history (Received bytes ∷ []) first)) more)
-may_send-append plan history (Plugged ∷ first) second may more =
-    may_send-append plan (history ++ Plugged ∷ []) first second may (subst (λ (h : List Happening). MaySendAll plan h second) (sym (append_assoc history (Plugged ∷ []) first)) more)
 may_send-append plan history (Loaded bytes ∷ first) second may more = absurd may
+may_send-append plan history (other ∷ first) second may more =
+    may_send-append plan (history ++ other ∷ []) first second may
+    (subst (λ (h : List Happening). MaySendAll plan h second) (sym (append_assoc history (other ∷ []) first)) more)
 
 lives-append : (a b c : Device) (first second : List Happening) → LivesOn a first b → LivesOn b second c → LivesOn a (first ++ second) c
 lives-append a b c first second one two = record {

@@ -1,19 +1,14 @@
 -- For the fields `nothing_lost` and `on_the_way` of `laws`. Nothing is lost in one move, and so in a whole run.
 use Rattle.std.proofs.Common.{◌≡◌, ◌≢◌, ℕ, zero, suc, ◌<◌, ◌≤◌, List, [], ◌∷◌, ◌++◌, Bool, true, false, cond, eqb, refl, sym, ap, subst, ◌∙◌, append_assoc, inl, inr, map, length, arith}
 use Rattle.std.specs.Prelude.{◌==◌, ◌&&◌, filter, Ok}
-use Rattle.std.proofs.lemmas.Bool.{cases_Bool, cases_eq, eq-eqb, ne_eqb}
-use Rattle.std.proofs.lemmas.List.{append-nil}
+use Rattle.std.proofs.lemmas.{Bool.{cases_Bool, cases_eq, eq-eqb, ne_eqb}, List.append-nil}
 use Rattle.fis_view.specs.Frames.{Stamped, marked}
-use Rattle.multiplier.specs.Arbiter.{control_port}
-use Rattle.multiplier.specs.State.{port_at, rising}
+use Rattle.multiplier.specs.{Arbiter.control_port, State.{port_at, rising}}
 use Rattle.multiplier.proofs.Door.{up_to, up_to_is}
-use Rattle.pm_world.specs.Laws.{FromEachWorld}
-use Rattle.pm_world.specs.Places.{Places, IsOrderly, IsTold}
-use Rattle.pm_world.specs.Rules.{Rule, Run}
-use Rattle.pm_world.specs.Traffic.{sent_by, taken_by, sent, taken, all_marked, stamped, of_conn, waiting, transit, is_removed, on_host_link, is_took, IsPrefixOf, NothingAfterRemoval, NothingLost}
+use Rattle.pm_world.specs.{Laws.FromEachWorld, Places.{Places, IsOrderly, IsTold}, Rules.{Rule, Run}}
+use Rattle.pm_world.specs.Traffic.{sent_by, taken_by, sent, taken, all_marked, stamped, of_conn, waiting, transit, is_removed, on_host_link, is_took}
+use Rattle.pm_world.specs.{Traffic.{IsPrefixOf, NothingAfterRemoval, NothingLost}, declared.{step.Step.Step, step.Answer.Answer}}
 use Rattle.hba_fbs.specs.declared.report.TakeReport.{TakeReport}
-use Rattle.pm_world.specs.declared.step.Step.{Step}
-use Rattle.pm_world.specs.declared.step.Answer.{Answer}
 use Rattle.pm_world.specs.declared.step.Answer.TheVariants as answer
 use Rattle.pm_world.proofs.steps.Lists.{stamped-append, of_conn-append, all_marked-append, stamped-one, of_conn-one}
 use Rattle.pm_world.proofs.upward.FrameMoves.{Stays, Enters, Rises, Says, Leaves, GoesUp, Moves, rule_moves}

@@ -1,14 +1,8 @@
 -- For the field `prefix` of `laws`. What the host took of a connection is a prefix of what was sent on it.
 use Rattle.std.proofs.Common.{ℕ, List, ◌++◌, ap, ◌∙◌}
-use Rattle.pm_world.specs.Laws.{TakenIsPrefix}
-use Rattle.pm_world.specs.Places.{Places, new_world_in}
-use Rattle.pm_world.specs.Rules.{Run}
-use Rattle.pm_world.specs.Traffic.{sent, all_marked}
-use Rattle.pm_world.specs.declared.step.Step.{Step}
+use Rattle.pm_world.specs.{Laws.TakenIsPrefix, Places.{Places, new_world_in}, Rules.Run, Traffic.{sent, all_marked}, declared.step.Step.Step}
 use Rattle.pm_world.specs.declared.step.Answer.{Answer}
-use Rattle.pm_world.proofs.upward.Law.{nothing_lost, run_append}
-use Rattle.pm_world.proofs.steps.Openings.{nothing_stands}
-use Rattle.pm_world.proofs.steps.Orderly.{opening_orderly}
+use Rattle.pm_world.proofs.{upward.Law.{nothing_lost, run_append}, steps.{Openings.nothing_stands, Orderly.opening_orderly}}
 
 pub taken_is_prefix : (old : Places) (steps : List Step) (answers : List Answer) (new : Places) → Run old steps answers new → TakenIsPrefix old answers
 taken_is_prefix old steps answers new run mode config units fits before told made n c device =

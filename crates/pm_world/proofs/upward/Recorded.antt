@@ -1,41 +1,28 @@
 -- For the field `removals` of `laws`. What the ports of the multiplier record is what answers tell, in the same order.
 use Rattle.std.proofs.Common.{◌≡◌, ◌≢◌, ℕ, zero, suc, ◌+◌, ◌<◌, ◌≤◌, max, Bool, true, false, cond, eqb, List, [], ◌∷◌, ◌++◌, append_assoc, length, take, map, Option, Some, None, refl, sym, ap, ◌∙◌, subst, arith, inl, inr, length-append}
-use Rattle.std.specs.Prelude.{◌==◌, filter, is_none, is_some, nat_le, if◌then◌else◌, slice_get, Ok}
-use Rattle.std.specs.List.{flat_map}
-use Rattle.std.proofs.lemmas.Bool.{cases_eq, eq-eqb, leb-true, ne_eqb}
-use Rattle.std.proofs.lemmas.List.{append-nil}
-use Rattle.std.proofs.lemmas.List.Elements.{filter-append}
+use Rattle.std.specs.{Prelude.{◌==◌, filter, is_none, is_some, nat_le, if◌then◌else◌, slice_get, Ok}, List.flat_map}
+use Rattle.std.proofs.lemmas.{Bool.{cases_eq, eq-eqb, leb-true, ne_eqb}, List.append-nil, List.Elements.filter-append}
 use Rattle.std.proofs.lemmas.Option.{same_Some, slice_get_within}
-use Rattle.hba_driver.specs.declared.mode.Mode.{Mode}
-use Rattle.hba_driver.specs.declared.request.Request.{Request}
+use Rattle.hba_driver.specs.declared.{mode.Mode.Mode, request.Request.Request}
 use Rattle.pm_ports.specs.Port.{is_present, with_connection, with_removal, came_refusal as port_came_refusal, gone_refusal as port_gone_refusal}
-use Rattle.pm_ports.specs.declared.port.GoneError.TheVariants.{NotThere}
-use Rattle.pm_ports.specs.declared.port.PortError.TheVariants.{AlreadyThere, OldConnection}
-use Rattle.multiplier.specs.Arbiter.{control_port}
-use Rattle.multiplier.specs.State.{PmState, port_at, rising}
+use Rattle.pm_ports.specs.declared.{port.GoneError.TheVariants.NotThere, port.PortError.TheVariants.{AlreadyThere, OldConnection}}
+use Rattle.multiplier.specs.{Arbiter.control_port, State.{PmState, port_at, rising}, Rules.{with_device as connected, without_device}}
 use Rattle.multiplier.proofs.Door as ports
 use Rattle.multiplier.proofs.Door.{up_to}
-use Rattle.multiplier.specs.Rules.{with_device as connected, without_device}
-use Rattle.pm_world.specs.Attached.{Attached}
-use Rattle.pm_world.specs.Downward.{times}
-use Rattle.pm_world.specs.Links.{changed_by, is_recorded, on_presence}
-use Rattle.pm_world.specs.Places.{Places, Place, IsOrderly, is_config, new_world_in, opening, with_device, with_downward, with_host, with_multiplier, with_upward}
-use Rattle.pm_world.specs.Removals.{IsSeen, TellsRemovals, highest_gone, is_up, recorded_at}
+use Rattle.pm_world.specs.{Attached.Attached, Downward.times, Links.{changed_by, is_recorded, on_presence}}
+use Rattle.pm_world.specs.Places.{Places, Place, IsOrderly, is_config, new_world_in, opening, with_device, with_downward, with_host, with_multiplier}
+use Rattle.pm_world.specs.{Places.with_upward, Removals.{IsSeen, TellsRemovals, highest_gone, is_up, recorded_at}}
 use Rattle.pm_world.specs.Traffic.{is_removed, is_took, taken}
-use Rattle.pm_world.specs.Rules.{CameActs, CameRule, DiskSendActs, DiskSendRule, DiskTakeRule, GoneActs, GoneRule, InjectActs, InjectRule, OnDevice, Outcome, PmDownRule, PmFromDeviceRule, PmFromHostRule, PmPresenceRule, PmUpRule, HostTakeRule, HostPushRule, TickRule, SubmitRule, PollRule, PutRule, Rule, Run, came_refusal, gone_refusal, largest, recorded}
-use Rattle.pm_world.specs.declared.link.Change.{Change}
+use Rattle.pm_world.specs.Rules.{CameActs, CameRule, DiskSendActs, DiskSendRule, DiskTakeRule, GoneActs, GoneRule, InjectActs, InjectRule, OnDevice}
+use Rattle.pm_world.specs.Rules.{Outcome, PmDownRule, PmFromDeviceRule, PmFromHostRule, PmPresenceRule, PmUpRule, HostTakeRule, HostPushRule}
+use Rattle.pm_world.specs.Rules.{TickRule, SubmitRule, PollRule, PutRule, Rule, Run, came_refusal, gone_refusal, largest, recorded}
+use Rattle.pm_world.specs.declared.{link.Change.Change, step.Config.Config, step.Step.Step, step.Answer.Answer, step.StepError.StepError}
 use Rattle.pm_world.specs.declared.link.Change.TheVariants as change
-use Rattle.pm_world.specs.declared.step.Config.{Config}
-use Rattle.pm_world.specs.declared.step.Step.{Step}
 use Rattle.pm_world.specs.declared.step.Step.TheVariants as step
-use Rattle.pm_world.specs.declared.step.Answer.{Answer}
 use Rattle.pm_world.specs.declared.step.Answer.TheVariants as answer
-use Rattle.pm_world.specs.declared.step.StepError.{StepError}
 use Rattle.pm_world.specs.declared.step.StepError.TheVariants as error
-use Rattle.pm_world.proofs.steps.Lists.{slice_get-set_same, slice_get-set_other}
-use Rattle.pm_world.proofs.steps.Openings.{port_opening}
-use Rattle.pm_world.proofs.upward.Law.{in_parts, nothing_after, run_append}
-use Rattle.pm_world.proofs.upward.FrameMoves.{Moves, rule_moves}
+use Rattle.pm_world.proofs.steps.{Lists.{slice_get-set_same, slice_get-set_other}, Openings.port_opening}
+use Rattle.pm_world.proofs.upward.{Law.{in_parts, nothing_after, run_append}, FrameMoves.{Moves, rule_moves}}
 use Rattle.pm_world.proofs.steps.Orderly.{known, roomy, device_roomy, down_roomy, heard_roomy, up_roomy, opening_orderly, orderly_after, run_orderly}
 use Rattle.pm_world.proofs.steps.Steps.{at_device, at_both}
 
@@ -283,12 +270,6 @@ place_records n place (answer.Gone port conn) after k is led =
       led = posted_led place after (change.Gone conn) k is.3 led (were ∙ ap Some (sym is.2)) (rw (is.4, is.5) (refl, led.stands.1 ∙ sym is.2));
     }
 place_records n place (answer.Presence port) after k is led = absurd is
-place_records n place answer.Idle after k is led = still n (Some place) k answer.Idle (Some after) k (record { came = refl; recorded = refl }) (seat_place place after is) refl led
-place_records n place answer.Blocked after k is led = still n (Some place) k answer.Blocked (Some after) k (record { came = refl; recorded = refl }) (seat_place place after is) refl led
-place_records n place (answer.Sent port conn number bytes) after k is led =
-    still n (Some place) k (answer.Sent port conn number bytes) (Some after) k (record { came = refl; recorded = refl }) (seat_place place after is) refl led
-place_records n place (answer.DiskTook port dropped) after k is led =
-    still n (Some place) k (answer.DiskTook port dropped) (Some after) k (record { came = refl; recorded = refl }) (seat_place place after is) refl led
 place_records n place a after k is led = still n (Some place) k a (Some after) k (record { came = refl; recorded = refl }) (seat_place place after is) refl led
 
 -- at another port nothing is told

@@ -1,6 +1,4 @@
-use Rattle.disk_recovery.proofs.both_ends.Beginnings.{flush_begins}
-use Rattle.disk_recovery.proofs.both_ends.EndLemmas.{ends_go_on}
-use Rattle.disk_recovery.proofs.both_ends.FloorLemmas.{floors_rise}
+use Rattle.disk_recovery.proofs.both_ends.{Beginnings.flush_begins, EndLemmas.ends_go_on, FloorLemmas.floors_rise}
 use Rattle.disk_recovery.proofs.laws.ends_go_on.Goals as goal
 
 pub returns-clause-begins : goal.returns-clause-begins

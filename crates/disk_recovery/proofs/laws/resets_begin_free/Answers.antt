@@ -1,5 +1,4 @@
-use Rattle.disk_recovery.proofs.together.TogetherBegins.{spoilt_is_free}
-use Rattle.disk_recovery.proofs.together.TogetherParts.{calm_turns_go_on}
+use Rattle.disk_recovery.proofs.together.{TogetherBegins.spoilt_is_free, TogetherParts.calm_turns_go_on}
 use Rattle.disk_recovery.proofs.laws.resets_begin_free.Goals as goal
 
 pub returns-clause-turns : goal.returns-clause-turns

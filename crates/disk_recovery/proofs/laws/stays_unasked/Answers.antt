@@ -1,5 +1,4 @@
-use Rattle.disk_recovery.proofs.unasked.FaultyLemmas.{faults_set_aside}
-use Rattle.disk_recovery.proofs.unasked.UnaskedLemmas.{stays_unasked}
+use Rattle.disk_recovery.proofs.unasked.{FaultyLemmas.faults_set_aside, UnaskedLemmas.stays_unasked}
 use Rattle.disk_recovery.proofs.laws.stays_unasked.Goals as goal
 
 pub returns-clause-stays : goal.returns-clause-stays

@@ -1,5 +1,4 @@
-use Rattle.disk_simulation.proofs.link.WatchedLemmas.{watched_is_ahead, watches_on}
-use Rattle.disk_simulation.proofs.link.WatchingLemmas.{watches_what_is_fine}
+use Rattle.disk_simulation.proofs.link.{WatchedLemmas.{watched_is_ahead, watches_on}, WatchingLemmas.watches_what_is_fine}
 use Rattle.disk_simulation.proofs.laws.disks_are_watched_to_their_errors.Goals as goal
 
 pub returns-clause-goes_on : goal.returns-clause-goes_on

@@ -1,6 +1,4 @@
-use Rattle.disk_simulation.proofs.anew.HostedLemmas.{hosted_is_kept}
-use Rattle.disk_simulation.proofs.joined.MarkedLemmas.{marks_tell_nothing}
-use Rattle.disk_simulation.proofs.joined.SizeLemmas.{next_short}
+use Rattle.disk_simulation.proofs.{anew.HostedLemmas.hosted_is_kept, joined.{MarkedLemmas.marks_tell_nothing, SizeLemmas.next_short}}
 use Rattle.disk_simulation.proofs.laws.hosts_are_careful.Goals as goal
 
 pub returns-clause-kept : goal.returns-clause-kept

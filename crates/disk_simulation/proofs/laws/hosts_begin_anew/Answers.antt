@@ -1,5 +1,4 @@
-use Rattle.disk_simulation.proofs.anew.AnewJoins.{hosted_on_is_kept, hosted_since_new, opens_after}
-use Rattle.disk_simulation.proofs.anew.SignsLemmas.{signature_is_none}
+use Rattle.disk_simulation.proofs.anew.{AnewJoins.{hosted_on_is_kept, hosted_since_new, opens_after}, SignsLemmas.signature_is_none}
 use Rattle.disk_simulation.proofs.together.TogetherLemmas.{opens_the_same}
 use Rattle.disk_simulation.proofs.laws.hosts_begin_anew.Goals as goal
 

@@ -1,6 +1,4 @@
-use Rattle.disk_simulation.proofs.link.LineLemmas.{lines_go_on}
-use Rattle.disk_simulation.proofs.link.LooseLemmas.{lines_begin, plugging_leaves_reset}
-use Rattle.disk_simulation.proofs.link.MarkedFiles.{marks_ask_nothing}
+use Rattle.disk_simulation.proofs.link.{LineLemmas.lines_go_on, LooseLemmas.{lines_begin, plugging_leaves_reset}, MarkedFiles.marks_ask_nothing}
 use Rattle.disk_simulation.proofs.laws.lines_lead_to_beginning_anew.Goals as goal
 
 pub returns-clause-begins : goal.returns-clause-begins

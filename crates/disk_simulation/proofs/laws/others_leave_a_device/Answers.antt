@@ -1,5 +1,4 @@
-use Rattle.disk_simulation.proofs.others.CalmLemmas.{calm_runs_keep}
-use Rattle.disk_simulation.proofs.others.ElsewhereLemmas.{others_leave_device}
+use Rattle.disk_simulation.proofs.others.{CalmLemmas.calm_runs_keep, ElsewhereLemmas.others_leave_device}
 use Rattle.disk_simulation.proofs.laws.others_leave_a_device.Goals as goal
 
 pub returns-clause-others : goal.returns-clause-others

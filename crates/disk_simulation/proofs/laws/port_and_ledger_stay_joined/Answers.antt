@@ -1,5 +1,4 @@
-use Rattle.disk_simulation.proofs.joined.IssueJoins.{joins_issues, stays_joined}
-use Rattle.disk_simulation.proofs.joined.JoinLemmas.{joins_frames}
+use Rattle.disk_simulation.proofs.joined.{IssueJoins.{joins_issues, stays_joined}, JoinLemmas.joins_frames}
 use Rattle.disk_simulation.proofs.joined.OrderJoins.{joins_commands, joins_data, joins_others}
 use Rattle.disk_simulation.proofs.laws.port_and_ledger_stay_joined.Goals as goal
 

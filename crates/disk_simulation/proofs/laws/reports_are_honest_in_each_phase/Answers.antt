@@ -1,5 +1,4 @@
-use Rattle.disk_simulation.proofs.phases.CalmOn.{calm_leaves_together}
-use Rattle.disk_simulation.proofs.phases.PhaseLemmas.{each_done, takes_in_each_phase}
+use Rattle.disk_simulation.proofs.phases.{CalmOn.calm_leaves_together, PhaseLemmas.{each_done, takes_in_each_phase}}
 use Rattle.disk_simulation.proofs.laws.reports_are_honest_in_each_phase.Goals as goal
 
 pub returns-clause-done : goal.returns-clause-done

@@ -1,5 +1,4 @@
-use Rattle.disk_simulation.proofs.events.MoveLemmas.{activates_keep, setups_go_on}
-use Rattle.disk_simulation.proofs.events.SameLemmas.{setups_start}
+use Rattle.disk_simulation.proofs.events.{MoveLemmas.{activates_keep, setups_go_on}, SameLemmas.setups_start}
 use Rattle.disk_simulation.proofs.laws.setups_keep_the_same.Goals as goal
 
 pub returns-clause-starts : goal.returns-clause-starts

@@ -1,5 +1,4 @@
-use Rattle.disk_simulation.proofs.task_files.FileLaws.{both_have_begun, files_stay_fine, nothing_is_refused}
-use Rattle.disk_simulation.proofs.task_files.FilesLeft.{files_are_left}
+use Rattle.disk_simulation.proofs.task_files.{FileLaws.{both_have_begun, files_stay_fine, nothing_is_refused}, FilesLeft.files_are_left}
 use Rattle.disk_simulation.proofs.link.SentLemmas.{of_disk}
 use Rattle.disk_simulation.proofs.laws.task_files_stay_fine.Goals as goal
 

@@ -1,6 +1,4 @@
-use Rattle.hba_driver.proofs.recovers.ApartTakes.{takes_lead}
-use Rattle.hba_driver.proofs.recovers.ApartPushes.{is_alone, pushes_on, stays_on}
-use Rattle.hba_driver.proofs.recovers.ApartTicks.{ticks_lead}
+use Rattle.hba_driver.proofs.recovers.{ApartTakes.takes_lead, ApartPushes.{is_alone, pushes_on, stays_on}, ApartTicks.ticks_lead}
 use Rattle.hba_driver.proofs.recovers.UnsoughtLemmas.{stays_unsought}
 use Rattle.hba_driver.proofs.laws.devices_are_apart.Goals as goal
 

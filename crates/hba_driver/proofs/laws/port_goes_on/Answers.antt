@@ -1,5 +1,4 @@
-use Rattle.hba_driver.proofs.goes_on.GoingLemmas.{ports_go_on}
-use Rattle.hba_driver.proofs.goes_on.StopLemmas.{faults_never_stop}
+use Rattle.hba_driver.proofs.goes_on.{GoingLemmas.ports_go_on, StopLemmas.faults_never_stop}
 use Rattle.hba_driver.proofs.laws.port_goes_on.Goals as goal
 
 pub returns-clause-hears : goal.returns-clause-hears

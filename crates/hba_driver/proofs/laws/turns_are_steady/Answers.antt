@@ -1,6 +1,5 @@
 use Rattle.std.proofs.Common.{inl, inr}
-use Rattle.hba_driver.proofs.steady.BesideLemmas.{tick_beside}
-use Rattle.hba_driver.proofs.steady.RowLemmas.{flush_row, opens_row, rows_stay}
+use Rattle.hba_driver.proofs.steady.{BesideLemmas.tick_beside, RowLemmas.{flush_row, opens_row, rows_stay}}
 use Rattle.hba_driver.proofs.steady.SteadyTurns.{flush_steady, opens_steady, turn_steady}
 use Rattle.hba_driver.proofs.laws.turns_are_steady.Goals as goal
 

@@ -1,6 +1,5 @@
 use Rattle.std.proofs.Common.{◌≡◌, ℕ, ◌<◌, ◌≤◌, get_or, length}
-use Rattle.hba_driver.specs.declared.plan.Device.TheVariants.{Absent}
-use Rattle.hba_driver.specs.Paths.{reset_if_there}
+use Rattle.hba_driver.specs.{declared.plan.Device.TheVariants.Absent, Paths.reset_if_there}
 use Rattle.hba_driver.proofs.path.reset_all.Given as goal
 
 -- those so far are looked at, and the others are as they were

@@ -1,6 +1,5 @@
 use Rattle.std.proofs.Common.{arith, sym, ◌∙◌, below_more}
-use Rattle.hba_driver.specs.Drivers.{holds}
-use Rattle.hba_driver.specs.Requests.{blocks}
+use Rattle.hba_driver.specs.{Drivers.holds, Requests.blocks}
 use Rattle.hba_driver.proofs.calls.ScanLemmas.{none_passes, one_passes}
 use Rattle.hba_driver.proofs.scan.are_blocked.Goals as goal
 

@@ -1,6 +1,5 @@
 use Rattle.std.proofs.Common.{◌≡◌, ℕ, ◌<◌, false}
-use Rattle.hba_driver.specs.Drivers.{entry_at, holds}
-use Rattle.hba_driver.specs.Requests.{blocks}
+use Rattle.hba_driver.specs.{Drivers.{entry_at, holds}, Requests.blocks}
 use Rattle.hba_driver.proofs.scan.are_blocked.Given as goal
 
 -- none so far

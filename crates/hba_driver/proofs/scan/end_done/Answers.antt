@@ -1,7 +1,5 @@
 use Rattle.std.proofs.Common.{sym, ◌∙◌}
-use Rattle.hba_driver.specs.declared.request.Outcome.TheVariants.{Done}
-use Rattle.hba_driver.specs.declared.slot.Phase.TheVariants.{Ended}
-use Rattle.hba_driver.specs.Ticks.{any_done, is_done}
+use Rattle.hba_driver.specs.{declared.{request.Outcome.TheVariants.Done, slot.Phase.TheVariants.Ended}, Ticks.{any_done, is_done}}
 use Rattle.hba_driver.proofs.calls.ScanLemmas.{none_rephased}
 use Rattle.hba_driver.proofs.scan.end_done.Goals as goal
 

@@ -1,6 +1,5 @@
 use Rattle.std.proofs.Common.{arith, sym, ◌∙◌, below_more}
-use Rattle.hba_driver.specs.Drivers.{holds}
-use Rattle.hba_driver.specs.Turns.{is_issued_of_other}
+use Rattle.hba_driver.specs.{Drivers.holds, Turns.is_issued_of_other}
 use Rattle.hba_driver.proofs.calls.ScanLemmas.{none_passes, one_passes}
 use Rattle.hba_driver.proofs.scan.has_issued_other.Goals as goal
 

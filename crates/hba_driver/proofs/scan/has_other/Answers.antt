@@ -1,6 +1,5 @@
 use Rattle.std.proofs.Common.{arith, sym, ◌∙◌, below_more}
-use Rattle.hba_driver.specs.Drivers.{holds}
-use Rattle.hba_driver.specs.Submits.{is_open_of_other}
+use Rattle.hba_driver.specs.{Drivers.holds, Submits.is_open_of_other}
 use Rattle.hba_driver.proofs.calls.ScanLemmas.{none_passes, one_passes}
 use Rattle.hba_driver.proofs.scan.has_other.Goals as goal
 

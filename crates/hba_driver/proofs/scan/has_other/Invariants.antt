@@ -1,6 +1,5 @@
 use Rattle.std.proofs.Common.{◌≡◌, ℕ, ◌<◌, false}
-use Rattle.hba_driver.specs.Drivers.{entry_at, holds}
-use Rattle.hba_driver.specs.Submits.{is_open_of_other}
+use Rattle.hba_driver.specs.{Drivers.{entry_at, holds}, Submits.is_open_of_other}
 use Rattle.hba_driver.proofs.scan.has_other.Given as goal
 
 -- none so far

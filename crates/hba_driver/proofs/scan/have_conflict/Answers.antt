@@ -1,7 +1,6 @@
 use Rattle.std.proofs.Common.{arith, ap, sym, ◌∙◌, below_more, List}
 use Rattle.host_memory.specs.declared.table.Prd.{Prd}
-use Rattle.hba_driver.specs.Drivers.{entry_at}
-use Rattle.hba_driver.specs.Requests.{conflicts}
+use Rattle.hba_driver.specs.{Drivers.entry_at, Requests.conflicts}
 use Rattle.hba_driver.proofs.calls.ScanLemmas.{none_passes, one_passes}
 use Rattle.hba_driver.proofs.scan.have_conflict.Goals as goal
 

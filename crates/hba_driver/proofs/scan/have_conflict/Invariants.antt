@@ -1,6 +1,5 @@
 use Rattle.std.proofs.Common.{◌≡◌, ℕ, ◌<◌, false}
-use Rattle.hba_driver.specs.Drivers.{entry_at}
-use Rattle.hba_driver.specs.Requests.{conflicts}
+use Rattle.hba_driver.specs.{Drivers.entry_at, Requests.conflicts}
 use Rattle.hba_driver.proofs.scan.have_conflict.Given as goal
 
 -- none so far

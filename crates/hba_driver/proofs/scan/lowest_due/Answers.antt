@@ -1,7 +1,6 @@
 use Rattle.std.proofs.Common.{arith, sym, ◌∙◌, below_more}
 use Rattle.slots.proofs.Door.{lowest_found, lowest_none}
-use Rattle.hba_driver.specs.Drivers.{device_at, entry_at}
-use Rattle.hba_driver.specs.Turns.{is_ready, may_issue}
+use Rattle.hba_driver.specs.{Drivers.{device_at, entry_at}, Turns.{is_ready, may_issue}}
 use Rattle.hba_driver.proofs.calls.MaskLemmas.{not_waiting}
 use Rattle.hba_driver.proofs.scan.lowest_due.Goals as goal
 

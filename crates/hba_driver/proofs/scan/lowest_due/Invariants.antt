@@ -1,6 +1,5 @@
 use Rattle.std.proofs.Common.{◌≡◌, ℕ, ◌<◌, false}
-use Rattle.hba_driver.specs.Drivers.{entry_at}
-use Rattle.hba_driver.specs.Turns.{may_issue}
+use Rattle.hba_driver.specs.{Drivers.entry_at, Turns.may_issue}
 use Rattle.hba_driver.proofs.scan.lowest_due.Given as goal
 
 -- none so far

@@ -1,7 +1,6 @@
 use Rattle.std.proofs.Common.{arith, sym, ◌∙◌, below_more}
 use Rattle.slots.proofs.Door.{lowest_found, lowest_none}
-use Rattle.hba_driver.specs.Drivers.{entry_at}
-use Rattle.hba_driver.specs.Requests.{is_free, lowest_free}
+use Rattle.hba_driver.specs.{Drivers.entry_at, Requests.{is_free, lowest_free}}
 use Rattle.hba_driver.proofs.scan.lowest_free.Goals as goal
 
 pub returns-then-is_free-clause-value : goal.returns-then-is_free-clause-value

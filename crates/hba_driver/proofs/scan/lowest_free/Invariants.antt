@@ -1,6 +1,5 @@
 use Rattle.std.proofs.Common.{◌≡◌, ℕ, ◌<◌, false}
-use Rattle.hba_driver.specs.Drivers.{entry_at}
-use Rattle.hba_driver.specs.Requests.{is_free}
+use Rattle.hba_driver.specs.{Drivers.entry_at, Requests.is_free}
 use Rattle.hba_driver.proofs.scan.lowest_free.Given as goal
 
 -- none so far

@@ -1,7 +1,6 @@
 use Rattle.std.proofs.Common.{◌+◌, arith, subst, sym, ◌∙◌, List, Option, None}
 use Rattle.hba_fbs.specs.Between.{FilledTo}
-use Rattle.hba_driver.specs.Drivers.{Entry}
-use Rattle.hba_driver.specs.Ticks.{is_in}
+use Rattle.hba_driver.specs.{Drivers.Entry, Ticks.is_in}
 use Rattle.hba_driver.proofs.calls.ScanLemmas.{rephase_at, rephase_done, rephase_step}
 use Rattle.hba_driver.proofs.scan.rephase.Goals as goal
 

@@ -1,5 +1,4 @@
-use Rattle.pm_world.proofs.steps.Orderly.{reached_orderly}
-use Rattle.pm_world.proofs.paths.RunLemmas.{plugged_is_on_wire, unit_paths_go_on}
+use Rattle.pm_world.proofs.{steps.Orderly.reached_orderly, paths.RunLemmas.{plugged_is_on_wire, unit_paths_go_on}}
 use Rattle.pm_world.proofs.paths.PathLemmas.{dropped_never_comes, paths_go_on}
 use Rattle.pm_world.proofs.laws.paths_go_on.Goals as goal
 

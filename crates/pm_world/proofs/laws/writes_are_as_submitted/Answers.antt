@@ -1,5 +1,4 @@
-use Rattle.pm_world.proofs.media.ReadSubmittedLemmas.{reads_bring_submitted}
-use Rattle.pm_world.proofs.media.SubmittedLemmas.{sent_as_submitted, written_as_submitted}
+use Rattle.pm_world.proofs.media.{ReadSubmittedLemmas.reads_bring_submitted, SubmittedLemmas.{sent_as_submitted, written_as_submitted}}
 use Rattle.pm_world.proofs.laws.writes_are_as_submitted.Goals as goal
 
 pub returns-clause-sent : goal.returns-clause-sent

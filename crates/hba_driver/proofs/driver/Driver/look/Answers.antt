@@ -1,6 +1,4 @@
-use Rattle.hba_driver.specs.declared.request.Outcome.TheVariants.{Done}
-use Rattle.hba_driver.specs.declared.slot.Phase.TheVariants.{Ended}
-use Rattle.hba_driver.specs.Drivers.{AreRequests, Entry}
+use Rattle.hba_driver.specs.{declared.{request.Outcome.TheVariants.Done, slot.Phase.TheVariants.Ended}, Drivers.{AreRequests, Entry}}
 use Rattle.hba_driver.proofs.calls.RequestLemmas.{requests_logged, requests_rephased}
 use Rattle.std.proofs.Common.{List, Option, subst, sym}
 use Rattle.hba_driver.proofs.driver.Driver.look.Goals as goal

@@ -1,13 +1,9 @@
 use Rattle.std.proofs.Common.{◌≡◌, ◌≢◌, ◌≤◌, ◌<◌, ◌*◌, ◌+◌, List, length, All, ap, sym, ◌∙◌, arith, inr, refl, subst, Option, None}
 use Rattle.std.specs.Prelude.{is_none}
 use Rattle.std.proofs.lemmas.Bool.{true≢false}
-use Rattle.host_memory.specs.Writing.{CanBeWritten}
-use Rattle.host_memory.specs.declared.table.Prd.{Prd}
-use Rattle.hba_driver.specs.Drivers.{AreRequests, Driver, Entry, entry_at}
-use Rattle.hba_driver.specs.Requests.{lowest_free}
-use Rattle.hba_driver.proofs.calls.SubmitLemmas.{can_be_written, is_taken, no_conflict}
-use Rattle.hba_driver.proofs.calls.RequestLemmas.{requests_taken}
-use Rattle.host_memory.specs.Reading.{share_with}
+use Rattle.host_memory.specs.{Writing.CanBeWritten, declared.table.Prd.Prd, Reading.share_with}
+use Rattle.hba_driver.specs.{Drivers.{AreRequests, Driver, Entry, entry_at}, Requests.lowest_free}
+use Rattle.hba_driver.proofs.calls.{SubmitLemmas.{can_be_written, is_taken, no_conflict}, RequestLemmas.requests_taken}
 use Rattle.hba_driver.proofs.driver.Driver.submit.Goals as goal
 
 pub unreachable-requires : goal.unreachable-requires

@@ -1,8 +1,6 @@
 use Rattle.std.proofs.Common.{ap, sym, ◌∙◌, Option}
-use Rattle.hba_driver.specs.declared.turn.Act.{Act}
-use Rattle.hba_driver.specs.Ticks.{acted}
-use Rattle.hba_driver.proofs.calls.EffectLemmas.{none_acts}
-use Rattle.hba_driver.proofs.calls.RestLemmas.{acts_rests}
+use Rattle.hba_driver.specs.{declared.turn.Act.Act, Ticks.acted}
+use Rattle.hba_driver.proofs.calls.{EffectLemmas.none_acts, RestLemmas.acts_rests}
 use Rattle.hba_driver.proofs.driver.Driver.tick.Goals as goal
 
 pub returns-clause-rests : goal.returns-clause-rests

@@ -1,7 +1,6 @@
 use Rattle.std.proofs.Common.{◌≡◌, ℕ, List, ap, refl, ◌∙◌}
 use Rattle.fis_view.specs.Seen.{seen}
-use Rattle.hba_driver.specs.Seeing.{Sight}
-use Rattle.hba_driver.specs.Sights.{answer_in, sight_of}
+use Rattle.hba_driver.specs.{Seeing.Sight, Sights.{answer_in, sight_of}}
 use Rattle.hba_driver.proofs.sight.Sight.answer.Goals as goal
 
 pub returns : goal.returns

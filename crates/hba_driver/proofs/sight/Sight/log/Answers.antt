@@ -1,6 +1,5 @@
 use Rattle.std.proofs.Common.{length, ap, arith, ◌∙◌}
-use Rattle.hba_driver.specs.Seeing.{Sight}
-use Rattle.hba_driver.specs.Sights.{log_in, sight_of}
+use Rattle.hba_driver.specs.{Seeing.Sight, Sights.{log_in, sight_of}}
 use Rattle.hba_driver.proofs.sight.Sight.log.Goals as goal
 
 pub error_log-requires : goal.error_log-requires

@@ -1,6 +1,5 @@
 use Rattle.std.proofs.Common.{ap, ◌∙◌}
-use Rattle.hba_driver.specs.Seeing.{Sight}
-use Rattle.hba_driver.specs.Sights.{sight_of}
+use Rattle.hba_driver.specs.{Seeing.Sight, Sights.sight_of}
 use Rattle.hba_driver.proofs.sight.Sight.notified.Goals as goal
 
 pub returns : goal.returns

@@ -1,7 +1,6 @@
 use Rattle.std.proofs.Common.{ap, sym, false, ◌∙◌}
 use Rattle.std.specs.Prelude.{slice_index_or}
-use Rattle.hba_driver.specs.Seeing.{Sight}
-use Rattle.hba_driver.specs.Sights.{sight_of}
+use Rattle.hba_driver.specs.{Seeing.Sight, Sights.sight_of}
 use Rattle.hba_driver.proofs.calls.SightLemmas.{unsigned_past}
 use Rattle.hba_driver.proofs.sight.Sight.signed.Goals as goal
 

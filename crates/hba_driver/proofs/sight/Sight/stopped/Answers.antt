@@ -1,7 +1,6 @@
 use Rattle.std.proofs.Common.{ℕ, ap, ◌∙◌}
 use Rattle.slots.specs.Slots.{has_bit}
-use Rattle.hba_driver.specs.Seeing.{Sight}
-use Rattle.hba_driver.specs.Sights.{px_sntf, shown, sight_of, stopped_by}
+use Rattle.hba_driver.specs.{Seeing.Sight, Sights.{px_sntf, shown, sight_of, stopped_by}}
 use Rattle.hba_driver.proofs.sight.Sight.stopped.Goals as goal
 
 pub returns : goal.returns

@@ -1,6 +1,5 @@
 use Rattle.std.proofs.Common.{length, ap, arith, ◌∙◌}
-use Rattle.hba_driver.specs.Seeing.{Sight}
-use Rattle.hba_driver.specs.Sights.{is_usable, sight_of}
+use Rattle.hba_driver.specs.{Seeing.Sight, Sights.{is_usable, sight_of}}
 use Rattle.hba_driver.proofs.sight.Sight.usable.Goals as goal
 
 pub is_usable-requires : goal.is_usable-requires

@@ -1,8 +1,5 @@
 use Rattle.std.proofs.Common.{◌≡◌, false, Option, Some, take, ap, sym, ◌∙◌}
-use Rattle.hba_driver.specs.Spans.{holds_some}
-use Rattle.hba_driver.specs.Drivers.{entry_of}
-use Rattle.hba_driver.specs.Requests.{is_used_by}
-use Rattle.hba_driver.specs.declared.slot.Head.{Head}
+use Rattle.hba_driver.specs.{Spans.holds_some, Drivers.entry_of, Requests.is_used_by, declared.slot.Head.Head}
 use Rattle.hba_driver.proofs.calls.SpanLemmas.{none_among}
 use Rattle.hba_driver.proofs.slot.Slot.is_used.Goals as goal
 

@@ -1,6 +1,5 @@
 use Rattle.std.proofs.Common.{◌≡◌, true, not, List, ap, sym, ◌∙◌}
-use Rattle.host_memory.specs.declared.table.Prd.{Prd}
-use Rattle.host_memory.specs.Reading.{share_with}
+use Rattle.host_memory.specs.{declared.table.Prd.Prd, Reading.share_with}
 use Rattle.hba_driver.specs.Spans.{are_apart}
 use Rattle.hba_driver.proofs.calls.SpanLemmas.{apart_share_none}
 use Rattle.hba_driver.proofs.span.Buffers.share_with.Goals as goal

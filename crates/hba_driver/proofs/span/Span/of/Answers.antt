@@ -1,6 +1,5 @@
 use Rattle.std.proofs.Common.{◌+◌, take, subst, sym}
-use Rattle.hba_driver.specs.declared.span.Span.{Span}
-use Rattle.hba_driver.specs.Spans.{Spans}
+use Rattle.hba_driver.specs.{declared.span.Span.Span, Spans.Spans}
 use Rattle.hba_driver.proofs.calls.SpanLemmas.{spans_more}
 use Rattle.hba_driver.proofs.span.Span.of.Goals as goal
 

@@ -1,7 +1,6 @@
 use Rattle.std.proofs.Common.{ap, ◌∙◌}
 use Rattle.std.specs.Option.{is_some}
-use Rattle.hba_driver.specs.Drivers.{entry_at, holds}
-use Rattle.hba_driver.specs.Ticks.{any_done, is_done}
+use Rattle.hba_driver.specs.{Drivers.{entry_at, holds}, Ticks.{any_done, is_done}}
 use Rattle.hba_driver.proofs.calls.MaskLemmas.{done_bits, lowest_of, past_none}
 use Rattle.hba_driver.proofs.taken.Slots.any_done.Goals as goal
 

@@ -1,5 +1,4 @@
-use Rattle.hba_driver.proofs.calls.MaskLemmas.{no_masks}
-use Rattle.hba_driver.proofs.calls.ScanLemmas.{all_free}
+use Rattle.hba_driver.proofs.calls.{MaskLemmas.no_masks, ScanLemmas.all_free}
 use Rattle.hba_driver.proofs.taken.Slots.empty.Goals as goal
 
 pub returns : goal.returns

@@ -1,6 +1,5 @@
 use Rattle.std.proofs.Common.{ap, ◌∙◌}
-use Rattle.hba_driver.specs.Drivers.{entry_at, has_ended, holds}
-use Rattle.hba_driver.specs.Submits.{lowest_ended}
+use Rattle.hba_driver.specs.{Drivers.{entry_at, has_ended, holds}, Submits.lowest_ended}
 use Rattle.hba_driver.proofs.calls.MaskLemmas.{lowest_inside, lowest_of, past_none}
 use Rattle.hba_driver.proofs.taken.Slots.lowest_ended.Goals as goal
 

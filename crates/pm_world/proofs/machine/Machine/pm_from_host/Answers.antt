@@ -1,6 +1,5 @@
 use Rattle.std.proofs.Common.{sym, ◌∙◌, refl}
-use Rattle.pm_world.specs.Places.{Places, with_multiplier, with_downward}
-use Rattle.pm_world.specs.declared.step.Step.TheVariants.{PmFromHost}
+use Rattle.pm_world.specs.{Places.{Places, with_multiplier, with_downward}, declared.step.Step.TheVariants.PmFromHost}
 use Rattle.pm_world.proofs.steps.Refusals.{stays_orderly}
 use Rattle.pm_world.proofs.machine.Machine.pm_from_host.Goals as goal
 

@@ -1,6 +1,5 @@
 use Rattle.std.proofs.Common.{sym, ◌∙◌, refl}
-use Rattle.pm_world.specs.Places.{Places, with_multiplier, with_upward}
-use Rattle.pm_world.specs.declared.step.Step.TheVariants.{PmUp}
+use Rattle.pm_world.specs.{Places.{Places, with_multiplier, with_upward}, declared.step.Step.TheVariants.PmUp}
 use Rattle.pm_world.proofs.steps.Refusals.{stays_orderly}
 use Rattle.pm_world.proofs.machine.Machine.pm_up.Goals as goal
 

@@ -1,7 +1,6 @@
 use Rattle.std.proofs.Common.{◌≡◌, ap, ◌∙◌}
 use Rattle.std.specs.Prelude.{ℕ, length}
-use Rattle.pm_world.specs.Places.{Places}
-use Rattle.pm_world.specs.Rules.{put_refusal}
+use Rattle.pm_world.specs.{Places.Places, Rules.put_refusal}
 use Rattle.pm_world.proofs.machine.Machine.refusal.Goals as goal
 
 pub returns-in-Put : goal.returns-in-Put

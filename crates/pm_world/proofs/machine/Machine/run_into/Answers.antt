@@ -1,16 +1,10 @@
 use Rattle.std.proofs.Common.{◌≡◌, ◌+◌, ◌<◌, ◌++◌, List, [], ◌∷◌, Some, None, length, take, drop, arith, refl, sym, ap, ◌∙◌, rules, subst}
 use Rattle.std.specs.Prelude.{Ok, Err, slice_get, unwrap_or}
-use Rattle.std.proofs.Math.Seq.{drop-append_seam, drop-length, take-append_seam}
-use Rattle.std.proofs.lemmas.List.{append_assoc, take-append-drop, take_more, take_all}
+use Rattle.std.proofs.{Math.Seq.{drop-append_seam, drop-length, take-append_seam}, lemmas.List.{append_assoc, take-append-drop, take_more, take_all}}
 use Rattle.std.proofs.lemmas.Option.{slice_get_read}
-use Rattle.pm_world.specs.Places.{IsOrderly}
-use Rattle.pm_world.specs.Rules.{Rule, Run, refusal}
-use Rattle.pm_world.specs.declared.step.Answer.{Answer}
-use Rattle.pm_world.specs.declared.step.Step.{Step}
+use Rattle.pm_world.specs.{Places.IsOrderly, Rules.{Rule, Run, refusal}, declared.{step.Answer.Answer, step.Step.Step}}
 use Rattle.pm_world.specs.declared.step.StepError.TheVariants.{OutOfMemory}
-use Rattle.pm_world.proofs.upward.Law.{run_more}
-use Rattle.pm_world.proofs.reached.Laws.{obeys}
-use Rattle.pm_world.proofs.steps.Lists.{none_first}
+use Rattle.pm_world.proofs.{upward.Law.run_more, reached.Laws.obeys, steps.Lists.none_first}
 use Rattle.pm_world.proofs.steps.Refused.{rule_refuses, refuses_or_wants, refusal_named}
 use Rattle.pm_world.proofs.machine.Machine.run_into.Goals as goal
 

@@ -1,7 +1,6 @@
 use Rattle.std.proofs.Common.{subst}
 use Rattle.pm_world.specs.Places.{IsOrderly}
-use Rattle.pm_world.proofs.reached.Laws.{step_obeys}
-use Rattle.pm_world.proofs.steps.Refusals.{same_where_refused}
+use Rattle.pm_world.proofs.{reached.Laws.step_obeys, steps.Refusals.same_where_refused}
 use Rattle.pm_world.proofs.machine.Machine.step.Goals as goal
 
 pub returns-clause-laws : goal.returns-clause-laws

@@ -1,10 +1,6 @@
 use Rattle.std.proofs.Common.{◌≡◌, Result, Ok, Err, true, sym, ◌∙◌, subst}
-use Rattle.std.specs.Prelude.{OnErr}
-use Rattle.std.specs.Result.{is_err}
-use Rattle.std.specs.declared.alloc.AllocError.{AllocError}
-use Rattle.pm_world.specs.Places.{Place}
-use Rattle.pm_world.specs.Rules.{TakeWants}
-use Rattle.pm_world.specs.declared.step.StepError.TheVariants.{OutOfMemory}
+use Rattle.std.specs.{Prelude.OnErr, Result.is_err, declared.alloc.AllocError.AllocError}
+use Rattle.pm_world.specs.{Places.Place, Rules.TakeWants, declared.step.StepError.TheVariants.OutOfMemory}
 use Rattle.pm_world.proofs.steps.Doing.{wants_room}
 use Rattle.pm_world.proofs.seat.Seat.disk_take.Goals as goal
 

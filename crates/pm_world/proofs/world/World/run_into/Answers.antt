@@ -1,7 +1,5 @@
 use Rattle.std.proofs.Common.{IfErr, OnOk, length, take, drop, subst}
-use Rattle.pm_world.specs.Laws.{AreLawful}
-use Rattle.pm_world.specs.Places.{Places}
-use Rattle.pm_world.specs.Rules.{Stops}
+use Rattle.pm_world.specs.{Laws.AreLawful, Places.Places, Rules.Stops}
 use Rattle.pm_world.proofs.reached.ReachedLemmas.{reached_told}
 use Rattle.pm_world.proofs.world.World.run_into.Goals as goal
 
