@@ -86,12 +86,16 @@ static void note_bytes(GefsunkAhci *s, const char *what, uint64_t at, const uint
 static void read_guest(GefsunkAhci *s, const gef_event *event)
 {
     g_autofree uint8_t *bytes = g_malloc(event->u.read.len);
+    gef_status status;
     bool is_there = pci_dma_read(PCI_DEVICE(s), event->u.read.at, bytes, event->u.read.len) == MEMTX_OK;
     if (is_there) {
         note_bytes(s, "guest", event->u.read.at, bytes, event->u.read.len);
     }
-    gefsunk_must(is_there ? gef_machine_supply(&s->machine, &event->u.read.wanted, bytes, event->u.read.len)
-                  : gef_machine_no_memory(&s->machine, &event->u.read.wanted));
+    status = is_there ? gef_machine_supply(&s->machine, &event->u.read.wanted, bytes, event->u.read.len)
+             : gef_machine_no_memory(&s->machine, &event->u.read.wanted);
+    if (status != GEF_NOT_WANTED) { /* as an event of somebody's stream may be */
+        gefsunk_must(status);
+    }
 }
 
 /* There is nothing to write any more where a reset of the link came between. */
@@ -145,14 +149,24 @@ static void do_event(GefsunkAhci *s, const gef_event *event)
     }
 }
 
-/* The next event, if there is one that can be done. What is of the guest's memory waits for bus mastering. */
+static bool is_asleep(GefsunkAhci *s)
+{
+    return pci_get_word(PCI_DEVICE(s)->config + POWER + PCI_PM_CTRL) & PCI_PM_CTRL_STATE_MASK;
+}
+
+static bool may_master(GefsunkAhci *s)
+{
+    return !is_asleep(s) && pci_get_word(PCI_DEVICE(s)->config + PCI_COMMAND) & PCI_COMMAND_MASTER;
+}
+
+/* The next event, if there is one that can be done. What is of the guest's memory waits for bus mastering, and for power. */
 static bool has_next(GefsunkAhci *s)
 {
     if (!s->has_event) {
         gefsunk_must(gef_machine_next(&s->machine, &s->event));
     }
     s->has_event = (s->event.kind == GEF_EVENT_READ_GUEST || s->event.kind == GEF_EVENT_WRITE_GUEST) &&
-                   !(pci_get_word(PCI_DEVICE(s)->config + PCI_COMMAND) & PCI_COMMAND_MASTER);
+                   !may_master(s);
     return s->event.kind != GEF_EVENT_NOTHING && !s->has_event;
 }
 
@@ -175,7 +189,9 @@ void gefsunk_run(GefsunkAhci *s)
     }
     s->is_busy = true;
     while (!rests && !may_pause(s, count)) {
-        if (has_next(s)) {
+        if (s->crowded) {
+            rests = true; /* until a medium has done something */
+        } else if (has_next(s)) {
             do_event(s, &s->event);
         } else {
             rests = !gefsunk_fis_move(s);
@@ -202,13 +218,16 @@ static uint64_t read_register(void *opaque, hwaddr at, unsigned size)
     gefsunk_must(gef_machine_read(&s->machine, at, size, &value));
     note_time(s);
     gefsunk_note(s, "read %u %" PRIx64 " %0*" PRIx64 "\n", size, at, (int)(2 * size), value);
-    return at == 0 && !s->fbs ? value & ~(uint64_t)CAP_FBSS : value;
+    if (is_asleep(s)) {
+        return UINT64_MAX; /* as where nobody answers */
+    }
+    return at < 4 && !s->fbs ? value & ~((uint64_t)CAP_FBSS >> 8 * at) : value;
 }
 
 static void write_register(void *opaque, hwaddr at, uint64_t value, unsigned size)
 {
     GefsunkAhci *s = opaque;
-    if (!s->is_busy) {
+    if (!s->is_busy && !is_asleep(s)) {
         note_time(s);
         gefsunk_note(s, "write %u %" PRIx64 " %" PRIx64 "\n", size, at, value);
         gefsunk_must(gef_machine_write(&s->machine, at, size, value));
@@ -246,15 +265,16 @@ static void init_bus_class(ObjectClass *klass, void *data)
     HOTPLUG_HANDLER_CLASS(klass)->unplug = qdev_simple_device_unplug_cb;
 }
 
-/* A new machine, whose disks are those of the bus. They are there as power comes. */
+/* A new machine, whose disks are those of the bus. They are there as power comes, unless a medium has gone. */
 static void make(GefsunkAhci *s)
 {
     gefsunk_must(gef_machine_new(&s->machine, s->ports, s->port0_open));
     s->log = s->record ? freopen(s->record, "w", s->log) : s->log;
     gefsunk_note(s, "ports %u\n", s->ports);
     for (unsigned port = 0; port < MOST_PORTS; port++) {
-        if (s->disks[port]) {
-            gefsunk_must(gefsunk_put(s, s->disks[port]));
+        gef_status status = s->disks[port] ? gefsunk_put(s, s->disks[port]) : GEF_OK;
+        if (status != GEF_OK) {
+            error_report("gefsunk-ahci: port %u has no disk now: %s", port, gef_status_text(status));
         }
     }
     gefsunk_must(gef_machine_power_on(&s->machine));
@@ -308,6 +328,23 @@ static void keep_pages(void)
 #endif
 }
 
+static void leave(PCIDevice *dev)
+{
+    GefsunkAhci *s = GEFSUNK_AHCI(dev);
+    qemu_del_vm_change_state_handler(s->changes);
+    qemu_bh_delete(s->later);
+    gef_machine_free(&s->machine);
+    gefsunk_faults_load(s, "", NULL);
+    g_free(s->faults);
+    s->faults = NULL;
+    g_free(s->state);
+    g_free(s->works);
+    if (s->log) {
+        fclose(s->log);
+    }
+    msi_uninit(dev);
+}
+
 static void realize(PCIDevice *dev, Error **errp)
 {
     GefsunkAhci *s = GEFSUNK_AHCI(dev);
@@ -337,28 +374,12 @@ static void realize(PCIDevice *dev, Error **errp)
     qbus_init(&s->bus, sizeof s->bus, TYPE_GEFSUNK_BUS, DEVICE(dev), NULL);
     qbus_set_bus_hotplug_handler(&s->bus);
     s->later = qemu_bh_new_guarded(run_later, s, &DEVICE(dev)->mem_reentrancy_guard);
-    s->is_held = !runstate_is_running();
+    s->is_held = !runstate_is_running() && !runstate_check(RUN_STATE_SUSPENDED);
     s->changes = qdev_add_vm_change_state_handler(DEVICE(dev), held, s);
     make(s);
-    if (s->faults) {
-        gefsunk_faults_load(s, s->faults, errp);
+    if (s->faults && !gefsunk_faults_load(s, s->faults, errp)) {
+        leave(dev);
     }
-}
-
-static void leave(PCIDevice *dev)
-{
-    GefsunkAhci *s = GEFSUNK_AHCI(dev);
-    qemu_del_vm_change_state_handler(s->changes);
-    qemu_bh_delete(s->later);
-    gef_machine_free(&s->machine);
-    gefsunk_faults_load(s, "", NULL);
-    g_free(s->faults);
-    g_free(s->state);
-    g_free(s->works);
-    if (s->log) {
-        fclose(s->log);
-    }
-    msi_uninit(dev);
 }
 
 static char *get_faults(Object *obj, Error **errp)

@@ -20,6 +20,7 @@ OBJECT_DECLARE_SIMPLE_TYPE(GefsunkDisk, GEFSUNK_DISK)
 
 #define MOST_PORTS 15
 #define DISK_LIMIT (4u << 20) /* the most bytes that the commands of a disk hold */
+#define MOST_WORKS 256         /* that a medium has to do at once, with what resets dropped */
 #define SPARES 4              /* buffers that a disk keeps, for at most 2,048 sectors each */
 
 /* Something that a disk's medium is to do. */
@@ -66,6 +67,8 @@ struct GefsunkDisk {
     BlockConf conf;
     VMChangeStateEntry *changes;
     Works stopped; /* what goes on as the machine does, after an error */
+    unsigned works; /* what its medium has to do */
+    uint64_t sectors; /* as its port was told */
     struct {
         uint8_t *bytes;
         size_t room;
@@ -95,10 +98,12 @@ struct GefsunkAhci {
     bool has_event;        /* `event` waits for bus mastering */
     bool is_busy, is_held; /* an event is being done; none begins */
     bool is_up;            /* the interrupt line */
+    unsigned crowded;      /* disks whose media have too much to do: nothing moves meanwhile */
     VMChangeStateEntry *changes;
     /* as it is saved: the machine, and what its media have to do still */
     uint8_t *state, *works;
     uint32_t state_size, works_size;
+    uint64_t media[MOST_PORTS]; /* the sectors of each disk */
     FILE *log;             /* of a recording, or of accesses */
     GefsunkFaults *script; /* of faults, if there is one */
     /* properties */

@@ -60,6 +60,9 @@ static void free_spares(GefsunkDisk *disk)
 
 static void end_work(Work *work)
 {
+    if (work->disk->works-- == MOST_WORKS) {
+        gefsunk_controller_of(work->disk)->crowded--;
+    }
     if (work->room) {
         give_bytes(work);
     }
@@ -83,16 +86,21 @@ static gef_status told(GefsunkAhci *s, Work *work, bool is_done, uint64_t lba)
            gef_machine_answer_done(&s->machine, request);
 }
 
-/* The disk may refuse an answer, since a reset ends requests: then nobody waits for it. */
+/*
+ * The disk may refuse an answer, since a reset ends requests, or since it is of somebody's stream: then nobody waits for it. What follows
+ * is done later, and not within the backend's own turn: the guest may have it reset this function, which waits for the backend.
+ */
 void gefsunk_answer(Work *work, bool is_done, uint64_t lba)
 {
     GefsunkAhci *s = gefsunk_controller_of(work->disk);
     gef_status status = told(s, work, is_done, lba);
-    if (status != GEF_NOT_OUT && status != GEF_OTHER_DISK) {
+    if (status == GEF_NO_MEMORY) {
         gefsunk_must(status);
     }
     end_work(work);
-    gefsunk_run(s);
+    if (!s->is_busy) {
+        qemu_bh_schedule(s->later);
+    }
 }
 
 /* A discard goes on with its next range. What begins while the backend is drained would wait, and end behind that. */
@@ -118,7 +126,9 @@ static void worked(void *opaque, int ret)
     BlockErrorAction action = BLOCK_ERROR_ACTION_IGNORE;
     if (ret < 0) {
         action = blk_get_error_action(blk, is_read, -ret);
-        block_acct_failed(blk_get_stats(blk), &work->account);
+        if (action == BLOCK_ERROR_ACTION_REPORT) {
+            block_acct_failed(blk_get_stats(blk), &work->account);
+        }
         if (action == BLOCK_ERROR_ACTION_STOP) {
             QTAILQ_INSERT_TAIL(&work->disk->stopped, work, next);
         } else if (is_read) {
@@ -186,6 +196,9 @@ Work *gefsunk_new_work(GefsunkAhci *s, const gef_event *event)
     size_t len = (size_t)event->u.medium.count * BDRV_SECTOR_SIZE, filled = 0;
     work->disk = s->disks[event->port];
     work->event = *event;
+    if (++work->disk->works == MOST_WORKS) {
+        s->crowded++;
+    }
     if (len) {
         take_bytes(work, len);
         qemu_iovec_init_buf(&work->vector, work->bytes, len);
@@ -216,7 +229,7 @@ static gef_disk_profile profile_of(GefsunkDisk *disk)
 {
     return (gef_disk_profile) {
         .model = disk->model, .serial = disk->serial, .firmware = disk->firmware, .wwn = disk->wwn,
-        .sectors = blk_getlength(disk->conf.blk) / BDRV_SECTOR_SIZE,
+        .sectors = MAX(blk_getlength(disk->conf.blk), 0) / BDRV_SECTOR_SIZE,
         .physical = disk->conf.physical_block_size, .rotation = disk->rotation_rate, .depth = disk->depth,
         .trim = disk->conf.discard_granularity != 0, .limit = DISK_LIMIT,
     };
@@ -227,6 +240,7 @@ gef_status gefsunk_put(GefsunkAhci *s, GefsunkDisk *disk)
     gef_disk_profile profile = profile_of(disk);
     gef_status status = disk->fis ? gef_machine_put_device(&s->machine, disk->port) :
                         gef_machine_put_disk(&s->machine, disk->port, &profile);
+    disk->sectors = profile.sectors;
     if (status == GEF_OK) {
         gefsunk_note(s, "disk %d sectors %" PRIu64 "\n", disk->port, profile.sectors);
         gefsunk_must(gef_machine_plug(&s->machine, disk->port));
@@ -294,23 +308,32 @@ static bool has_medium(GefsunkDisk *disk, Error **errp)
     return blkconf_apply_backend_options(&disk->conf, false, true, errp);
 }
 
-/* A disk by itself is made first, and cannot be migrated. */
+/* A disk by itself cannot be migrated, and is made first. Where that fails nothing of it stays. */
 static bool is_made(GefsunkAhci *s, GefsunkDisk *disk, Error **errp)
 {
     gef_disk_profile profile = profile_of(disk);
-    gef_status status = disk->fis ? gefsunk_fis_new(disk, &profile) : GEF_OK;
+    gef_status status = GEF_OK;
+    if (disk->fis) {
+        error_setg(&disk->stays, "a disk with fis=on is not migrated");
+        if (migrate_add_blocker(disk->stays, errp) < 0) {
+            error_free(disk->stays);
+            return false;
+        }
+        status = gefsunk_fis_new(disk, &profile);
+    }
     if (status == GEF_OK) {
         status = gefsunk_put(s, disk);
     }
-    if (status != GEF_OK) {
-        error_setg(errp, "%s", gef_status_text(status));
-        return false;
+    if (status == GEF_OK) {
+        return true;
     }
+    error_setg(errp, "%s", gef_status_text(status));
     if (disk->fis) {
-        error_setg(&disk->stays, "a disk with fis=on is not migrated");
-        return migrate_add_blocker(disk->stays, errp) == 0;
+        gefsunk_fis_free(disk);
+        migrate_del_blocker(disk->stays);
+        error_free(disk->stays);
     }
-    return true;
+    return false;
 }
 
 static void realize_disk(DeviceState *dev, Error **errp)
@@ -341,12 +364,16 @@ static void unrealize_disk(DeviceState *dev)
 {
     GefsunkDisk *disk = GEFSUNK_DISK(dev);
     GefsunkAhci *s = gefsunk_controller_of(disk);
+    gef_status status;
     gefsunk_settle(s, disk);
     qemu_del_vm_change_state_handler(disk->changes);
     del_boot_device_path(dev, "/disk@0");
     s->disks[disk->port] = NULL;
     gefsunk_note(s, "gone %d\n", disk->port);
-    gefsunk_must(gef_machine_remove(&s->machine, disk->port));
+    status = gef_machine_remove(&s->machine, disk->port);
+    if (status != GEF_NOT_THERE) { /* as where its medium had gone before a reset */
+        gefsunk_must(status);
+    }
     timer_free(disk->medium.timer);
     free_spares(disk);
     if (disk->fis) {

@@ -21,7 +21,7 @@ void gefsunk_fis_free(GefsunkDisk *disk)
 {
     gefsunk_fis_drop(disk);
     timer_free(disk->link.timer);
-    gefsunk_must(gef_disk_free(&disk->link.disk));
+    gef_disk_free(&disk->link.disk);
 }
 
 void gefsunk_fis_drop(GefsunkDisk *disk)

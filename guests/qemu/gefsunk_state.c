@@ -8,6 +8,14 @@
 #include "migration/vmstate.h"
 #include "gefsunk_ahci.h"
 
+#define MOST_STATE (256u << 20) /* no state is longer */
+
+/* The sectors of the disk at a port, and by the highest bit whether it is one by itself; 0 where there is none. */
+static uint64_t medium_at(GefsunkAhci *s, unsigned port)
+{
+    return s->disks[port] ? s->disks[port]->sectors | (uint64_t)s->disks[port]->fis << 63 : 0;
+}
+
 /* The virtual machine is stopped, so of the media's work only that is left which an error stopped. */
 static int pre_save(void *opaque)
 {
@@ -20,6 +28,7 @@ static int pre_save(void *opaque)
     s->state_size = size;
     s->works_size = 0;
     for (unsigned port = 0; port < MOST_PORTS; port++) {
+        s->media[port] = medium_at(s, port);
         if (s->disks[port]) {
             QTAILQ_FOREACH(work, &s->disks[port]->stopped, next) {
                 s->works = g_realloc(s->works, s->works_size + sizeof work->event);
@@ -64,12 +73,49 @@ static gef_status restored(GefsunkAhci *s)
     return (uintptr_t)qemu_thread_join(&thread);
 }
 
+/* What was saved here goes. */
+static int pre_load(void *opaque)
+{
+    GefsunkAhci *s = opaque;
+    g_free(s->state);
+    g_free(s->works);
+    s->state = s->works = NULL;
+    return 0;
+}
+
+static bool is_state_fit(void *opaque, int version)
+{
+    GefsunkAhci *s = opaque;
+    return s->state_size <= MOST_STATE;
+}
+
+static bool are_works_fit(void *opaque, int version)
+{
+    GefsunkAhci *s = opaque;
+    return s->works_size <= MOST_STATE;
+}
+
+/* The disks here are those of the machine that was saved. */
+static bool has_media(GefsunkAhci *s)
+{
+    for (unsigned port = 0; port < MOST_PORTS; port++) {
+        if (s->media[port] != medium_at(s, port)) {
+            error_report("gefsunk-ahci: port %u has another disk here, or none", port);
+            return false;
+        }
+    }
+    return true;
+}
+
 static int post_load(void *opaque, int version)
 {
     GefsunkAhci *s = opaque;
     gef_event event = s->event; /* that waits for bus mastering, if one does */
     bool is_fit = (event.kind == GEF_EVENT_READ_GUEST || event.kind == GEF_EVENT_WRITE_GUEST) && event.u.read.len <= DISK_LIMIT;
     gef_status status;
+    if (!has_media(s)) {
+        return -EINVAL;
+    }
     gefsunk_must(gef_machine_free(&s->machine));
     status = is_fit || !s->has_event ? restored(s) : GEF_BAD_STATE;
     if (status != GEF_OK) {
@@ -89,16 +135,20 @@ static int post_load(void *opaque, int version)
 
 const VMStateDescription gefsunk_vmstate = {
     .name = TYPE_GEFSUNK_AHCI,
-    .version_id = 1,
-    .minimum_version_id = 1,
+    .version_id = 2,
+    .minimum_version_id = 2,
     .pre_save = pre_save,
+    .pre_load = pre_load,
     .post_load = post_load,
     .fields = (VMStateField[]) {
         VMSTATE_PCI_DEVICE(parent_obj, GefsunkAhci),
         VMSTATE_UINT8_EQUAL(ports, GefsunkAhci, "the two controllers have as many ports"),
+        VMSTATE_UINT64_ARRAY(media, GefsunkAhci, MOST_PORTS),
         VMSTATE_UINT32(state_size, GefsunkAhci),
+        VMSTATE_VALIDATE("a state is not so long", is_state_fit),
         VMSTATE_VBUFFER_ALLOC_UINT32(state, GefsunkAhci, 0, NULL, state_size),
         VMSTATE_UINT32(works_size, GefsunkAhci),
+        VMSTATE_VALIDATE("requests are not so many", are_works_fit),
         VMSTATE_VBUFFER_ALLOC_UINT32(works, GefsunkAhci, 0, NULL, works_size),
         VMSTATE_BOOL(has_event, GefsunkAhci),
         VMSTATE_BUFFER_UNSAFE(event, GefsunkAhci, 0, sizeof(gef_event)),
