@@ -522,7 +522,8 @@ gef_status gef_machine_answer_failed(gef_machine *machine, const gef_request *re
 /*
  * Copies bytes of a store into the room, from an offset on, as many as there are and fit, and their number into *len. They are
  * there until the store is answered, or its disk is reset or pulled, or an error ends its command: copy them before you ask for
- * the next event. GEF_NOT_OUT: they are gone, and the store is still to be answered if it was not. A load has none.
+ * the next event: behind that they may be those of another command. GEF_NOT_OUT: they are gone, and the store is still to be answered if it
+ * was not. A load has none.
  * Can return GEF_CLOSED, GEF_OTHER_DISK, GEF_NOT_OUT, GEF_OTHER_KIND.
  */
 gef_status gef_machine_stored(gef_machine *machine, const gef_request *request, size_t from, uint8_t *bytes, size_t room,

@@ -101,8 +101,9 @@ static inline gef_status gef_files_discard(gef_machine *machine, int file, const
 }
 
 /*
- * Does what an event asks of a medium that is this file, and answers. The room has GEF_FILES_ROOM bytes. Pass it each event, also behind a
- * reset or a pull: a store or a discard keeps its sectors until it is answered. It returns what the machine says: GEF_OK; GEF_OTHER_DISK or
+ * Does what an event asks of a medium that is this file, and answers. The room has GEF_FILES_ROOM bytes. Pass it each event before you ask
+ * for the next one: later the bytes of a store may be another command's. One that comes behind a reset or a pull all the same is to be passed,
+ * too, since a store or a discard keeps its sectors until it is answered. It returns what the machine says: GEF_OK; GEF_OTHER_DISK or
  * GEF_NOT_OUT where nobody waits any more; GEF_NO_MEMORY: then call it again with the event.
  */
 static inline gef_status gef_files_serve(gef_machine *machine, int file, uint8_t *room, const gef_event *event) {
