@@ -1,8 +1,6 @@
 -- Nobody has a turn where the mask is empty.
-use Rattle.std.proofs.Common.{◌≡◌, ℕ, ◌∙◌, false, None, ap}
-use Rattle.std.specs.Prelude.{◌==◌}
-use Rattle.std.specs.Option.{option_map}
-use Rattle.std.proofs.lemmas.Nat.Bits.{bit_at-zero}
+use Rattle.std.proofs.{Common.{◌≡◌, ℕ, ◌∙◌, false, None, ap}, lemmas.Nat.Bits.{bit_at-zero}}
+use Rattle.std.specs.{Prelude.{◌==◌}, Option.option_map}
 use Rattle.slots.specs.Slots.{has_bit}
 use Rattle.slots.proofs.Door.{lowest_none}
 use Rattle.ahci_controller.specs.Circle.{first_behind, is_behind}

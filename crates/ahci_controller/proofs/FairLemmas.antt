@@ -1,12 +1,10 @@
 -- The circle's bound: each turn of another place brings this one nearer.
 use Rattle.std.proofs.Common.{◌≡◌, ℕ, ◌+◌, ◌-◌, ◌<◌, ◌≤◌, ◌%◌, Bool, true, List, [], ◌∷◌, length, Option, Some, None, arith, ap, refl, sym, ◌∙◌}
-use Rattle.std.specs.Prelude.{◌≢◌, MatchOption}
-use Rattle.std.specs.Option.{option_map}
 use Rattle.std.proofs.lemmas.Bool.{false≢true}
+use Rattle.std.specs.{Prelude.{◌≢◌, MatchOption}, Option.option_map}
 use Rattle.slots.specs.Slots.{has_bit, lowest_below}
 use Rattle.slots.proofs.Door.{lowest_before}
-use Rattle.ahci_controller.specs.Circle.{is_behind}
-use Rattle.ahci_controller.specs.Fairness.{AllHave, OthersOnly, SlotsComeRound, DevicesComeRound}
+use Rattle.ahci_controller.specs.{Circle.is_behind, Fairness.{AllHave, OthersOnly, SlotsComeRound, DevicesComeRound}}
 
 -- ---- slots
 

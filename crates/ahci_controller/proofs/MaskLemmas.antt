@@ -1,9 +1,6 @@
 -- Bits of masks.
-use Rattle.std.proofs.Common.{◌≡◌, ℕ, ◌-◌, true, arith, refl}
-use Rattle.std.specs.Prelude.{min}
-use Rattle.std.specs.Int.{bit_at}
-use Rattle.std.proofs.lemmas.Bool.{eqb-true}
-use Rattle.std.proofs.lemmas.Nat.Bits.{bit_at_and, bit_at-lt}
+use Rattle.std.proofs.{Common.{◌≡◌, ℕ, ◌-◌, true, arith, refl}, lemmas.{Bool.{eqb-true}, Nat.Bits.{bit_at_and, bit_at-lt}}}
+use Rattle.std.specs.{Prelude.min, Int.bit_at}
 use Rattle.slots.specs.Slots.{has_bit}
 use Rattle.hba_fbs.specs.Bits.{without}
 

@@ -1,8 +1,7 @@
 -- A controller as it opens.
-use Rattle.std.proofs.Common.{◌≡◌, ℕ, ◌<◌, List, get_or, length, sym, ◌∙◌, arith, replicate, Option, None}
-use Rattle.std.proofs.lemmas.List.{get_or-replicate, length-replicate, same_lists}
-use Rattle.guest_fetch.specs.Fetch.{Fetching}
-use Rattle.guest_fetch.specs.Commands.{Fetched}
+use Rattle.std.proofs.{Common.{◌≡◌, ℕ, ◌<◌, List, get_or, length, sym, ◌∙◌, arith, replicate, Option, None}, lemmas.List.{get_or-replicate}}
+use Rattle.std.proofs.lemmas.List.{length-replicate, same_lists}
+use Rattle.guest_fetch.specs.{Fetch.Fetching, Commands.Fetched}
 
 abbrev no_fetch : Option Fetching
 no_fetch = None

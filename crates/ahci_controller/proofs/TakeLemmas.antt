@@ -1,14 +1,8 @@
 -- A FIS that is ignored changes nothing, so it is the same before it and after it why.
-use Rattle.std.proofs.Common.{◌≡◌, ℕ, Bool, true, false, List, Option, Some, None, ap, refl, sym, ◌∙◌}
-use Rattle.std.proofs.lemmas.Bool.{false≢true}
+use Rattle.std.proofs.{Common.{◌≡◌, ℕ, Bool, true, false, List, Option, Some, None, ap, refl, sym, ◌∙◌}, lemmas.Bool.{false≢true}}
 use Rattle.fis_view.specs.Seen.{seen}
-use Rattle.hba_fbs.specs.Deciding.{Decides, Passes}
-use Rattle.hba_fbs.specs.Greeting.{Greets}
-use Rattle.hba_fbs.specs.Taking.{admitted, heard_report, ignores, port_of}
-use Rattle.hba_fbs.specs.Views.{Port}
-use Rattle.hba_fbs.specs.declared.hearing.Heard.{Heard}
-use Rattle.hba_fbs.specs.declared.report.TakeReport.{TakeReport}
-use Rattle.hba_fbs.specs.declared.room.Room.{Room}
+use Rattle.hba_fbs.specs.{Deciding.{Decides, Passes}, Greeting.Greets, Taking.{admitted, heard_report, ignores, port_of}, Views.Port}
+use Rattle.hba_fbs.specs.declared.{hearing.Heard.Heard, report.TakeReport.TakeReport, room.Room.Room}
 use Rattle.rx_area.specs.declared.area.Posted.{Posted}
 use Rattle.ahci_controller.specs.Taking.{why_ignored}
 

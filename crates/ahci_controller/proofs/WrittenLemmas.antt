@@ -1,15 +1,11 @@
 -- Where nothing is to be written to the guest, nothing is next.
-use Rattle.std.proofs.Common.{◌≡◌, ℕ, false, Option, Some, None, arith, ap, refl, sym, ◌∙◌}
+use Rattle.std.proofs.{Common.{◌≡◌, ℕ, false, Option, Some, None, arith, ap, refl, sym, ◌∙◌}, lemmas.Bool.{false≢true}}
 use Rattle.std.specs.Prelude.{◌==◌, ◌||◌, is_some, not}
-use Rattle.std.proofs.lemmas.Bool.{false≢true}
 use Rattle.guest_fetch.specs.declared.moves.Move.{Move}
 use Rattle.slots.specs.Slots.{match_some}
-use Rattle.ahci_controller.specs.Next.{count_next, counted_slot, next_write, payload_step, rest, step_of}
-use Rattle.ahci_controller.specs.States.{ControllerState}
-use Rattle.ahci_controller.specs.Taking.{is_any}
+use Rattle.ahci_controller.specs.{Next.{count_next, counted_slot, next_write, payload_step, rest, step_of}, States.ControllerState, Taking.is_any}
+use Rattle.ahci_controller.specs.declared.{next.Step.Step, wants.Carried.Carried}
 use Rattle.ahci_controller.specs.declared.next.Next.TheVariants as next
-use Rattle.ahci_controller.specs.declared.next.Step.{Step}
-use Rattle.ahci_controller.specs.declared.wants.Carried.{Carried}
 use Rattle.ahci_controller.proofs.CircleLemmas.{none_behind}
 
 nothing_of : (c : ControllerState) → c.writes.payload ≡ None → c.writes.posted ≡ None → c.writes.counted ≡ 0 → next_write c ≡ None

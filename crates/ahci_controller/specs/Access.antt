@@ -1,11 +1,9 @@
 -- Accesses to registers: AHCI 1.3.1, section 3, HBA Memory Registers (accesses of up to 64 bits, none of which crosses a
 -- boundary of eight bytes).
 use Rattle.std.specs.Prelude.{ℕ, ◌+◌, ◌-◌, ◌*◌, ◌/◌, ◌%◌, ◌^◌, nat_le, Bool, true, false, if◌then◌else◌, bit_and, bit_or}
-use Rattle.ahci_registers.specs.declared.register.Register.{Register}
-use Rattle.ahci_registers.specs.declared.register.Register.TheVariants.{Is, PxIs, PxSerr, PxSact, PxCi, PxSntf}
+use Rattle.ahci_registers.specs.declared.register.Register.{Register, TheVariants.{Is, PxIs, PxSerr, PxSact, PxCi, PxSntf}}
 use Rattle.hba_fbs.specs.Bits.{without}
-use Rattle.ahci_controller.specs.declared.access.Width.{Width}
-use Rattle.ahci_controller.specs.declared.access.Width.TheVariants.{Byte, Word, Dword, Qword}
+use Rattle.ahci_controller.specs.declared.access.Width.{Width, TheVariants.{Byte, Word, Dword, Qword}}
 
 abbrev pub bytes_of : Width → ℕ
 bytes_of Byte = 1

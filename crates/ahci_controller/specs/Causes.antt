@@ -2,11 +2,8 @@
 -- FIS-based switching).
 use Rattle.std.specs.Prelude.{ℕ, ◌+◌, ◌/◌, ◌%◌, if◌then◌else◌, bit_or, Option, Some, None}
 use Rattle.slots.specs.Slots.{has_bit, match_some}
-use Rattle.port_errors.specs.Errors.{cause_of}
-use Rattle.port_errors.specs.Interrupts.{device_interrupts, hbfs, ifs}
-use Rattle.hba_fbs.specs.Bits.{dec, dwe_unit, sde, without}
-use Rattle.hba_fbs.specs.Reading.{value_of}
-use Rattle.hba_fbs.specs.Views.{Port}
+use Rattle.port_errors.specs.{Errors.cause_of, Interrupts.{device_interrupts, hbfs, ifs}}
+use Rattle.hba_fbs.specs.{Bits.{dec, dwe_unit, sde, without}, Reading.value_of, Views.Port}
 use Rattle.hba_fbs.specs.declared.register.Register.TheVariants as on_port
 
 -- An overflow comes with an error that drivers look at.

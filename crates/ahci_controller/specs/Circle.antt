@@ -1,7 +1,6 @@
 -- Whose turn it is, where several may have one: the first behind the one that had its turn last, in a circle (AHCI 1.3.1,
 -- 5.3, where a port goes over its slots from the one behind the last one on, and 9.3, where it goes over devices).
-use Rattle.std.specs.Prelude.{ℕ, ◌+◌, ◌%◌, false, Option}
-use Rattle.std.specs.Option.{option_map}
+use Rattle.std.specs.{Prelude.{ℕ, ◌+◌, ◌%◌, false, Option}, Option.option_map}
 use Rattle.slots.specs.Slots.{has_bit, lowest_below}
 use Rattle.ahci_controller.specs.declared.circle.Circle.{Circle}
 

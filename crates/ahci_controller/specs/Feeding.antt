@@ -2,22 +2,13 @@
 -- command's table), and 6.1 (Host Bus Fatal Error).
 use Rattle.std.specs.Prelude.{◌≡◌, ℕ, ◌^◌, Bool, true, false, bit_or, List, Option, Some, None, MatchOption}
 use Rattle.ahci_registers.specs.Lines.LineEvent.{Caused}
-use Rattle.guest_fetch.specs.Places.{Delivers}
-use Rattle.guest_fetch.specs.Commands.{Fetched}
-use Rattle.guest_fetch.specs.declared.moves.Move.{Move}
-use Rattle.hba_fbs.specs.Bits.{without}
-use Rattle.hba_fbs.specs.Choosing.{Chooses, MayChoose, may_feed}
-use Rattle.hba_fbs.specs.declared.report.Wrote.{Wrote}
+use Rattle.guest_fetch.specs.{Places.Delivers, Commands.Fetched, declared.moves.Move.Move}
+use Rattle.hba_fbs.specs.{Bits.without, Choosing.{Chooses, MayChoose, may_feed}, declared.report.Wrote.Wrote}
 use Rattle.hba_fbs.specs.declared.turn.Turn as turn_type
 use Rattle.hba_fbs.specs.declared.turn.Turn.TheVariants as turn
-use Rattle.ahci_controller.specs.Causes.{missing_causes}
-use Rattle.ahci_controller.specs.Latch.{latched, told}
-use Rattle.ahci_controller.specs.Moving.{moved, processed_by, sent_by}
-use Rattle.ahci_controller.specs.Next.{is_fed, turn_to}
-use Rattle.ahci_controller.specs.States.{ControllerState, kept}
-use Rattle.ahci_controller.specs.declared.feeding.Fed.{Fed}
+use Rattle.ahci_controller.specs.{Causes.missing_causes, Latch.{latched, told}, Moving.{moved, processed_by, sent_by}, Next.{is_fed, turn_to}}
+use Rattle.ahci_controller.specs.{States.{ControllerState, kept}, declared.{feeding.Fed.Fed, latch.Told.Told}}
 use Rattle.ahci_controller.specs.declared.feeding.Fed.TheVariants as answer
-use Rattle.ahci_controller.specs.declared.latch.Told.{Told}
 
 -- the bytes lie where the table says that was supplied
 abbrev pub PlacesBy : Option Fetched → (offset len : ℕ) → Option (List Move) → Type 0

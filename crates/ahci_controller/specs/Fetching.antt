@@ -1,25 +1,16 @@
 -- The commands of slots are read: AHCI 1.3.1, sections 4.2 and 5.3 (a port fetches a command that was written to PxCI). What
 -- was supplied is what counts, and an answer counts only if it names the want that is out.
-use Rattle.std.specs.Prelude.{◌≡◌, ℕ, ◌+◌, ◌^◌, ◌==◌, ◌&&◌, min, nat_lt, Bool, true, false}
-use Rattle.std.specs.Prelude.{bit_or, List, length, Some, None, slice_set, slice_index_or}
+use Rattle.std.specs.Prelude.{◌≡◌, ℕ, ◌+◌, ◌^◌, ◌==◌, ◌&&◌, min, nat_lt, Bool, true, false, bit_or, List, length, Some, None, slice_set}
+use Rattle.std.specs.Prelude.{slice_index_or}
 use Rattle.slots.specs.Slots.{has_bit, match_some}
-use Rattle.guest_fetch.specs.Fetch.{Fetching}
-use Rattle.guest_fetch.specs.Fetching.{Supplies, part_at, refused_for, want_of}
-use Rattle.guest_fetch.specs.Headers.{header_place}
-use Rattle.guest_fetch.specs.declared.fetch.Step.TheVariants.{AtHeader}
-use Rattle.guest_fetch.specs.declared.fetch.Supplied.{Supplied}
+use Rattle.guest_fetch.specs.{Fetch.Fetching, Fetching.{Supplies, part_at, refused_for, want_of}, Headers.header_place}
+use Rattle.guest_fetch.specs.declared.{fetch.{Step.TheVariants.AtHeader, Supplied.Supplied}, refusal.Refusal.Refusal, want.Want.Want}
 use Rattle.guest_fetch.specs.declared.fetch.Supplied.TheVariants as supplied
-use Rattle.guest_fetch.specs.declared.refusal.Refusal.{Refusal}
-use Rattle.guest_fetch.specs.declared.want.Want.{Want}
 use Rattle.hba_fbs.specs.Bits.{without}
-use Rattle.ahci_controller.specs.Issuing.{IssuesSlot, RefusesSlot}
-use Rattle.ahci_controller.specs.Own.{list_of}
-use Rattle.ahci_controller.specs.States.{ControllerState, fetch_at}
-use Rattle.ahci_controller.specs.declared.fetching.Ask.{Ask}
+use Rattle.ahci_controller.specs.{Issuing.{IssuesSlot, RefusesSlot}, Own.list_of, States.{ControllerState, fetch_at}, declared.fetching.Ask.Ask}
+use Rattle.ahci_controller.specs.declared.{issuing.Supply.Supply, wants.Wants.Wants}
 use Rattle.ahci_controller.specs.declared.issuing.NotTaken.TheVariants as why
-use Rattle.ahci_controller.specs.declared.issuing.Supply.{Supply}
 use Rattle.ahci_controller.specs.declared.issuing.Supply.TheVariants as answer
-use Rattle.ahci_controller.specs.declared.wants.Wants.{Wants}
 
 -- ---- what is wanted
 

@@ -1,24 +1,15 @@
 -- A command that was read is issued, or not taken: AHCI 1.3.1, sections 3.3.14 (PxCI), 4.2.2 (PMP) and 6.1 (errors).
-use Rattle.std.specs.Prelude.{◌≡◌, ℕ, ◌^◌, ◌<◌, if◌then◌else◌, bit_or, List, Option, Some, MatchOption, slice_set}
-use Rattle.std.specs.Option.{option_map}
+use Rattle.std.specs.{Prelude.{◌≡◌, ℕ, ◌^◌, ◌<◌, if◌then◌else◌, bit_or, List, Option, Some, MatchOption, slice_set}, Option.option_map}
 use Rattle.ahci_registers.specs.Lines.LineEvent.{Caused}
-use Rattle.guest_fetch.specs.Commands.{Fetched}
-use Rattle.guest_fetch.specs.declared.refusal.Refusal.{Refusal}
+use Rattle.guest_fetch.specs.{Commands.Fetched, declared.refusal.Refusal.Refusal}
 use Rattle.guest_fetch.specs.declared.refusal.Refusal.TheVariants as refusal
-use Rattle.hba_fbs.specs.Bits.{without}
-use Rattle.hba_fbs.specs.Placing.{Places, issue_error}
-use Rattle.hba_fbs.specs.Views.{Port}
+use Rattle.hba_fbs.specs.{Bits.without, Placing.{Places, issue_error}, Views.Port}
 use Rattle.slots.specs.declared.work.Work.{Work}
-use Rattle.ahci_controller.specs.Causes.{bad_causes, missing_causes}
-use Rattle.ahci_controller.specs.Latch.{latched, told}
-use Rattle.ahci_controller.specs.Offers.{is_work, offer_in, offers}
-use Rattle.ahci_controller.specs.States.{ControllerState}
-use Rattle.ahci_controller.specs.declared.issuing.NotTaken.{NotTaken}
-use Rattle.ahci_controller.specs.declared.issuing.NotTaken.TheVariants as why
-use Rattle.ahci_controller.specs.declared.issuing.Supply.{Supply}
-use Rattle.ahci_controller.specs.declared.issuing.Supply.TheVariants as answer
-use Rattle.ahci_controller.specs.declared.latch.Told.{Told}
+use Rattle.ahci_controller.specs.{Causes.{bad_causes, missing_causes}, Latch.{latched, told}, Offers.{is_work, offer_in, offers}}
+use Rattle.ahci_controller.specs.{States.ControllerState, declared.{issuing.{NotTaken.NotTaken, Supply.Supply}, latch.Told.Told}}
 use Rattle.ahci_controller.specs.declared.offer.Offered.{Offered}
+use Rattle.ahci_controller.specs.declared.issuing.NotTaken.TheVariants as why
+use Rattle.ahci_controller.specs.declared.issuing.Supply.TheVariants as answer
 
 -- the device of a command: the one that its header names, as its FIS does
 abbrev pub device_of : Fetched → ℕ

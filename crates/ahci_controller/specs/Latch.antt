@@ -1,15 +1,9 @@
 -- Interrupts: AHCI 1.3.1, sections 3.1.3 (IS, whose bits ones clear) and 10.7.1 (IS.IPS is set while PxIS and PxIE have a bit
 -- in common, and the line is raised while GHC.IE is 1 and a bit of IS is).
-use Rattle.std.specs.Prelude.{ℕ, ◌&&◌, ◌||◌, Bool, true, false, not}
-use Rattle.std.specs.Int.{from_bool}
-use Rattle.ahci_registers.specs.Bits.{has_bit}
-use Rattle.ahci_registers.specs.Lines.{LineEvent, after, is_due, opening_lines, pends}
-use Rattle.ahci_registers.specs.Lines.LineEvent.{Caused, WrotePortStatus, WrotePortMask, WroteStatus, WroteGlobal, WroteError}
-use Rattle.ahci_registers.specs.declared.lines.Lines.{Lines}
-use Rattle.ahci_controller.specs.declared.latch.Edge.{Edge}
-use Rattle.ahci_controller.specs.declared.latch.Edge.TheVariants.{Steady, Rising, Falling}
-use Rattle.ahci_controller.specs.declared.latch.Latch.{Latch}
-use Rattle.ahci_controller.specs.declared.latch.Told.{Told}
+use Rattle.std.specs.{Prelude.{ℕ, ◌&&◌, ◌||◌, Bool, true, false, not}, Int.from_bool}
+use Rattle.ahci_registers.specs.{Bits.has_bit, Lines.{LineEvent, after, is_due, opening_lines, pends, LineEvent.{Caused, WrotePortStatus}}}
+use Rattle.ahci_registers.specs.{Lines.LineEvent.{WrotePortMask, WroteStatus, WroteGlobal, WroteError}, declared.lines.Lines.Lines}
+use Rattle.ahci_controller.specs.declared.latch.{Edge.{Edge, TheVariants.{Steady, Rising, Falling}}, Latch.Latch, Told.Told}
 
 abbrev pub opening_latch : Latch
 opening_latch = record { lines = opening_lines; pending = false }

@@ -1,13 +1,7 @@
 -- Bytes of a command were moved, in either direction: AHCI 1.3.1, sections 4.2.2 (PRDBC) and 3.3.5 (PxIS.DPS).
 use Rattle.std.specs.Prelude.{ℕ, ◌+◌, ◌^◌, nat_lt, if◌then◌else◌, bit_or, List, Option, Some, None, slice_set}
-use Rattle.guest_fetch.specs.Commands.{Fetched}
-use Rattle.guest_fetch.specs.Moves.{completes}
-use Rattle.guest_fetch.specs.Places.{room_at}
-use Rattle.guest_fetch.specs.Runs.{counted}
-use Rattle.guest_fetch.specs.declared.command.ByteCount.{ByteCount}
-use Rattle.hba_fbs.specs.declared.report.Wrote.{Wrote}
-use Rattle.hba_fbs.specs.declared.turn.Turn.{Turn}
-use Rattle.hba_fbs.specs.declared.turn.Turn.TheVariants.{Rests, Feeds, Orders}
+use Rattle.guest_fetch.specs.{Commands.Fetched, Moves.completes, Places.room_at, Runs.counted, declared.command.ByteCount.ByteCount}
+use Rattle.hba_fbs.specs.declared.{report.Wrote.Wrote, turn.Turn.{Turn, TheVariants.{Rests, Feeds, Orders}}}
 use Rattle.slots.specs.Slots.{match_some}
 use Rattle.ahci_controller.specs.States.{ControllerState, kept}
 

@@ -1,38 +1,18 @@
 -- What is next to do: AHCI 1.3.1, 5.3 (a port goes over its slots in a circle) and 9.3 (and over devices), 4.2.1 and 4.2.2 (what
 -- is written to the guest for a FIS, before its slot's bit falls), 5.3.2 (a port starts as BSY and DRQ are 0).
-use Rattle.std.specs.Prelude.{◌≡◌, ℕ, ◌+◌, ◌-◌, ◌^◌, ◌==◌, ◌&&◌, ◌||◌, min, nat_lt, Bool, true, false, not, if◌then◌else◌}
-use Rattle.std.specs.Prelude.{bit_or, List, Option, Some, None, MatchOption, slice_get, slice_set, slice_index_or}
-use Rattle.std.specs.Option.{option_map}
-use Rattle.slots.specs.Data.{payload}
-use Rattle.slots.specs.Slots.{context_of, has_bit, match_some}
-use Rattle.slots.specs.Work.{is_queued}
+use Rattle.std.specs.Prelude.{◌≡◌, ℕ, ◌+◌, ◌-◌, ◌^◌, ◌==◌, ◌&&◌, ◌||◌, min, nat_lt, Bool, true, false, not, if◌then◌else◌, bit_or, List, Option, Some}
+use Rattle.std.specs.{Prelude.{None, MatchOption, slice_get, slice_set, slice_index_or}, Option.option_map}
+use Rattle.slots.specs.{Data.payload, Slots.{context_of, has_bit, match_some}, Work.is_queued}
 use Rattle.ahci_registers.specs.Link.{action_of}
-use Rattle.guest_fetch.specs.Moves.{moves_at}
-use Rattle.guest_fetch.specs.Places.{room_at}
-use Rattle.guest_fetch.specs.Commands.{Fetched}
-use Rattle.guest_fetch.specs.declared.moves.Move.{Move}
-use Rattle.hba_fbs.specs.Bits.{without}
-use Rattle.hba_fbs.specs.Choosing.{Chooses, MayChoose, due_devices, due_slots}
-use Rattle.hba_fbs.specs.Turning.{feeds, orders}
+use Rattle.guest_fetch.specs.{Moves.moves_at, Places.room_at, Commands.Fetched, declared.moves.Move.Move}
+use Rattle.hba_fbs.specs.{Bits.without, Choosing.{Chooses, MayChoose, due_devices, due_slots}, Turning.{feeds, orders}}
 use Rattle.hba_fbs.specs.declared.error.WriteError.{WriteError}
 use Rattle.hba_fbs.specs.declared.turn.Turn as turn_type
 use Rattle.hba_fbs.specs.declared.turn.Turn.TheVariants as turn
-use Rattle.ahci_controller.specs.Circle.{device_after, slot_after}
-use Rattle.ahci_controller.specs.Fetching.{asked, next_number, want_at}
-use Rattle.ahci_controller.specs.Moving.{count_of}
-use Rattle.ahci_controller.specs.Outbox.{no_writes}
-use Rattle.ahci_controller.specs.Own.{is_failed, is_ready}
-use Rattle.ahci_controller.specs.Reading.{is_idle}
-use Rattle.ahci_controller.specs.States.{ControllerState, kept}
-use Rattle.ahci_controller.specs.Taking.{is_up}
-use Rattle.ahci_controller.specs.Writing.{Restarts}
-use Rattle.ahci_controller.specs.declared.fetching.Ask.{Ask}
-use Rattle.ahci_controller.specs.declared.next.Next.{Next}
+use Rattle.ahci_controller.specs.{Circle.{device_after, slot_after}, Fetching.{asked, next_number, want_at}, Moving.count_of, Outbox.no_writes}
+use Rattle.ahci_controller.specs.{Own.{is_failed, is_ready}, Reading.is_idle, States.{ControllerState, kept}, Taking.is_up, Writing.Restarts}
+use Rattle.ahci_controller.specs.declared.{fetching.Ask.Ask, next.{Next.Next, Step.Step}, wants.{Carried.Carried, Wants.Wants, Writes.Writes}}
 use Rattle.ahci_controller.specs.declared.next.Next.TheVariants as next
-use Rattle.ahci_controller.specs.declared.next.Step.{Step}
-use Rattle.ahci_controller.specs.declared.wants.Carried.{Carried}
-use Rattle.ahci_controller.specs.declared.wants.Wants.{Wants}
-use Rattle.ahci_controller.specs.declared.wants.Writes.{Writes}
 
 -- ---- writes to the guest
 

@@ -2,9 +2,7 @@
 use Rattle.std.specs.Prelude.{ℕ, ◌<◌, ◌%◌, ◌==◌, ◌&&◌, nat_le, nat_lt, Bool, true, false, if◌then◌else◌, Option, Some, None, IfSome}
 use Rattle.hba_commands.specs.declared.command.Command.{Command}
 use Rattle.hba_fbs.specs.Offering.{Offer}
-use Rattle.slots.specs.Work.{IsWork}
-use Rattle.slots.specs.declared.work.Kind.{Kind}
-use Rattle.slots.specs.declared.work.Kind.TheVariants.{QueuedRead, QueuedWrite, DmaIn, DmaOut, PioIn, PioOut, NoData, Control}
+use Rattle.slots.specs.{Work.IsWork, declared.work.Kind.{Kind, TheVariants.{QueuedRead, QueuedWrite, DmaIn, DmaOut, PioIn, PioOut, NoData, Control}}}
 use Rattle.slots.specs.declared.work.Work.{Work}
 use Rattle.ahci_controller.specs.declared.offer.Offered.{Offered}
 

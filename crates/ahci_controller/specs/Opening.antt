@@ -1,13 +1,8 @@
 -- A controller as it opens.
 use Rattle.std.specs.Prelude.{◌≡◌, replicate, None}
-use Rattle.ahci_controller.specs.Circle.{opening_circle}
-use Rattle.ahci_controller.specs.Latch.{opening_latch}
-use Rattle.ahci_controller.specs.Outbox.{no_writes, opening_wants}
-use Rattle.ahci_controller.specs.Own.{opening_own}
+use Rattle.ahci_controller.specs.{Circle.opening_circle, Latch.opening_latch, Outbox.{no_writes, opening_wants}, Own.opening_own}
 use Rattle.ahci_controller.specs.States.{ControllerState}
-use Rattle.hba_fbs.specs.Greeting.{Hangs}
-use Rattle.hba_fbs.specs.Views.{opening_port}
-use Rattle.hba_fbs.specs.declared.greeting.Line.TheVariants.{Empty}
+use Rattle.hba_fbs.specs.{Greeting.Hangs, Views.opening_port, declared.greeting.Line.TheVariants.Empty}
 
 -- nothing is issued, the port is stopped, nothing hangs at it yet, and no interrupt is enabled
 pub record IsOpening (c : ControllerState) : Type 0 where

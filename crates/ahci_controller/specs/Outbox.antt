@@ -1,7 +1,6 @@
 -- What is wanted of the guest, and what is to be written to it, as a controller opens and as all of it is dropped.
 use Rattle.std.specs.Prelude.{replicate, None}
-use Rattle.ahci_controller.specs.declared.wants.Wants.{Wants}
-use Rattle.ahci_controller.specs.declared.wants.Writes.{Writes}
+use Rattle.ahci_controller.specs.declared.wants.{Wants.Wants, Writes.Writes}
 
 abbrev pub opening_wants : Wants
 opening_wants = record {

@@ -2,10 +2,8 @@
 -- and 3.3.7 (PxCMD), 5.3.2 (a port starts) and 10.3.1 (when software may write ST).
 use Rattle.std.specs.Prelude.{ℕ, ◌+◌, ◌*◌, ◌/◌, ◌%◌, ◌^◌, ◌==◌, ◌&&◌, ◌||◌, Bool, false, not, if◌then◌else◌}
 use Rattle.slots.specs.Slots.{has_bit}
-use Rattle.hba_fbs.specs.Bits.{st, fre, fr, cr, pma, fbscp}
-use Rattle.hba_fbs.specs.declared.registers.Registers.{Registers}
-use Rattle.ahci_controller.specs.declared.own.Base.{Base}
-use Rattle.ahci_controller.specs.declared.own.OwnRegisters.{OwnRegisters}
+use Rattle.hba_fbs.specs.{Bits.{st, fre, fr, cr, pma, fbscp}, declared.registers.Registers.Registers}
+use Rattle.ahci_controller.specs.declared.own.{Base.Base, OwnRegisters.OwnRegisters}
 
 abbrev pub no_base : Base
 no_base = record { lower = 0; upper = 0 }

@@ -1,24 +1,14 @@
 -- What the registers read: AHCI 1.3.1, sections 3.1 and 3.3, and of PxTFD 10.4.2 (Port Reset).
 use Rattle.std.specs.Prelude.{ℕ, ◌&&◌, Bool, not, bit_or}
 use Rattle.slots.specs.Slots.{has_bit, match_some}
-use Rattle.ahci_registers.specs.Fixed.{capabilities, ports, version}
-use Rattle.ahci_registers.specs.Lines.{ghc_shown, serr_shown}
-use Rattle.ahci_registers.specs.Link.{action_of, detected_by, status_of}
-use Rattle.ahci_registers.specs.Offsets.{register_at}
-use Rattle.ahci_registers.specs.declared.link.LinkAction.{LinkAction}
-use Rattle.ahci_registers.specs.declared.link.LinkAction.TheVariants.{NoAction, Comreset, Disable}
-use Rattle.ahci_registers.specs.declared.register.Register.{Register}
-use Rattle.ahci_registers.specs.declared.register.Register.TheVariants.{Cap, Ghc, Is, Pi, Vs, Cap2, PxClb}
-use Rattle.ahci_registers.specs.declared.register.Register.TheVariants.{PxClbu, PxFb, PxFbu, PxIs, PxIe}
-use Rattle.ahci_registers.specs.declared.register.Register.TheVariants.{PxCmd, PxTfd, PxSig, PxSsts, PxSctl}
-use Rattle.ahci_registers.specs.declared.register.Register.TheVariants.{PxSerr, PxSact, PxCi, PxSntf, PxFbs}
-use Rattle.hba_fbs.specs.Reading.{shown_device, value_of}
-use Rattle.hba_fbs.specs.Stopping.{busy_file}
-use Rattle.hba_fbs.specs.Views.{view_of}
+use Rattle.ahci_registers.specs.{Fixed.{capabilities, ports, version}, Lines.{ghc_shown, serr_shown}, Link.{action_of, detected_by, status_of}}
+use Rattle.ahci_registers.specs.{Offsets.register_at, declared.link.LinkAction.{LinkAction, TheVariants.{NoAction, Comreset, Disable}}}
+use Rattle.ahci_registers.specs.declared.register.Register.{Register, TheVariants.{Cap, Ghc, Is, Pi, Vs, Cap2, PxClb, PxClbu, PxFb, PxFbu, PxIs}}
+use Rattle.ahci_registers.specs.declared.register.Register.TheVariants.{PxIe, PxCmd, PxTfd, PxSig, PxSsts, PxSctl, PxSerr, PxSact, PxCi, PxSntf}
+use Rattle.ahci_registers.specs.declared.register.Register.TheVariants.{PxFbs}
+use Rattle.hba_fbs.specs.{Reading.{shown_device, value_of}, Stopping.busy_file, Views.view_of}
 use Rattle.hba_fbs.specs.declared.register.Register.TheVariants as on_port
-use Rattle.ahci_controller.specs.Latch.{is_shown}
-use Rattle.ahci_controller.specs.Own.{cmd_shown}
-use Rattle.ahci_controller.specs.States.{ControllerState}
+use Rattle.ahci_controller.specs.{Latch.is_shown, Own.cmd_shown, States.ControllerState}
 
 -- PxTFD: 7Fh during a COMRESET, and else that of the core. (10.4.2: while DET is 1 STS is 7Fh, and BSY is set as the device answers
 -- behind it.)

@@ -2,13 +2,10 @@
 -- and 5.3 (a port fetches a command, and then issues it).
 use Rattle.std.specs.Prelude.{◌≡◌, ◌<◌, ◌≤◌, ℕ, Bool, true, false, List, length, Option, Some, None, IfSome, is_some, slice_index_or}
 use Rattle.slots.specs.Slots.{has_bit, issue_at}
-use Rattle.guest_fetch.specs.Commands.{Fetched}
-use Rattle.guest_fetch.specs.Fetch.{Fetching}
+use Rattle.guest_fetch.specs.{Commands.Fetched, Fetch.Fetching}
 use Rattle.hba_commands.specs.declared.command.Command.{Command}
 use Rattle.hba_fbs.specs.Views.{Port, last_command}
-use Rattle.ahci_controller.specs.States.{ControllerState}
-use Rattle.ahci_controller.specs.declared.wants.Carried.{Carried}
-use Rattle.ahci_controller.specs.declared.wants.Wants.{Wants}
+use Rattle.ahci_controller.specs.{States.ControllerState, declared.wants.{Carried.Carried, Wants.Wants}}
 
 -- the command of the core is the one that was supplied
 abbrev pub IsOffered : Option Command → Option Fetched → Type 0

@@ -2,17 +2,10 @@
 use Rattle.std.specs.Prelude.{ℕ, List, Bool, Option}
 use Rattle.std.proofs.Common.{ap}
 use Rattle.saved_state.specs.Parts.{Parts, array, both, flag, maybe, number, seen_as, three}
-use Rattle.ahci_registers.specs.declared.lines.Lines.{Lines}
-use Rattle.ahci_registers.specs.Saved.{KeepsLines, lines_apart, put_lines}
-use Rattle.guest_fetch.specs.declared.moves.Move.{Move}
-use Rattle.guest_fetch.specs.Saved.{move_words}
-use Rattle.ahci_controller.specs.declared.circle.Circle.{Circle}
-use Rattle.ahci_controller.specs.declared.latch.Latch.{Latch}
-use Rattle.ahci_controller.specs.declared.own.Base.{Base}
-use Rattle.ahci_controller.specs.declared.own.OwnRegisters.{OwnRegisters}
-use Rattle.ahci_controller.specs.declared.wants.Carried.{Carried}
-use Rattle.ahci_controller.specs.declared.wants.Wants.{Wants}
-use Rattle.ahci_controller.specs.declared.wants.Writes.{Writes}
+use Rattle.ahci_registers.specs.{declared.lines.Lines.Lines, Saved.{KeepsLines, lines_apart, put_lines}}
+use Rattle.guest_fetch.specs.{declared.moves.Move.Move, Saved.move_words}
+use Rattle.ahci_controller.specs.declared.{circle.Circle.Circle, latch.Latch.Latch, own.{Base.Base, OwnRegisters.OwnRegisters}, wants.Carried.Carried}
+use Rattle.ahci_controller.specs.declared.wants.{Wants.Wants, Writes.Writes}
 
 -- ---- interrupts
 

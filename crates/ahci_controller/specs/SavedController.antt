@@ -2,21 +2,11 @@
 use Rattle.std.specs.Prelude.{ℕ, List, Option}
 use Rattle.std.proofs.Common.{ap}
 use Rattle.saved_state.specs.Parts.{Parts, array, both, maybe, number, ruled, seen_as, three}
-use Rattle.ahci_registers.specs.declared.link.LinkControl.{LinkControl}
-use Rattle.ahci_registers.specs.Saved.{KeepsLink, link_apart, put_link}
-use Rattle.guest_fetch.specs.Commands.{Fetched}
-use Rattle.guest_fetch.specs.Fetch.{Fetching}
-use Rattle.guest_fetch.specs.SavedCommands.{command_words, fetch_words}
-use Rattle.hba_fbs.specs.Saved.{KeepsPort, port_apart, put_port}
-use Rattle.hba_fbs.specs.Views.{Port}
-use Rattle.ahci_controller.specs.Rules.{IsRuled}
-use Rattle.ahci_controller.specs.Saved.{circle_words, latch_words, own_words, wants_words, writes_words}
-use Rattle.ahci_controller.specs.States.{ControllerState}
-use Rattle.ahci_controller.specs.declared.circle.Circle.{Circle}
-use Rattle.ahci_controller.specs.declared.latch.Latch.{Latch}
-use Rattle.ahci_controller.specs.declared.own.OwnRegisters.{OwnRegisters}
-use Rattle.ahci_controller.specs.declared.wants.Wants.{Wants}
-use Rattle.ahci_controller.specs.declared.wants.Writes.{Writes}
+use Rattle.ahci_registers.specs.{declared.link.LinkControl.LinkControl, Saved.{KeepsLink, link_apart, put_link}}
+use Rattle.guest_fetch.specs.{Commands.Fetched, Fetch.Fetching, SavedCommands.{command_words, fetch_words}}
+use Rattle.hba_fbs.specs.{Saved.{KeepsPort, port_apart, put_port}, Views.Port}
+use Rattle.ahci_controller.specs.{Rules.IsRuled, Saved.{circle_words, latch_words, own_words, wants_words, writes_words}, States.ControllerState}
+use Rattle.ahci_controller.specs.declared.{circle.Circle.Circle, latch.Latch.Latch, own.OwnRegisters.OwnRegisters, wants.{Wants.Wants, Writes.Writes}}
 
 abbrev pub core_words : Parts Port
 core_words = record { put = put_port; keeps = KeepsPort; apart = port_apart }

@@ -1,13 +1,9 @@
 -- What is next to do as words: which it is, and what it has.
 use Rattle.std.specs.Prelude.{◌≡◌, ℕ, List, ◌∷◌, refl}
 use Rattle.std.proofs.Common.{ap}
-use Rattle.saved_state.specs.Parts.{Parts, array, both, number, three}
-use Rattle.saved_state.specs.State.{IsToldApart}
-use Rattle.guest_fetch.specs.Saved.{move_words}
-use Rattle.guest_fetch.specs.declared.command.ByteCount.{ByteCount}
-use Rattle.guest_fetch.specs.declared.want.Want.{Want}
-use Rattle.ahci_controller.specs.declared.fetching.Ask.{Ask}
-use Rattle.ahci_controller.specs.declared.next.Next.{Next}
+use Rattle.saved_state.specs.{Parts.{Parts, array, both, number, three}, State.IsToldApart}
+use Rattle.guest_fetch.specs.{Saved.move_words, declared.{command.ByteCount.ByteCount, want.Want.Want}}
+use Rattle.ahci_controller.specs.declared.{fetching.Ask.Ask, next.Next.Next}
 use Rattle.ahci_controller.specs.declared.next.Next.TheVariants as next
 
 abbrev pub of_count : Parts (ℕ × ℕ)

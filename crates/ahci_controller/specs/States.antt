@@ -2,14 +2,9 @@
 -- 4.2.
 use Rattle.std.specs.Prelude.{ℕ, List, Option, None, slice_index_or}
 use Rattle.ahci_registers.specs.declared.link.LinkControl.{LinkControl}
-use Rattle.guest_fetch.specs.Fetch.{Fetching}
-use Rattle.guest_fetch.specs.Commands.{Fetched}
+use Rattle.guest_fetch.specs.{Fetch.Fetching, Commands.Fetched}
 use Rattle.hba_fbs.specs.Views.{Port}
-use Rattle.ahci_controller.specs.declared.circle.Circle.{Circle}
-use Rattle.ahci_controller.specs.declared.latch.Latch.{Latch}
-use Rattle.ahci_controller.specs.declared.own.OwnRegisters.{OwnRegisters}
-use Rattle.ahci_controller.specs.declared.wants.Wants.{Wants}
-use Rattle.ahci_controller.specs.declared.wants.Writes.{Writes}
+use Rattle.ahci_controller.specs.declared.{circle.Circle.Circle, latch.Latch.Latch, own.OwnRegisters.OwnRegisters, wants.{Wants.Wants, Writes.Writes}}
 
 pub record ControllerState : Type 0 where
   -- the core, interrupts and link, and what else was written to registers

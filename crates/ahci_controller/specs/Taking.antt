@@ -1,53 +1,25 @@
 -- A FIS of a device is taken: AHCI 1.3.1, sections 3.3.7 (FRE), 3.3.12 (PxSERR), 4.2.1 (Received FIS Structure), 4.2.2 (PRDBC),
 -- 5.3.13 and 6.1; of the rows of the received area section 9.3.
-use Rattle.std.specs.Prelude.{◌≡◌, ℕ, ◌+◌, ◌-◌, ◌^◌, ◌==◌, ◌&&◌, ◌||◌, nat_lt, Bool, true, false, not, if◌then◌else◌}
-use Rattle.std.specs.Prelude.{List, length, Option, Some, None, is_some, bit_or, unwrap_or, min, Result, Ok, slice_set}
-use Rattle.std.specs.Option.{option_map}
-use Rattle.fis_view.specs.Seen.{seen}
+use Rattle.std.specs.Prelude.{◌≡◌, ℕ, ◌+◌, ◌-◌, ◌^◌, ◌==◌, ◌&&◌, ◌||◌, nat_lt, Bool, true, false, not, if◌then◌else◌, List, length, Option, Some}
+use Rattle.std.specs.{Prelude.{None, is_some, bit_or, unwrap_or, min, Result, Ok, slice_set}, Option.option_map}
+use Rattle.fis_view.specs.{Seen.seen, Table.field, declared.view.{Fis.Fis, FisFault.FisFault}}
 use Rattle.fis_view.specs.Table as table
-use Rattle.fis_view.specs.Table.{field}
-use Rattle.fis_view.specs.declared.view.Fis.{Fis}
 use Rattle.fis_view.specs.declared.view.Fis.TheVariants as kind
-use Rattle.fis_view.specs.declared.view.FisFault.{FisFault}
-use Rattle.guest_fetch.specs.Commands.{Fetched}
-use Rattle.guest_fetch.specs.Places.{reach_of, room_at}
-use Rattle.guest_fetch.specs.declared.moves.Move.{Move}
-use Rattle.slots.specs.Data.{receiving_slot}
-use Rattle.slots.specs.Slots.{context_of, match_some, slots_of}
-use Rattle.rx_area.specs.Area.{start_of}
-use Rattle.rx_area.specs.declared.area.Posted.{Posted}
+use Rattle.guest_fetch.specs.{Commands.Fetched, Places.{reach_of, room_at}, declared.moves.Move.Move}
+use Rattle.slots.specs.{Data.receiving_slot, Slots.{context_of, match_some, slots_of}}
+use Rattle.rx_area.specs.{Area.start_of, declared.area.Posted.Posted}
 use Rattle.rx_area.specs.declared.area.Posted.TheVariants as place
-use Rattle.port_errors.specs.declared.cause.DeviceCause.{DeviceCause}
-use Rattle.port_errors.specs.declared.cause.DeviceCause.TheVariants.{TaskFile, Overflow}
-use Rattle.ahci_registers.specs.Lines.{is_due}
-use Rattle.ahci_registers.specs.Lines.LineEvent.{Caused}
-use Rattle.ahci_registers.specs.Link.{action_of}
-use Rattle.ahci_registers.specs.declared.link.LinkAction.{LinkAction}
-use Rattle.ahci_registers.specs.declared.link.LinkAction.TheVariants.{NoAction, Comreset, Disable}
-use Rattle.hba_fbs.specs.Bits.{without}
-use Rattle.hba_fbs.specs.Deciding.{Decides, Passes}
-use Rattle.hba_fbs.specs.Greeting.{Greets, greeted_in}
-use Rattle.hba_fbs.specs.Reading.{value_of}
-use Rattle.hba_fbs.specs.Reasons.{concerned, ignored_for}
-use Rattle.hba_fbs.specs.Taking.{admitted, ignores, port_of}
-use Rattle.hba_fbs.specs.Views.{Port, view_of}
-use Rattle.hba_fbs.specs.declared.reasons.Ignored.{Ignored}
+use Rattle.port_errors.specs.declared.cause.DeviceCause.{DeviceCause, TheVariants.{TaskFile, Overflow}}
+use Rattle.ahci_registers.specs.{Lines.{is_due, LineEvent.Caused}, Link.action_of, declared.link.LinkAction.{LinkAction, TheVariants.NoAction}}
+use Rattle.ahci_registers.specs.declared.link.LinkAction.TheVariants.{Comreset, Disable}
+use Rattle.hba_fbs.specs.{Bits.without, Deciding.{Decides, Passes}, Greeting.{Greets, greeted_in}, Reading.value_of, Reasons.{concerned, ignored_for}}
+use Rattle.hba_fbs.specs.{Taking.{admitted, ignores, port_of}, Views.{Port, view_of}, declared.reasons.Ignored.Ignored}
+use Rattle.hba_fbs.specs.declared.{report.{TakeReport.TakeReport, Wrote.Wrote}, room.Room.{Room, TheVariants.{Bytes, Whole}}}
 use Rattle.hba_fbs.specs.declared.register.Register.TheVariants as on_port
-use Rattle.hba_fbs.specs.declared.report.TakeReport.{TakeReport}
-use Rattle.hba_fbs.specs.declared.report.Wrote.{Wrote}
-use Rattle.hba_fbs.specs.declared.room.Room.{Room}
-use Rattle.hba_fbs.specs.declared.room.Room.TheVariants.{Bytes, Whole}
-use Rattle.ahci_controller.specs.Causes.{causes_since}
-use Rattle.ahci_controller.specs.Latch.{edge, latched}
-use Rattle.ahci_controller.specs.Moving.{commands_after, counted_after, processed_by}
-use Rattle.ahci_controller.specs.Own.{area_of, is_failed}
-use Rattle.ahci_controller.specs.States.{ControllerState, cursor, kept}
-use Rattle.ahci_controller.specs.declared.own.OwnRegisters.{OwnRegisters}
-use Rattle.ahci_controller.specs.declared.taking.Hindrance.{Hindrance}
+use Rattle.ahci_controller.specs.{Causes.causes_since, Latch.{edge, latched}, Moving.{commands_after, counted_after, processed_by}, Own.area_of}
+use Rattle.ahci_controller.specs.{Own.is_failed, States.{ControllerState, cursor, kept}, declared.own.OwnRegisters.OwnRegisters}
+use Rattle.ahci_controller.specs.declared.{taking.{Hindrance.Hindrance, Took.Took}, wants.{Carried.Carried, Writes.Writes}}
 use Rattle.ahci_controller.specs.declared.taking.Hindrance.TheVariants as why
-use Rattle.ahci_controller.specs.declared.taking.Took.{Took}
-use Rattle.ahci_controller.specs.declared.wants.Carried.{Carried}
-use Rattle.ahci_controller.specs.declared.wants.Writes.{Writes}
 
 -- ---- why none is taken
 

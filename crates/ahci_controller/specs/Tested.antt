@@ -1,11 +1,9 @@
 -- The tests of the rules of `Rules`, for parts that come from elsewhere.
-use Rattle.std.specs.Prelude.{ℕ, ◌<◌, ◌==◌, ◌&&◌, ◌||◌, Bool, true, false, not, nat_le, nat_lt, is_none, is_some, if◌then◌else◌, Option, Some, None, slice_index_or, zero, suc}
+use Rattle.std.specs.Prelude.{ℕ, ◌<◌, ◌==◌, ◌&&◌, ◌||◌, Bool, true, false, not, nat_le, nat_lt, is_none, is_some, if◌then◌else◌, Option, Some, None}
+use Rattle.std.specs.Prelude.{slice_index_or, zero, suc}
 use Rattle.slots.specs.Slots.{has_bit}
-use Rattle.hba_fbs.specs.Issuing.{is_busy}
-use Rattle.hba_fbs.specs.Views.{last_command}
-use Rattle.ahci_controller.specs.Rules.{IsOffered}
-use Rattle.ahci_controller.specs.States.{ControllerState}
-use Rattle.ahci_controller.specs.declared.wants.Carried.{Carried}
+use Rattle.hba_fbs.specs.{Issuing.is_busy, Views.last_command}
+use Rattle.ahci_controller.specs.{Rules.IsOffered, States.ControllerState, declared.wants.Carried.Carried}
 
 -- the commands of the core are those that were supplied
 abbrev pub IsOfferedAt : ControllerState → ℕ → Type 0

@@ -3,13 +3,9 @@ use Rattle.std.specs.Prelude.{◌≡◌, ℕ, ◌+◌, ◌*◌, ◌/◌, ◌%◌
 use Rattle.ahci_registers.specs.Offsets.{register_at}
 use Rattle.hba_fbs.specs.Views.{IsCorePort}
 use Rattle.slots.specs.Table.{IsTable}
-use Rattle.ahci_controller.specs.Access.{fits, high_of, low_of, merged, ones_of, pair_of, part_of, spread_of}
-use Rattle.ahci_controller.specs.Reading.{read_at, shown}
-use Rattle.ahci_controller.specs.States.{ControllerState}
-use Rattle.ahci_controller.specs.Writing.{WritesRegister, quietly}
-use Rattle.ahci_controller.specs.declared.access.Width.{Width}
-use Rattle.ahci_controller.specs.declared.wide.WideWritten.{WideWritten}
-use Rattle.ahci_controller.specs.declared.writing.Written.{Written}
+use Rattle.ahci_controller.specs.{Access.{fits, high_of, low_of, merged, ones_of, pair_of, part_of, spread_of}, Reading.{read_at, shown}}
+use Rattle.ahci_controller.specs.{States.ControllerState, Writing.{WritesRegister, quietly}, declared.access.Width.Width}
+use Rattle.ahci_controller.specs.declared.{wide.WideWritten.WideWritten, writing.Written.Written}
 
 -- where the eight bytes of an access begin
 abbrev pub block_of : ℕ → ℕ

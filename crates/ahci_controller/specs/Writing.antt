@@ -1,47 +1,24 @@
 -- What a write of a register leaves: AHCI 1.3.1, sections 3.1 and 3.3. No write is an error.
-use Rattle.std.specs.Prelude.{◌≡◌, ℕ, ◌+◌, ◌-◌, ◌*◌, ◌/◌, ◌%◌, ◌==◌, ◌&&◌, ◌||◌, Bool, true, false, not, if◌then◌else◌, bit_and, bit_or}
-use Rattle.std.specs.Prelude.{Option, Some, None, MatchOption}
+use Rattle.std.specs.Prelude.{◌≡◌, ℕ, ◌+◌, ◌-◌, ◌*◌, ◌/◌, ◌%◌, ◌==◌, ◌&&◌, ◌||◌, Bool, true, false, not, if◌then◌else◌, bit_and, bit_or, Option, Some}
+use Rattle.std.specs.Prelude.{None, MatchOption}
 use Rattle.slots.specs.Slots.{has_bit, mask_of}
 use Rattle.ahci_registers.specs.Bits as line_bits
-use Rattle.ahci_registers.specs.Lines.{is_due}
-use Rattle.ahci_registers.specs.Lines.LineEvent.{Caused, WrotePortStatus, WrotePortMask, WroteStatus, WroteGlobal, WroteError}
-use Rattle.ahci_registers.specs.Link.{action_of, causes_of, effect_of, written}
-use Rattle.ahci_registers.specs.declared.link.Effect.{Effect}
-use Rattle.ahci_registers.specs.declared.link.Effect.TheVariants.{Nothing, LinkReset, LinkUp}
-use Rattle.ahci_registers.specs.declared.link.LinkAction.{LinkAction}
-use Rattle.ahci_registers.specs.declared.link.LinkAction.TheVariants.{NoAction, Comreset, Disable}
-use Rattle.ahci_registers.specs.declared.register.Register.{Register}
-use Rattle.ahci_registers.specs.declared.register.Register.TheVariants.{Ghc, Is, PxClb}
-use Rattle.ahci_registers.specs.declared.register.Register.TheVariants.{PxClbu, PxFb, PxFbu, PxIs, PxIe}
-use Rattle.ahci_registers.specs.declared.register.Register.TheVariants.{PxCmd, PxSctl}
+use Rattle.ahci_registers.specs.Lines.{is_due, LineEvent.{Caused, WrotePortStatus, WrotePortMask, WroteStatus, WroteGlobal, WroteError}}
+use Rattle.ahci_registers.specs.{Link.{action_of, causes_of, effect_of, written}, declared.link.Effect.{Effect, TheVariants.{Nothing, LinkReset}}}
+use Rattle.ahci_registers.specs.declared.link.{Effect.TheVariants.LinkUp, LinkAction.{LinkAction, TheVariants.{NoAction, Comreset, Disable}}}
+use Rattle.ahci_registers.specs.declared.register.Register.{Register, TheVariants.{Ghc, Is, PxClb, PxClbu, PxFb, PxFbu, PxIs, PxIe, PxCmd, PxSctl}}
 use Rattle.ahci_registers.specs.declared.register.Register.TheVariants.{PxSerr, PxSact, PxCi, PxSntf, PxFbs}
-use Rattle.hba_fbs.specs.Bits.{bit, en, without}
-use Rattle.hba_fbs.specs.Greeting.{Hangs}
-use Rattle.hba_fbs.specs.Issuing.{is_busy}
-use Rattle.hba_fbs.specs.Offering.{AcceptsBy, refusal_by}
-use Rattle.hba_fbs.specs.Reading.{shown_device}
-use Rattle.hba_fbs.specs.Registers.{own_refusal_by}
-use Rattle.hba_fbs.specs.Resets.{link_reset, whole_reset}
-use Rattle.hba_fbs.specs.Stopping.{Overrides, SetsCmd}
-use Rattle.hba_fbs.specs.Views.{Port}
-use Rattle.hba_fbs.specs.declared.error.WriteError.{WriteError}
+use Rattle.hba_fbs.specs.{Bits.{bit, en, without}, Greeting.Hangs, Issuing.is_busy, Offering.{AcceptsBy, refusal_by}, Reading.shown_device}
+use Rattle.hba_fbs.specs.{Registers.own_refusal_by, Resets.{link_reset, whole_reset}, Stopping.{Overrides, SetsCmd}, Views.Port}
+use Rattle.hba_fbs.specs.declared.{error.WriteError.WriteError, greeting.Line.Line}
 use Rattle.hba_fbs.specs.declared.error.WriteError.TheVariants as refusal
-use Rattle.hba_fbs.specs.declared.greeting.Line.{Line}
 use Rattle.hba_fbs.specs.declared.greeting.Line.TheVariants as on_line
 use Rattle.hba_fbs.specs.declared.register.Register as port_register
 use Rattle.hba_fbs.specs.declared.register.Register.TheVariants as on_port
-use Rattle.ahci_controller.specs.Causes.{next_causes}
-use Rattle.ahci_controller.specs.Latch.{edge, latched}
-use Rattle.ahci_controller.specs.Offers.{offer_in, offers_nothing}
+use Rattle.ahci_controller.specs.{Causes.next_causes, Latch.{edge, latched}, Offers.{offer_in, offers_nothing}, Own.{commanded, engine_of, falls}}
+use Rattle.ahci_controller.specs.{Own.{own_area, own_list, reset_own}, Reading.is_idle, States.ControllerState, Wants.dropped}
+use Rattle.ahci_controller.specs.declared.{latch.{Edge.TheVariants.Steady, Latch.Latch}, own.OwnRegisters.OwnRegisters, writing.Written.Written}
 use Rattle.ahci_controller.specs.Own as own_words
-use Rattle.ahci_controller.specs.Own.{commanded, engine_of, falls, own_area, own_list, reset_own}
-use Rattle.ahci_controller.specs.Reading.{is_idle}
-use Rattle.ahci_controller.specs.States.{ControllerState}
-use Rattle.ahci_controller.specs.Wants.{dropped}
-use Rattle.ahci_controller.specs.declared.latch.Edge.TheVariants.{Steady}
-use Rattle.ahci_controller.specs.declared.latch.Latch.{Latch}
-use Rattle.ahci_controller.specs.declared.own.OwnRegisters.{OwnRegisters}
-use Rattle.ahci_controller.specs.declared.writing.Written.{Written}
 
 -- nothing is asked for beside the registers, but that a message may be due
 abbrev pub quietly : Bool → Option WriteError → Written

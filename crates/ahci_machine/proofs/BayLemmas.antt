@@ -1,16 +1,11 @@
 -- A move at a port is one of the machine, and where nothing moved there the machine stays.
-use Rattle.std.proofs.Common.{◌≡◌, ℕ, ◌<◌, true, List, get_or, length, set, sym, ap, subst, ◌∙◌, Option, None, Some, refl}
+use Rattle.std.proofs.{Common.{◌≡◌, ℕ, ◌<◌, true, List, get_or, length, set, sym, ap, subst, ◌∙◌, Option, None, Some, refl}, lemmas.Bool.{ltb-true}}
+use Rattle.std.proofs.lemmas.{Bool.{lt-ltb}, List.{get_or-set_same, set-get_or}}
 use Rattle.std.specs.Prelude.{nat_lt}
-use Rattle.std.proofs.lemmas.Bool.{ltb-true, lt-ltb}
-use Rattle.std.proofs.lemmas.List.{get_or-set_same, set-get_or}
 use Rattle.fan_out.specs.declared.fan_out.FanOut.{FanOut}
-use Rattle.ahci_machine.specs.Acts.{MayDo, ServesNext}
-use Rattle.ahci_machine.specs.Bays.{BayDoes, BayMayDo}
-use Rattle.ahci_machine.specs.States.{MachineState, bay_at, empty_bay}
-use Rattle.ahci_machine.specs.declared.act.Act.{Act}
+use Rattle.ahci_machine.specs.{Acts.{MayDo, ServesNext}, Bays.{BayDoes, BayMayDo}, States.{MachineState, bay_at, empty_bay}, declared.act.Act.Act}
+use Rattle.ahci_machine.specs.declared.{bay.Bay.Bay, request.MediumId.MediumId}
 use Rattle.ahci_machine.specs.declared.act.Act.TheVariants as act
-use Rattle.ahci_machine.specs.declared.bay.Bay.{Bay}
-use Rattle.ahci_machine.specs.declared.request.MediumId.{MediumId}
 
 abbrev with_both : MachineState → FanOut → (port : ℕ) → Bay → MachineState
 with_both m fan port bay = record m { fan = fan; bays = set m.bays port bay }

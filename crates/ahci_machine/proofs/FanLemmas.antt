@@ -1,23 +1,15 @@
 -- Where nothing passes, what is behind the controller stays.
-use Rattle.std.proofs.Common.{◌≡◌, ℕ, Bool, true, false, Option, None, Some, Result, Ok, Err, refl, ap, ◌∙◌, subst}
-use Rattle.std.specs.Prelude.{is_some, MatchOption, if◌then◌else◌, ◌==◌, ◌&&◌, nat_lt}
-use Rattle.std.specs.Bool.{MatchBool}
-use Rattle.std.proofs.lemmas.Bool.{and_parts}
-use Rattle.multiplier.specs.declared.multiplier.Passed.{Passed}
-use Rattle.std.specs.declared.alloc.AllocError.{AllocError}
+use Rattle.std.proofs.{Common.{◌≡◌, ℕ, Bool, true, false, Option, None, Some, Result, Ok, Err, refl, ap, ◌∙◌, subst}, lemmas.Bool.and_parts}
+use Rattle.std.specs.{Prelude.{is_some, MatchOption, if◌then◌else◌, ◌==◌, ◌&&◌, nat_lt}, Bool.MatchBool, declared.alloc.AllocError.AllocError}
+use Rattle.multiplier.specs.{declared.multiplier.Passed.Passed, Rules.{ToControl, ToDevice, ToNobody, ToPort}, State.{PmState, passes_to, pm_port}}
+use Rattle.multiplier.specs.{Arbiter.control_port, declared.multiplier.PmRefusal.PmRefusal}
 use Rattle.fis_view.specs.Frames.{Stamped}
-use Rattle.multiplier.specs.Rules.{ToControl, ToDevice, ToNobody, ToPort}
-use Rattle.multiplier.specs.State.{PmState, passes_to, pm_port}
-use Rattle.multiplier.specs.Arbiter.{control_port}
-use Rattle.multiplier.specs.declared.multiplier.PmRefusal.{PmRefusal}
-use Rattle.fan_out.specs.FanOuts.{GivesDownThere, GivesDownAt, GivesUpThere, Sends, has_port}
-use Rattle.fan_out.specs.Fans.{FanState, held_in_reset, heeded, is_in_reset, on, only_in_reset, controlled}
+use Rattle.fan_out.specs.{FanOuts.{GivesDownThere, GivesDownAt, GivesUpThere, Sends, has_port}, Fans.{FanState, held_in_reset, heeded, is_in_reset}}
+use Rattle.fan_out.specs.{Fans.{on, only_in_reset, controlled}, Straights.{StraightState, addressed, on_port, pointed}}
+use Rattle.fan_out.specs.declared.fan_out.FanOut.{FanOut, TheVariants.{Device, Multiplier}}
 use Rattle.pm_ports.specs.Port.{with_down}
 use Rattle.multiplier.specs.declared.multiplier.Passed.TheVariants as passed
 use Rattle.multiplier.specs.declared.multiplier.PmRefusal.TheVariants as refusal
-use Rattle.fan_out.specs.Straights.{StraightState, addressed, on_port, pointed}
-use Rattle.fan_out.specs.declared.fan_out.FanOut.{FanOut}
-use Rattle.fan_out.specs.declared.fan_out.FanOut.TheVariants.{Device, Multiplier}
 
 -- ---- nothing goes up
 

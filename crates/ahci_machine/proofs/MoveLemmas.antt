@@ -1,19 +1,14 @@
 -- Moves one after another.
 use Rattle.std.proofs.Common.{◌≡◌, ℕ, arith, inr, suc, Option, None, Some, Result, Ok, Bool, true, refl, ap, subst, ◌∙◌, sym, inl}
-use Rattle.std.specs.Prelude.{IfNone, min}
 use Rattle.std.proofs.lemmas.Bool.{cases_lt}
-use Rattle.std.specs.declared.alloc.AllocError.{AllocError}
+use Rattle.std.specs.{Prelude.{IfNone, min}, declared.alloc.AllocError.AllocError}
 use Rattle.fan_out.specs.FanOuts.{port_count}
-use Rattle.ahci_machine.specs.Resting.{ArePortsQuiet, ArePortsQuietIn}
-use Rattle.ahci_machine.specs.Acts.{MayDo, MayStep, Moves, Steps, StepsBy, TurnsNext, moves, turned}
-use Rattle.ahci_machine.specs.Asked.{request_of}
-use Rattle.ahci_machine.specs.States.{MachineState}
-use Rattle.ahci_machine.specs.declared.act.Act.{Act}
+use Rattle.ahci_machine.specs.{Resting.{ArePortsQuiet, ArePortsQuietIn}, Acts.{MayDo, MayStep, Moves, Steps, StepsBy, TurnsNext, moves, turned}}
+use Rattle.ahci_machine.specs.{Asked.request_of, States.MachineState, declared.act.Act.Act}
 use Rattle.ahci_machine.specs.declared.act.Act.TheVariants as act
 use Rattle.slots.specs.Table.{IsTable}
 use Rattle.hba_fbs.specs.Views.{IsCorePort}
-use Rattle.ahci_controller.specs.Rules.{IsRuled}
-use Rattle.ahci_controller.specs.declared.next.Next.{Next}
+use Rattle.ahci_controller.specs.{Rules.IsRuled, declared.next.Next.Next}
 
 pub no_moves : (m : MachineState) → Moves m m
 unfolding StepsBy

@@ -1,13 +1,8 @@
 -- What is at a port that is there is pulled.
-use Rattle.std.proofs.Common.{◌≡◌, ℕ, ◌<◌, length, Bool, Result, sym, subst}
-use Rattle.std.specs.Prelude.{MatchResult, IsOk}
-use Rattle.std.specs.Bool.{MatchBool}
-use Rattle.std.specs.Result.{IsErrOf}
-use Rattle.std.proofs.lemmas.Bool.{lt-ltb}
+use Rattle.std.proofs.{Common.{◌≡◌, ℕ, ◌<◌, length, Bool, Result, sym, subst}, lemmas.Bool.{lt-ltb}}
+use Rattle.std.specs.{Prelude.{MatchResult, IsOk}, Bool.MatchBool, Result.IsErrOf}
 use Rattle.fan_out.specs.declared.seat.NotThere.{NotThere}
-use Rattle.ahci_machine.specs.Ports.{PullsMachine, PullsOut, PullsPart}
-use Rattle.ahci_machine.specs.States.{MachineState}
-use Rattle.ahci_machine.specs.declared.ports.PortFault.{PortFault}
+use Rattle.ahci_machine.specs.{Ports.{PullsMachine, PullsOut, PullsPart}, States.MachineState, declared.ports.PortFault.PortFault}
 use Rattle.ahci_machine.specs.declared.ports.PortFault.TheVariants.{NoPort, NotThere as Absent}
 
 pub pulled : (old new : MachineState) (port : ℕ) (answer : Result (Unit {0}) NotThere) (result : Result (Unit {0}) PortFault) → port < length old.bays → PullsPart port old answer new → MatchResult answer (λ _. IsOk result) (λ _. IsErrOf result Absent) → PullsMachine port old result new

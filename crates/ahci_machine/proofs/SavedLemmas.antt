@@ -1,14 +1,10 @@
 -- Words that are no machine: those that begin as a disk's and are none, and those that begin as no state does, or go on behind one.
 use Rattle.std.proofs.Common.{◌≡◌, ◌∙◌, ℕ, List, [], ◌∷◌, Result, Ok, Err, sym, ap, subst}
-use Rattle.saved_state.specs.Bytes.{AreWords, ReadsBytes, bytes_of, words_apart}
-use Rattle.saved_state.specs.State.{NotSaved, Restores}
-use Rattle.saved_state.specs.declared.words.RestoreError.{RestoreError}
-use Rattle.saved_state.specs.declared.words.RestoreError.TheVariants.{OutOfMemory, Short, NoSuch, Broken}
+use Rattle.saved_state.specs.{Bytes.{AreWords, ReadsBytes, bytes_of, words_apart}, State.{NotSaved, Restores}}
+use Rattle.saved_state.specs.declared.words.RestoreError.{RestoreError, TheVariants.{OutOfMemory, Short, NoSuch, Broken}}
 use Rattle.sata_disk.specs.Saved.{KeepsDisk, put_disk}
-use Rattle.ahci_machine.specs.Saved.{KeepsUnit, machine_words, put_unit}
-use Rattle.ahci_machine.specs.States.{MachineState}
-use Rattle.ahci_machine.specs.Streams.{ReadsState, ReadsStream, damage_of, stream_of}
-use Rattle.ahci_machine.specs.declared.state.StateError.{StateError}
+use Rattle.ahci_machine.specs.{Saved.{KeepsUnit, machine_words, put_unit}, States.MachineState, Streams.{ReadsState, ReadsStream, damage_of}}
+use Rattle.ahci_machine.specs.{Streams.stream_of, declared.state.StateError.StateError}
 use Rattle.ahci_machine.specs.declared.state.StateError.TheVariants as refused
 use Rattle.ahci_machine.specs.declared.bay.Unit.TheVariants as unit
 

@@ -1,36 +1,21 @@
 -- What each move of a machine is. Each one is a call of one part, by that part's own rule, or two of the frames' ways meet; the other
 -- parts stay (AHCI 1.3.1, 5.3, a port's state machine; Serial ATA 3.x, 16.3, frame transmission by a port multiplier).
-use Rattle.std.specs.Prelude.{◌≡◌, ◌≢◌, ◌⊎◌, ◌||◌, ℕ, zero, suc, nat_lt, length, Bool, true, false, if◌then◌else◌, List, slice_set, Option, Some, None, is_some, Ok, MatchOption}
-use Rattle.std.specs.Int.{to_le_bytes, w32}
+use Rattle.std.specs.Prelude.{◌≡◌, ◌≢◌, ◌⊎◌, ◌||◌, ℕ, zero, suc, nat_lt, length, Bool, true, false, if◌then◌else◌, List, slice_set, Option, Some}
+use Rattle.std.specs.{Prelude.{None, is_some, Ok, MatchOption}, Int.{to_le_bytes, w32}}
 use Rattle.fis_view.specs.Frames.{IsFrame, Stamped}
 use Rattle.multiplier.specs.declared.multiplier.Passed.{Passed}
-use Rattle.ahci_controller.specs.Feeding.{Gathers, MissesData}
-use Rattle.ahci_controller.specs.Latch.{raised}
-use Rattle.ahci_controller.specs.Next.{Turns, next_write, written}
-use Rattle.ahci_controller.specs.States.{ControllerState}
-use Rattle.ahci_controller.specs.Taking.{Hears, hindrance}
-use Rattle.ahci_controller.specs.declared.feeding.Fed.{Fed}
+use Rattle.ahci_controller.specs.{Feeding.{Gathers, MissesData}, Latch.raised, Next.{Turns, next_write, written}, States.ControllerState}
+use Rattle.ahci_controller.specs.{Taking.{Hears, hindrance}, declared.{feeding.Fed.Fed, next.Next.Next, taking.{Hindrance.Hindrance, Took.Took}}}
 use Rattle.ahci_controller.specs.declared.feeding.Fed.TheVariants as fed
-use Rattle.ahci_controller.specs.declared.next.Next.{Next}
 use Rattle.ahci_controller.specs.declared.next.Next.TheVariants as next
-use Rattle.ahci_controller.specs.declared.taking.Hindrance.{Hindrance}
 use Rattle.ahci_controller.specs.declared.taking.Hindrance.TheVariants as hindered
-use Rattle.ahci_controller.specs.declared.taking.Took.{Took}
 use Rattle.fan_out.specs.FanOuts.{GivesUpThere, Sends, Tells}
-use Rattle.ahci_machine.specs.Asked.{request_of}
-use Rattle.ahci_machine.specs.Bays.{BayDoes, begun}
-use Rattle.ahci_machine.specs.Gathers.{Awaits, GatheringState, asked_for, frame_of, host_stamp, opening_gathering}
-use Rattle.ahci_machine.specs.States.{HasRules, MachineState, bay_at, gathering_at}
-use Rattle.ahci_machine.specs.declared.act.Act.{Act}
+use Rattle.ahci_machine.specs.{Asked.request_of, Bays.{BayDoes, begun}, Gathers.{Awaits, GatheringState, asked_for, frame_of, host_stamp}}
+use Rattle.ahci_machine.specs.{Gathers.opening_gathering, States.{HasRules, MachineState, bay_at, gathering_at}, declared.{act.Act.Act, bay.Bay.Bay}}
+use Rattle.ahci_machine.specs.declared.{gathering.{Feed.Feed, Waits.Waits}, machine.Lent.Lent, request.{GuestRead.GuestRead, Request.Request}}
 use Rattle.ahci_machine.specs.declared.act.Act.TheVariants as act
-use Rattle.ahci_machine.specs.declared.bay.Bay.{Bay}
-use Rattle.ahci_machine.specs.declared.gathering.Feed.{Feed}
-use Rattle.ahci_machine.specs.declared.gathering.Waits.{Waits}
 use Rattle.ahci_machine.specs.declared.gathering.Waits.TheVariants as waits
-use Rattle.ahci_machine.specs.declared.machine.Lent.{Lent}
 use Rattle.ahci_machine.specs.declared.machine.Lent.TheVariants as lent
-use Rattle.ahci_machine.specs.declared.request.GuestRead.{GuestRead}
-use Rattle.ahci_machine.specs.declared.request.Request.{Request}
 use Rattle.ahci_machine.specs.declared.request.Request.TheVariants as request
 
 -- ---- the controller

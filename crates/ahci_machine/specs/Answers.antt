@@ -1,36 +1,21 @@
 -- What the caller answers: bytes of its guest (AHCI 1.3.1, 5.3, what a port fetches), and what its media did.
-use Rattle.std.specs.Bool.{MatchBool}
-use Rattle.std.specs.Prelude.{◌≡◌, ◌||◌, ◌&&◌, ◌==◌, ℕ, nat_lt, Bool, true, false, if◌then◌else◌, List, [], slice_set, Option, Some, None, MatchOption, Result, Ok, MatchResult, IsOk, OnOk, OnErr}
-use Rattle.std.specs.Result.{IsErrOf}
-use Rattle.std.specs.declared.alloc.AllocError.{AllocError}
+use Rattle.std.specs.{Bool.MatchBool, Prelude.{◌≡◌, ◌||◌, ◌&&◌, ◌==◌, ℕ, nat_lt, Bool, true, false, if◌then◌else◌, List, [], slice_set, Option, Some}}
+use Rattle.std.specs.{Prelude.{None, MatchOption, Result, Ok, MatchResult, IsOk, OnOk, OnErr}, Result.IsErrOf, declared.alloc.AllocError.AllocError}
 use Rattle.fis_view.specs.Frames.{Stamped}
 use Rattle.pm_ports.specs.declared.port.Offered.{Offered}
-use Rattle.block_engine.specs.Engine.{answer_refusal, answered}
-use Rattle.block_engine.specs.declared.request.Answer.{Answer}
-use Rattle.ahci_controller.specs.Fetching.{AnswersTo, Misses}
-use Rattle.ahci_controller.specs.States.{ControllerState}
-use Rattle.ahci_controller.specs.declared.feeding.Fed.{Fed}
-use Rattle.ahci_controller.specs.declared.issuing.Supply.{Supply}
+use Rattle.block_engine.specs.{Engine.{answer_refusal, answered}, declared.request.{Answer.Answer, Range.Range}}
+use Rattle.ahci_controller.specs.{Fetching.{AnswersTo, Misses}, States.ControllerState, declared.{feeding.Fed.Fed, issuing.Supply.Supply}}
 use Rattle.ahci_controller.specs.declared.issuing.Supply.TheVariants as supply
-use Rattle.block_engine.specs.declared.request.Range.{Range}
 use Rattle.block_queue.specs.Line.{command_at}
 use Rattle.slots.specs.Slots.{match_some}
 use Rattle.fan_out.specs.FanOuts.{Offers, wants_at}
 use Rattle.sata_disk.specs.State.{DiskState, commands}
-use Rattle.ahci_machine.specs.Acts.{MissesOf, with_gathering}
-use Rattle.ahci_machine.specs.Bays.{with_unit}
-use Rattle.ahci_machine.specs.Gathers.{GatheringState, Supplies, is_asked}
-use Rattle.ahci_machine.specs.States.{MachineState, bay_at, gathering_at}
-use Rattle.ahci_machine.specs.declared.answers.MediumError.{MediumError}
-use Rattle.ahci_machine.specs.declared.answers.MediumError.TheVariants as medium
-use Rattle.ahci_machine.specs.declared.answers.Told.{Told}
-use Rattle.ahci_machine.specs.declared.answers.Told.TheVariants as told
-use Rattle.ahci_machine.specs.declared.bay.Bay.{Bay}
-use Rattle.ahci_machine.specs.declared.bay.Unit.{Unit as Inside}
-use Rattle.ahci_machine.specs.declared.bay.Unit.TheVariants.{Disk, Own}
-use Rattle.ahci_machine.specs.declared.request.MediumId.{MediumId}
-use Rattle.ahci_machine.specs.declared.request.Wanted.{Wanted}
+use Rattle.ahci_machine.specs.{Acts.{MissesOf, with_gathering}, Bays.with_unit, Gathers.{GatheringState, Supplies, is_asked}, States.MachineState}
+use Rattle.ahci_machine.specs.{States.{bay_at, gathering_at}, declared.{answers.{MediumError.MediumError, Told.Told}, bay.Bay.Bay}}
+use Rattle.ahci_machine.specs.declared.{bay.Unit.{Unit as Inside, TheVariants.{Disk, Own}}, request.{MediumId.MediumId, Wanted.Wanted}}
 use Rattle.ahci_machine.specs.declared.request.Wanted.TheVariants.{Command, Data}
+use Rattle.ahci_machine.specs.declared.answers.MediumError.TheVariants as medium
+use Rattle.ahci_machine.specs.declared.answers.Told.TheVariants as told
 
 -- ---- bytes of the guest
 

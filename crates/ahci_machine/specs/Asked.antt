@@ -1,14 +1,10 @@
 -- What a move asks of the caller.
 use Rattle.std.specs.Prelude.{Option, Some, None}
-use Rattle.ahci_controller.specs.declared.fetching.Ask.{Ask}
-use Rattle.ahci_controller.specs.declared.next.Next.{Next}
+use Rattle.ahci_controller.specs.declared.{fetching.Ask.Ask, next.Next.Next}
 use Rattle.ahci_controller.specs.declared.next.Next.TheVariants as next
-use Rattle.ahci_machine.specs.declared.act.Act.{Act}
+use Rattle.ahci_machine.specs.declared.{act.Act.Act, request.{GuestRead.GuestRead, Request.Request, Wanted.TheVariants.Command}}
 use Rattle.ahci_machine.specs.declared.act.Act.TheVariants as act
-use Rattle.ahci_machine.specs.declared.request.GuestRead.{GuestRead}
-use Rattle.ahci_machine.specs.declared.request.Request.{Request}
 use Rattle.ahci_machine.specs.declared.request.Request.TheVariants as request
-use Rattle.ahci_machine.specs.declared.request.Wanted.TheVariants.{Command}
 
 -- bytes of a command
 abbrev pub read_of : Ask → GuestRead

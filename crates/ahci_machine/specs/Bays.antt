@@ -1,23 +1,14 @@
 -- What a port's device does with what it is given, and what it asks (Serial ATA 3.x, 10.5; ACS-3): a disk by its own rules, a device
 -- of the caller's own by the caller's.
 use Rattle.std.specs.Prelude.{◌≡◌, ℕ, true, false, Option, Some, None, Ok}
-use Rattle.fis_view.specs.Frames.{Stamped}
-use Rattle.fis_view.specs.Seen.{seen}
+use Rattle.fis_view.specs.{Frames.Stamped, Seen.seen}
 use Rattle.pm_ports.specs.declared.port.Offered.TheVariants.{Held}
-use Rattle.block_engine.specs.Engine.{IsEngineStart, IsRequested, started}
-use Rattle.block_engine.specs.declared.request.Request.{Request}
-use Rattle.fan_out.specs.FanOuts.{GivesDownThere, Offers, wants_at}
-use Rattle.fan_out.specs.declared.fan_out.FanOut.{FanOut}
-use Rattle.sata_disk.specs.Hearing.{MayHear, fis_heard, fis_unheard, plugged}
-use Rattle.sata_disk.specs.Sending.{IsFis, IsOut, after_sent}
-use Rattle.sata_disk.specs.State.{DiskState}
-use Rattle.sata_disk.specs.declared.out.Out.{Out}
-use Rattle.sata_disk.specs.declared.unheard.Unheard.{Unheard}
-use Rattle.ahci_machine.specs.declared.act.Act.{Act}
+use Rattle.block_engine.specs.{Engine.{IsEngineStart, IsRequested, started}, declared.request.Request.Request}
+use Rattle.fan_out.specs.{FanOuts.{GivesDownThere, Offers, wants_at}, declared.fan_out.FanOut.FanOut}
+use Rattle.sata_disk.specs.{Hearing.{MayHear, fis_heard, fis_unheard, plugged}, Sending.{IsFis, IsOut, after_sent}, State.DiskState}
+use Rattle.sata_disk.specs.declared.{out.Out.Out, unheard.Unheard.Unheard}
+use Rattle.ahci_machine.specs.declared.{act.Act.Act, bay.{Bay.Bay, Unit.{Unit as Inside, TheVariants.{Empty, Disk, Own}}}}
 use Rattle.ahci_machine.specs.declared.act.Act.TheVariants as act
-use Rattle.ahci_machine.specs.declared.bay.Bay.{Bay}
-use Rattle.ahci_machine.specs.declared.bay.Unit.{Unit as Inside}
-use Rattle.ahci_machine.specs.declared.bay.Unit.TheVariants.{Empty, Disk, Own}
 
 abbrev pub with_unit : Bay → Inside → Bay
 with_unit b unit = record { unit = unit; disk = b.disk; down = b.down; told = b.told }

@@ -1,15 +1,11 @@
 -- The bytes of a Data FIS to a device (Serial ATA 3.x, 46h) come from the guest's memory part by part, from the places of its
 -- command's table (AHCI 1.3.1, 4.2.3.3 and 5.3).
-use Rattle.std.specs.Prelude.{◌≡◌, ◌≢◌, ℕ, ◌+◌, ◌-◌, ◌≤◌, ◌==◌, ◌&&◌, Bool, true, false, if◌then◌else◌, is_some, List, ◌∷◌, ◌++◌, Option, Some, None, length, replicate, take, drop, slice_get}
-use Rattle.fis_view.specs.Frames.{Stamped, is_frame}
-use Rattle.fis_view.specs.declared.frame.Stamp.{Stamp}
+use Rattle.std.specs.Prelude.{◌≡◌, ◌≢◌, ℕ, ◌+◌, ◌-◌, ◌≤◌, ◌==◌, ◌&&◌, Bool, true, false, if◌then◌else◌, is_some, List, ◌∷◌, ◌++◌, Option, Some, None}
+use Rattle.std.specs.Prelude.{length, replicate, take, drop, slice_get}
+use Rattle.fis_view.specs.{Frames.{Stamped, is_frame}, declared.frame.Stamp.Stamp}
 use Rattle.guest_fetch.specs.declared.moves.Move.{Move}
-use Rattle.ahci_controller.specs.Feeding.{Places}
-use Rattle.ahci_controller.specs.States.{ControllerState}
-use Rattle.ahci_machine.specs.declared.gathering.Feed.{Feed}
-use Rattle.ahci_machine.specs.declared.gathering.Waits.{Waits}
-use Rattle.ahci_machine.specs.declared.gathering.Waits.TheVariants.{Asked, Wants, Whole, Nowhere}
-use Rattle.ahci_machine.specs.declared.request.GuestRead.{GuestRead}
+use Rattle.ahci_controller.specs.{Feeding.Places, States.ControllerState}
+use Rattle.ahci_machine.specs.declared.{gathering.{Feed.Feed, Waits.{Waits, TheVariants.{Asked, Wants, Whole, Nowhere}}}, request.GuestRead.GuestRead}
 use Rattle.ahci_machine.specs.declared.request.Wanted.TheVariants.{Data}
 
 pub record GatheringState : Type 0 where

@@ -1,18 +1,11 @@
 -- What is at the ports comes and goes (Serial ATA 3.x, 16.3.2, hot plug).
-use Rattle.std.specs.Prelude.{◌≡◌, ℕ, ◌+◌, min, nat_lt, Bool, true, false, length, slice_set, Result, Ok, MatchResult, IsOk}
-use Rattle.std.specs.Result.{IsErrOf}
+use Rattle.std.specs.{Prelude.{◌≡◌, ℕ, ◌+◌, min, nat_lt, Bool, true, false, length, slice_set, Result, Ok, MatchResult, IsOk}, Result.IsErrOf}
 use Rattle.std.specs.Bool.{MatchBool}
-use Rattle.fan_out.specs.FanOuts.{Plugs, Pulls}
-use Rattle.fan_out.specs.declared.seat.NotThere.{NotThere}
-use Rattle.fan_out.specs.declared.seat.PlugError.{PlugError}
+use Rattle.fan_out.specs.{FanOuts.{Plugs, Pulls}, declared.seat.{NotThere.NotThere, PlugError.PlugError}}
 use Rattle.fan_out.specs.declared.seat.PlugError.TheVariants as plug
-use Rattle.ahci_machine.specs.Bays.{begun, with_unit}
-use Rattle.ahci_machine.specs.States.{MachineState, bay_at}
-use Rattle.ahci_machine.specs.declared.bay.Bay.{Bay}
-use Rattle.ahci_machine.specs.declared.bay.Unit.{Unit as Inside}
-use Rattle.ahci_machine.specs.declared.bay.Unit.TheVariants.{Empty}
-use Rattle.ahci_machine.specs.declared.ports.PortFault.{PortFault}
-use Rattle.ahci_machine.specs.declared.ports.PortFault.TheVariants.{NoPort, Taken, NotThere as Absent, PluggedIn, Spent}
+use Rattle.ahci_machine.specs.{Bays.{begun, with_unit}, States.{MachineState, bay_at}, declared.bay.{Bay.Bay, Unit.Unit as Inside}}
+use Rattle.ahci_machine.specs.declared.{bay.Unit.TheVariants.Empty, ports.PortFault.{PortFault, TheVariants.{NoPort, Taken, NotThere as Absent}}}
+use Rattle.ahci_machine.specs.declared.ports.PortFault.TheVariants.{PluggedIn, Spent}
 
 abbrev pub has_bay : MachineState → (port : ℕ) → Bool
 has_bay m port = nat_lt port (length m.bays)

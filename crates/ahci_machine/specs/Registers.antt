@@ -2,16 +2,11 @@
 -- port reset).
 use Rattle.std.specs.Prelude.{◌≡◌, ◌+◌, ◌||◌, ◌&&◌, ℕ, nat_le, Bool, true, false, if◌then◌else◌, List, [], take, drop, length, Option, Some, None}
 use Rattle.fis_view.specs.Frames.{Stamped}
-use Rattle.ahci_controller.specs.Wide.{WritesWide}
-use Rattle.ahci_controller.specs.declared.access.Width.{Width}
-use Rattle.ahci_controller.specs.declared.next.Next.{Next}
+use Rattle.ahci_controller.specs.{Wide.WritesWide, declared.{access.Width.Width, next.Next.Next, wide.WideWritten.WideWritten}}
 use Rattle.ahci_controller.specs.declared.next.Next.TheVariants as next
-use Rattle.ahci_controller.specs.declared.wide.WideWritten.{WideWritten}
-use Rattle.ahci_registers.specs.declared.link.Effect.{Effect}
-use Rattle.ahci_registers.specs.declared.link.Effect.TheVariants.{Nothing, LinkReset, LinkUp}
+use Rattle.ahci_registers.specs.declared.link.Effect.{Effect, TheVariants.{Nothing, LinkReset, LinkUp}}
 use Rattle.fan_out.specs.FanOuts.{renewed_end}
-use Rattle.ahci_machine.specs.States.{MachineState, no_gathering}
-use Rattle.ahci_machine.specs.declared.machine.Lent.{Lent}
+use Rattle.ahci_machine.specs.{States.{MachineState, no_gathering}, declared.machine.Lent.Lent}
 use Rattle.ahci_machine.specs.declared.machine.Lent.TheVariants as lent
 
 -- The link was reset: nothing is on its way any more, and each device begins anew.

@@ -2,26 +2,14 @@
 -- PxCMD.FRE, without which a port receives nothing; Serial ATA 3.x, 16.3.3, a port multiplier holds a frame until there is room for it).
 use Rattle.std.specs.Prelude.{◌≡◌, ◌<◌, ◌≤◌, ◌||◌, ℕ, length, Bool, true, false, Option, Some, None, is_some, Ok, Err, MatchOption}
 use Rattle.multiplier.specs.declared.multiplier.PmRefusal.TheVariants.{HoldFull}
-use Rattle.ahci_controller.specs.Latch.{raised}
-use Rattle.ahci_controller.specs.Next.{Turns}
-use Rattle.ahci_controller.specs.States.{ControllerState}
-use Rattle.ahci_controller.specs.Taking.{hindrance}
-use Rattle.ahci_controller.specs.declared.next.Next.{Next}
+use Rattle.ahci_controller.specs.{Latch.raised, Next.Turns, States.ControllerState, Taking.hindrance, declared.next.Next.Next}
+use Rattle.ahci_controller.specs.declared.taking.Hindrance.{Hindrance, TheVariants.{NotReceiving, Writing}}
 use Rattle.ahci_controller.specs.declared.next.Next.TheVariants as next
-use Rattle.ahci_controller.specs.declared.taking.Hindrance.{Hindrance}
-use Rattle.ahci_controller.specs.declared.taking.Hindrance.TheVariants.{NotReceiving, Writing}
 use Rattle.block_engine.specs.Engine.{AsksNothing, IsEngineStart}
-use Rattle.fan_out.specs.FanOuts.{GivesDownThere, GivesUpThere, Sends, Tells, port_count, wants_at}
-use Rattle.fan_out.specs.declared.fan_out.FanOut.{FanOut}
-use Rattle.sata_disk.specs.Sending.{IsOut}
-use Rattle.sata_disk.specs.State.{DiskState}
-use Rattle.ahci_machine.specs.Acts.{Moves, Steps}
-use Rattle.ahci_machine.specs.Gathers.{GatheringState}
-use Rattle.ahci_machine.specs.States.{MachineState, bay_at, gathering_at}
-use Rattle.ahci_machine.specs.declared.act.Act.TheVariants.{Rests}
-use Rattle.ahci_machine.specs.declared.bay.Bay.{Bay}
-use Rattle.ahci_machine.specs.declared.bay.Unit.{Unit as Inside}
-use Rattle.ahci_machine.specs.declared.bay.Unit.TheVariants.{Disk, Own}
+use Rattle.fan_out.specs.{FanOuts.{GivesDownThere, GivesUpThere, Sends, Tells, port_count, wants_at}, declared.fan_out.FanOut.FanOut}
+use Rattle.sata_disk.specs.{Sending.IsOut, State.DiskState}
+use Rattle.ahci_machine.specs.{Acts.{Moves, Steps}, Gathers.GatheringState, States.{MachineState, bay_at, gathering_at}}
+use Rattle.ahci_machine.specs.declared.{act.Act.TheVariants.Rests, bay.{Bay.Bay, Unit.{Unit as Inside, TheVariants.{Disk, Own}}}}
 
 -- ---- the interrupt
 

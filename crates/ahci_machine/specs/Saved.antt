@@ -2,23 +2,13 @@
 use Rattle.std.specs.Prelude.{◌≡◌, ℕ, Bool, List, ◌∷◌, Option, refl}
 use Rattle.std.proofs.Common.{ap}
 use Rattle.saved_state.specs.Parts.{Parts, array, both, each, flag, maybe, number, seen_as, three}
-use Rattle.fis_view.specs.Frames.{Stamped}
-use Rattle.fis_view.specs.Saved.{KeepsFrame, frame_apart, put_frame}
-use Rattle.ahci_controller.specs.SavedController.{controller_words}
-use Rattle.ahci_controller.specs.SavedNext.{next_words}
-use Rattle.ahci_controller.specs.States.{ControllerState}
-use Rattle.ahci_controller.specs.declared.next.Next.{Next}
-use Rattle.fan_out.specs.Saved.{KeepsEnd, end_apart, put_end}
-use Rattle.fan_out.specs.declared.fan_out.FanOut.{FanOut}
-use Rattle.sata_disk.specs.Saved.{KeepsDisk, disk_apart, put_disk}
-use Rattle.sata_disk.specs.State.{DiskState}
-use Rattle.ahci_machine.specs.Gathers.{GatheringState}
-use Rattle.ahci_machine.specs.States.{MachineState}
-use Rattle.ahci_machine.specs.declared.bay.Bay.{Bay}
-use Rattle.ahci_machine.specs.declared.bay.Unit.{Unit as AtPort}
-use Rattle.ahci_machine.specs.declared.bay.Unit.TheVariants as unit
-use Rattle.ahci_machine.specs.declared.gathering.Feed.{Feed}
+use Rattle.fis_view.specs.{Frames.Stamped, Saved.{KeepsFrame, frame_apart, put_frame}}
+use Rattle.ahci_controller.specs.{SavedController.controller_words, SavedNext.next_words, States.ControllerState, declared.next.Next.Next}
+use Rattle.fan_out.specs.{Saved.{KeepsEnd, end_apart, put_end}, declared.fan_out.FanOut.FanOut}
+use Rattle.sata_disk.specs.{Saved.{KeepsDisk, disk_apart, put_disk}, State.DiskState}
+use Rattle.ahci_machine.specs.{Gathers.GatheringState, States.MachineState, declared.{bay.{Bay.Bay, Unit.Unit as AtPort}, gathering.Feed.Feed}}
 use Rattle.ahci_machine.specs.declared.machine.Lent.{Lent}
+use Rattle.ahci_machine.specs.declared.bay.Unit.TheVariants as unit
 use Rattle.ahci_machine.specs.declared.machine.Lent.TheVariants as lent
 
 abbrev pub frame_words : Parts Stamped

@@ -2,21 +2,12 @@
 -- on its way between them.
 use Rattle.std.specs.Prelude.{◌≡◌, ℕ, zero, suc, min, Bool, false, List, replicate, Option, None, slice_index_or}
 use Rattle.fis_view.specs.Frames.{Stamped}
-use Rattle.ahci_controller.specs.Opening.{IsOpening}
-use Rattle.ahci_controller.specs.Rules.{IsRuled}
-use Rattle.ahci_controller.specs.States.{ControllerState}
-use Rattle.ahci_controller.specs.declared.next.Next.{Next}
-use Rattle.fan_out.specs.FanOuts.{port_count}
-use Rattle.fan_out.specs.Fans.{opening_fan}
-use Rattle.fan_out.specs.Straights.{opening_straight}
-use Rattle.fan_out.specs.declared.fan_out.FanOut.{FanOut}
-use Rattle.fan_out.specs.declared.fan_out.FanOut.TheVariants.{Device, Multiplier}
+use Rattle.ahci_controller.specs.{Opening.IsOpening, Rules.IsRuled, States.ControllerState, declared.next.Next.Next}
+use Rattle.fan_out.specs.{FanOuts.port_count, Fans.opening_fan, Straights.opening_straight, declared.fan_out.FanOut.{FanOut, TheVariants.Device}}
+use Rattle.fan_out.specs.declared.fan_out.FanOut.TheVariants.{Multiplier}
 use Rattle.hba_fbs.specs.Views.{IsCorePort}
 use Rattle.slots.specs.Table.{IsTable}
-use Rattle.ahci_machine.specs.Gathers.{GatheringState}
-use Rattle.ahci_machine.specs.declared.bay.Bay.{Bay}
-use Rattle.ahci_machine.specs.declared.bay.Unit.TheVariants.{Empty}
-use Rattle.ahci_machine.specs.declared.machine.Lent.{Lent}
+use Rattle.ahci_machine.specs.{Gathers.GatheringState, declared.{bay.{Bay.Bay, Unit.TheVariants.Empty}, machine.Lent.Lent}}
 use Rattle.ahci_machine.specs.declared.machine.Lent.TheVariants as lent
 
 pub record MachineState : Type 0 where

@@ -1,11 +1,8 @@
 -- The state of a machine as bytes: a mark, the version of the format, and the machine's words.
 use Rattle.std.specs.Prelude.{◌≡◌, List, [], ◌∷◌, ℕ, Result, Ok, Err}
-use Rattle.saved_state.specs.Bytes.{AreWords, bytes_of, words_apart}
-use Rattle.saved_state.specs.declared.words.RestoreError.{RestoreError}
+use Rattle.saved_state.specs.{Bytes.{AreWords, bytes_of, words_apart}, declared.words.RestoreError.RestoreError}
 use Rattle.saved_state.specs.declared.words.RestoreError.TheVariants as damaged
-use Rattle.ahci_machine.specs.Saved.{machine_words}
-use Rattle.ahci_machine.specs.States.{MachineState}
-use Rattle.ahci_machine.specs.declared.state.StateError.{StateError}
+use Rattle.ahci_machine.specs.{Saved.machine_words, States.MachineState, declared.state.StateError.StateError}
 use Rattle.ahci_machine.specs.declared.state.StateError.TheVariants as refused
 
 -- `GEFSUNK` and a zero, the lowest byte first; then the version

@@ -1,11 +1,8 @@
 -- Dwords as sets of bits: what an addition and a clear keep and take.
-use Rattle.std.proofs.Common.{◌≡◌, ℕ, ◌-◌, ◌^◌, ◌<◌, min, max, true, false, sym, ap, ◌∙◌, arith, w32, bit_and, bit_or}
-use Rattle.std.specs.Prelude.{◌==◌}
-use Rattle.std.specs.Int.{bit_at}
-use Rattle.std.proofs.lemmas.Bool.{eqb-true, ne_eqb, eq-eqb, true≢false}
-use Rattle.std.specs.Int.Bits.{and_self, and_zero_r}
-use Rattle.std.proofs.lemmas.Nat.{and_assoc, and_comm, and_le_r, and_or_self, and_or_apart}
-use Rattle.std.proofs.lemmas.Nat.Bits.{bit_at-lt, bit_at-zero, bit_at_and, bit_at_or, bit_at_not, same_from_bits, same_from_bits_below}
+use Rattle.std.proofs.{Common.{◌≡◌, ℕ, ◌-◌, ◌^◌, ◌<◌, min, max, true, false, sym, ap, ◌∙◌, arith, w32, bit_and, bit_or}, lemmas.Bool.{eqb-true}}
+use Rattle.std.proofs.lemmas.{Bool.{ne_eqb, eq-eqb, true≢false}, Nat.{and_assoc, and_comm, and_le_r, and_or_self, and_or_apart, Bits.{bit_at-lt}}}
+use Rattle.std.proofs.lemmas.Nat.Bits.{bit_at-zero, bit_at_and, bit_at_or, bit_at_not, same_from_bits, same_from_bits_below}
+use Rattle.std.specs.{Prelude.{◌==◌}, Int.{bit_at, Bits.{and_self, and_zero_r}}}
 use Rattle.ahci_registers.specs.Bits.{without, clearable, known, shadows}
 
 or_bit : (p x r : ℕ) → min p r ≡ r → min (max p x) r ≡ r

@@ -1,13 +1,9 @@
 -- The laws of the link: one write, then lists of writes.
 use Rattle.std.proofs.Common.{◌≡◌, ◌≢◌, ℕ, ◌+◌, ◌*◌, ◌/◌, ◌%◌, refl, ap, arith, inl, inr}
 use Rattle.std.specs.Prelude.{◌==◌, ◌⊎◌, if◌then◌else◌, [], ◌∷◌}
-use Rattle.ahci_registers.specs.Bits.{pcs, prcs, known}
-use Rattle.ahci_registers.specs.Lines.{after}
-use Rattle.ahci_registers.specs.Link.{HasEffect, action_of, action_after, control_after, effect_of, written}
-use Rattle.ahci_registers.specs.LinkLaws.{StaysWhileStarted, FallsByAReset, RisesByLinkUp, UpSetsX}
-use Rattle.ahci_registers.specs.declared.link.Effect.TheVariants.{LinkReset, LinkUp}
-use Rattle.ahci_registers.specs.declared.link.LinkAction.{LinkAction}
-use Rattle.ahci_registers.specs.declared.link.LinkAction.TheVariants.{NoAction, Comreset, Disable}
+use Rattle.ahci_registers.specs.{Bits.{pcs, prcs, known}, Lines.after, Link.{HasEffect, action_of, action_after, control_after, effect_of, written}}
+use Rattle.ahci_registers.specs.{LinkLaws.{StaysWhileStarted, FallsByAReset, RisesByLinkUp, UpSetsX}, declared.link.Effect.TheVariants.LinkReset}
+use Rattle.ahci_registers.specs.declared.link.{Effect.TheVariants.LinkUp, LinkAction.{LinkAction, TheVariants.{NoAction, Comreset, Disable}}}
 use Rattle.ahci_registers.proofs.BitLemmas.{or_adds}
 
 low_bits : (a c : ℕ) → (a / 16 * 16 + c % 16) % 16 ≡ c % 16

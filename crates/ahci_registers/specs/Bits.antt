@@ -1,7 +1,6 @@
 -- Dwords as sets of bits, and the bits of interrupts: AHCI 1.3.1, sections 3.3.5 (PxIS), 3.3.6 (PxIE) and
 -- 3.3.12 (PxSERR).
-use Rattle.std.specs.Prelude.{ℕ, ◌+◌, ◌-◌, ◌*◌, ◌^◌, ◌==◌, Bool, bit_and}
-use Rattle.std.specs.Int.{bit_at}
+use Rattle.std.specs.{Prelude.{ℕ, ◌+◌, ◌-◌, ◌*◌, ◌^◌, ◌==◌, Bool, bit_and}, Int.bit_at}
 use Rattle.ahci_registers.specs.declared.port.PortInterrupts.{PortInterrupts}
 
 -- the bits as one number, each at its place in PxIS

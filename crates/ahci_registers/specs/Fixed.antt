@@ -1,8 +1,7 @@
 -- The values of the constant registers: AHCI 1.3.1, sections 3.1.1 (CAP), 3.1.4 (PI), 3.1.5 (VS) and 3.1.10
 -- (CAP2).
 use Rattle.std.specs.Prelude.{ℕ, ◌+◌, ◌*◌, ◌^◌, Option, Some, None}
-use Rattle.ahci_registers.specs.declared.register.Register.{Register}
-use Rattle.ahci_registers.specs.declared.register.Register.TheVariants.{Cap, Pi, Vs, Cap2}
+use Rattle.ahci_registers.specs.declared.register.Register.{Register, TheVariants.{Cap, Pi, Vs, Cap2}}
 
 -- CAP: NP 0 is one port, NCS 31 is 32 slots, FBSS 16, SPM 17, SAM 18, ISS 3 is 6 Gb/s, SCLO 24, SSNTF 29,
 -- SNCQ 30 and S64A 31; all other bits are 0

@@ -1,11 +1,8 @@
 -- What holds for interrupts over any list of events, for software that serves them by the line or by
 -- messages: AHCI 1.3.1, section 10.7 (Interrupts).
 use Rattle.std.specs.Prelude.{◌≡◌, ℕ, ◌+◌, ◌==◌, ◌||◌, Bool, true, false, bit_and, List, [], ◌∷◌}
-use Rattle.ahci_registers.specs.Bits.{has_bit, ufs, pcs, prcs, clearable, known, shadows}
-use Rattle.ahci_registers.specs.Lines.{LineEvent, after, is_due, line}
-use Rattle.ahci_registers.specs.Lines.LineEvent.{Caused, WrotePortStatus, WroteStatus}
-use Rattle.ahci_registers.specs.Lines.LineEvent.{WroteGlobal, WroteError}
-use Rattle.ahci_registers.specs.declared.lines.Lines.{Lines}
+use Rattle.ahci_registers.specs.{Bits.{has_bit, ufs, pcs, prcs, clearable, known, shadows}, Lines.{LineEvent, after, is_due, line, LineEvent.Caused}}
+use Rattle.ahci_registers.specs.{Lines.LineEvent.{WrotePortStatus, WroteStatus, WroteGlobal, WroteError}, declared.lines.Lines.Lines}
 
 -- the interrupts after these events, in their order
 unfoldable pub after_all : Lines → List LineEvent → Lines

@@ -1,10 +1,7 @@
 -- Interrupts: AHCI 1.3.1, sections 3.1.2 (GHC), 3.1.3 (IS), 3.3.5 (PxIS), 3.3.6 (PxIE), 3.3.12 (PxSERR) and
 -- 10.7 (Interrupts). How messages take the place of the line is our own definition, after 10.7.2.
-use Rattle.std.specs.Prelude.{ℕ, ◌+◌, ◌*◌, ◌^◌, ◌==◌, ◌&&◌, Bool, false, not, if◌then◌else◌, bit_and}
-use Rattle.std.specs.Prelude.{bit_or}
-use Rattle.std.specs.Int.{from_bool}
-use Rattle.ahci_registers.specs.Bits.{has_bit, without, clearable, known, shadows, shadowed}
-use Rattle.ahci_registers.specs.declared.lines.Lines.{Lines}
+use Rattle.std.specs.{Prelude.{ℕ, ◌+◌, ◌*◌, ◌^◌, ◌==◌, ◌&&◌, Bool, false, not, if◌then◌else◌, bit_and, bit_or}, Int.from_bool}
+use Rattle.ahci_registers.specs.{Bits.{has_bit, without, clearable, known, shadows, shadowed}, declared.lines.Lines.Lines}
 
 -- new interrupts, also after a reset of the controller
 abbrev pub opening_lines : Lines

@@ -1,14 +1,9 @@
 -- The link of the host port: AHCI 1.3.1, sections 3.3.10 (PxSSTS), 3.3.11 (PxSCTL), 3.3.12 (PxSERR) and
 -- 10.4.2 (Port Reset). The link comes up at once, as if a device were always there.
-use Rattle.std.specs.Prelude.{◌≡◌, ℕ, ◌+◌, ◌*◌, ◌/◌, ◌%◌, ◌==◌, ◌⊎◌, Bool, if◌then◌else◌}
-use Rattle.std.specs.Prelude.{List, [], ◌∷◌}
-use Rattle.ahci_registers.specs.Bits.{pcs, prcs}
-use Rattle.ahci_registers.specs.declared.link.Detected.{Detected}
-use Rattle.ahci_registers.specs.declared.link.Detected.TheVariants.{NoDevice, Established, Offline}
-use Rattle.ahci_registers.specs.declared.link.Effect.{Effect}
-use Rattle.ahci_registers.specs.declared.link.Effect.TheVariants.{Nothing, LinkReset, LinkUp}
-use Rattle.ahci_registers.specs.declared.link.LinkAction.{LinkAction}
-use Rattle.ahci_registers.specs.declared.link.LinkAction.TheVariants.{NoAction, Comreset, Disable}
+use Rattle.std.specs.Prelude.{◌≡◌, ℕ, ◌+◌, ◌*◌, ◌/◌, ◌%◌, ◌==◌, ◌⊎◌, Bool, if◌then◌else◌, List, [], ◌∷◌}
+use Rattle.ahci_registers.specs.{Bits.{pcs, prcs}, declared.link.{Detected.{Detected, TheVariants.{NoDevice, Established, Offline}}, Effect.Effect}}
+use Rattle.ahci_registers.specs.declared.link.{Effect.TheVariants.{Nothing, LinkReset, LinkUp}, LinkAction.{LinkAction, TheVariants.NoAction}}
+use Rattle.ahci_registers.specs.declared.link.LinkAction.TheVariants.{Comreset, Disable}
 
 -- what DET of PxSCTL, bits 3:0, asks of the interface; a reserved value asks for nothing
 unfoldable pub action_of : ℕ → LinkAction

@@ -1,14 +1,8 @@
 -- What holds for the link over any list of writes of PxSCTL: AHCI 1.3.1, section 10.4.2 (Port Reset).
 use Rattle.std.specs.Prelude.{◌≡◌, ◌≢◌, ℕ, ◌+◌, true, List}
-use Rattle.ahci_registers.specs.Bits.{pcs, prcs}
-use Rattle.ahci_registers.specs.Laws.{Stand}
-use Rattle.ahci_registers.specs.Lines.{after}
-use Rattle.ahci_registers.specs.Lines.LineEvent.{Caused}
-use Rattle.ahci_registers.specs.Link.{ControlWrite, HasEffect, action_of, causes_of, control_after, written}
-use Rattle.ahci_registers.specs.declared.lines.Lines.{Lines}
-use Rattle.ahci_registers.specs.declared.link.Effect.TheVariants.{LinkReset, LinkUp}
-use Rattle.ahci_registers.specs.declared.link.LinkAction.{LinkAction}
-use Rattle.ahci_registers.specs.declared.link.LinkAction.TheVariants.{NoAction}
+use Rattle.ahci_registers.specs.{Bits.{pcs, prcs}, Laws.Stand, Lines.{after, LineEvent.Caused}, Link.{ControlWrite, HasEffect, action_of, causes_of}}
+use Rattle.ahci_registers.specs.{Link.{control_after, written}, declared.{lines.Lines.Lines, link.Effect.TheVariants.{LinkReset, LinkUp}}}
+use Rattle.ahci_registers.specs.declared.link.LinkAction.{LinkAction, TheVariants.NoAction}
 
 -- while ST is 1 a write leaves what is asked of the interface
 abbrev pub StaysWhileStarted : Type 0

@@ -1,11 +1,9 @@
 -- The offsets of the registers of a controller of one port: AHCI 1.3.1, sections 3.1, Generic Host Control,
 -- and 3.3, Port Registers (those of port 0 begin at 100h).
 use Rattle.std.specs.Prelude.{ℕ, ◌==◌, if◌then◌else◌, Option, Some, None}
-use Rattle.ahci_registers.specs.declared.register.Register.{Register}
-use Rattle.ahci_registers.specs.declared.register.Register.TheVariants.{Cap, Ghc, Is, Pi, Vs, Cap2, PxClb}
-use Rattle.ahci_registers.specs.declared.register.Register.TheVariants.{PxClbu, PxFb, PxFbu, PxIs, PxIe}
-use Rattle.ahci_registers.specs.declared.register.Register.TheVariants.{PxCmd, PxTfd, PxSig, PxSsts, PxSctl}
-use Rattle.ahci_registers.specs.declared.register.Register.TheVariants.{PxSerr, PxSact, PxCi, PxSntf, PxFbs}
+use Rattle.ahci_registers.specs.declared.register.Register.{Register, TheVariants.{Cap, Ghc, Is, Pi, Vs, Cap2, PxClb, PxClbu, PxFb, PxFbu, PxIs}}
+use Rattle.ahci_registers.specs.declared.register.Register.TheVariants.{PxIe, PxCmd, PxTfd, PxSig, PxSsts, PxSctl, PxSerr, PxSact, PxCi, PxSntf}
+use Rattle.ahci_registers.specs.declared.register.Register.TheVariants.{PxFbs}
 
 -- the offset of a register
 abbrev pub offset_of : Register → ℕ

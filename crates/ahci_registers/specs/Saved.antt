@@ -1,8 +1,7 @@
 -- The interrupts and the link as words.
 use Rattle.std.specs.Prelude.{ℕ, ◌<◌, ◌^◌, List, Bool}
 use Rattle.std.proofs.Common.{ap}
-use Rattle.ahci_registers.specs.declared.lines.Lines.{Lines}
-use Rattle.ahci_registers.specs.declared.link.LinkControl.{LinkControl}
+use Rattle.ahci_registers.specs.declared.{lines.Lines.Lines, link.LinkControl.LinkControl}
 use Rattle.saved_state.specs.State.{IsToldApart, bool_apart, number_apart, parts_apart, put_bool, put_number, put_three, three_apart}
 
 -- PxIS, PxIE and GHC.IE

@@ -1,30 +1,21 @@
 -- What a command asks for (ACS-3, 7; of queued commands also Serial ATA 3.x, 13.6).
-use Rattle.std.specs.Prelude.{ℕ, ◌≡◌, ◌+◌, ◌-◌, ◌*◌, ◌/◌, ◌%◌, ◌<◌, ◌≤◌, ◌==◌, ◌&&◌, ◌||◌, nat_le, nat_lt, Bool, true, false, not}
-use Rattle.std.specs.Prelude.{List, Option, Some, None, if◌then◌else◌}
+use Rattle.std.specs.Prelude.{ℕ, ◌≡◌, ◌+◌, ◌-◌, ◌*◌, ◌/◌, ◌%◌, ◌<◌, ◌≤◌, ◌==◌, ◌&&◌, ◌||◌, nat_le, nat_lt, Bool, true, false, not, List, Option, Some}
+use Rattle.std.specs.Prelude.{None, if◌then◌else◌}
 use Rattle.fis_view.specs.Table.{H2d, Command, Count, Device, Features, Lba, field}
 use Rattle.block_command.specs.declared.command.Command as block
-use Rattle.block_command.specs.declared.command.Protocol.{Protocol}
+use Rattle.block_command.specs.{declared.command.Protocol.Protocol, Moments.{IsCommand, is_queued}}
 use Rattle.block_command.specs.declared.command.Protocol.TheVariants as protocol
-use Rattle.block_command.specs.Moments.{IsCommand, is_queued}
 use Rattle.ata_reply.specs.declared.reply.AtaError.TheVariants.{Aborted, NotFound}
-use Rattle.ata_command.specs.declared.settings.Multiple.{Multiple}
-use Rattle.ata_command.specs.declared.settings.Setting.{Setting}
-use Rattle.ata_command.specs.declared.settings.Setting.TheVariants.{Mode, WriteCache, LookAhead, Reverts, AutoActivate}
-use Rattle.ata_command.specs.declared.settings.Settings.{Settings}
-use Rattle.ata_command.specs.declared.settings.TransferMode.{TransferMode}
-use Rattle.ata_command.specs.declared.opcode.Opcode.{Opcode}
+use Rattle.ata_command.specs.declared.settings.{Multiple.Multiple, Setting.{Setting, TheVariants.{Mode, WriteCache, LookAhead, Reverts}}}
+use Rattle.ata_command.specs.declared.settings.{Setting.TheVariants.AutoActivate, Settings.Settings, TransferMode.TransferMode}
+use Rattle.ata_command.specs.declared.{opcode.{Opcode.Opcode, Way.Way}, asked.{Asked.Asked, LogPage.LogPage, SmartTask.SmartTask}}
+use Rattle.ata_command.specs.{Opcodes.opcode_of, Modes.{mode_after, multiple_of, sectors_in}}
 use Rattle.ata_command.specs.declared.opcode.Opcode.TheVariants as code
 use Rattle.ata_command.specs.declared.opcode.Transfer as moves
-use Rattle.ata_command.specs.declared.opcode.Way.{Way}
 use Rattle.ata_command.specs.declared.opcode.Way.TheVariants as way
-use Rattle.ata_command.specs.declared.asked.Asked.{Asked}
 use Rattle.ata_command.specs.declared.asked.Asked.TheVariants as ask
-use Rattle.ata_command.specs.declared.asked.LogPage.{LogPage}
 use Rattle.ata_command.specs.declared.asked.PowerTask.TheVariants as power
-use Rattle.ata_command.specs.declared.asked.SmartTask.{SmartTask}
 use Rattle.ata_command.specs.declared.asked.SmartTask.TheVariants as smart
-use Rattle.ata_command.specs.Opcodes.{opcode_of}
-use Rattle.ata_command.specs.Modes.{mode_after, multiple_of, sectors_in}
 
 -- what of a disk never changes: its sectors, how many queued commands it takes at a time, the most blocks of ranges of a TRIM
 pub record DiskFacts : Type 0 where

@@ -1,13 +1,9 @@
 -- Which commands may stand beside which (Serial ATA 3.x, 13.6, native command queuing; ACS-3, 4.16), and the software reset
 -- (Serial ATA 3.x, 11.4).
-use Rattle.std.specs.Prelude.{ℕ, ◌/◌, ◌%◌, ◌==◌, ◌&&◌, nat_lt, Bool, true, false, not, List, Option, Some, None, if◌then◌else◌}
-use Rattle.std.specs.Int.{bit_at}
+use Rattle.std.specs.{Prelude.{ℕ, ◌/◌, ◌%◌, ◌==◌, ◌&&◌, nat_lt, Bool, true, false, not, List, Option, Some, None, if◌then◌else◌}, Int.bit_at}
 use Rattle.fis_view.specs.Table.{H2d, Control, field}
-use Rattle.ata_command.specs.declared.asked.Asked.{Asked}
-use Rattle.ata_command.specs.declared.asked.Asked.TheVariants.{Moves, ReadsLog, Refused}
-use Rattle.ata_command.specs.declared.control.Course.{Course}
-use Rattle.ata_command.specs.declared.control.Course.TheVariants.{Drop, Refuse, AbortAll, Take}
-use Rattle.ata_command.specs.declared.control.Standing.{Standing}
+use Rattle.ata_command.specs.declared.{asked.Asked.{Asked, TheVariants.{Moves, ReadsLog, Refused}}, control.Course.{Course, TheVariants.Drop}}
+use Rattle.ata_command.specs.declared.control.{Course.TheVariants.{Refuse, AbortAll, Take}, Standing.Standing}
 use Rattle.ata_command.specs.declared.control.Standing.TheVariants as standing
 
 -- it is a tag, and in none of these

@@ -1,11 +1,8 @@
 -- The settings after power on, and what commands make of them (ACS-3, SET FEATURES, Set transfer mode; SET MULTIPLE MODE).
 use Rattle.std.specs.Prelude.{ℕ, ◌==◌, ◌||◌, ◌&&◌, nat_le, true, false, if◌then◌else◌, Option, Some, None}
-use Rattle.ata_command.specs.declared.settings.Multiple.{Multiple}
-use Rattle.ata_command.specs.declared.settings.Multiple.TheVariants.{Off, One, Two, Four, Eight, Sixteen}
-use Rattle.ata_command.specs.declared.settings.Settings.{Settings}
-use Rattle.ata_command.specs.declared.settings.TransferMode.{TransferMode}
-use Rattle.ata_command.specs.declared.settings.TransferMode.TheVariants.{Multiword0, Multiword1, Multiword2}
-use Rattle.ata_command.specs.declared.settings.TransferMode.TheVariants.{Ultra0, Ultra1, Ultra2, Ultra3, Ultra4, Ultra5, Ultra6}
+use Rattle.ata_command.specs.declared.settings.{Multiple.{Multiple, TheVariants.{Off, One, Two, Four, Eight, Sixteen}}, Settings.Settings}
+use Rattle.ata_command.specs.declared.settings.TransferMode.{TransferMode, TheVariants.{Multiword0, Multiword1, Multiword2, Ultra0, Ultra1, Ultra2}}
+use Rattle.ata_command.specs.declared.settings.TransferMode.TheVariants.{Ultra3, Ultra4, Ultra5, Ultra6}
 
 -- the mode that a Count of SET FEATURES 03h names: 20h to 22h are multiword DMA, 40h to 46h Ultra DMA
 abbrev pub mode_named : ℕ → Option TransferMode

@@ -1,9 +1,7 @@
 -- The command codes of a disk (ACS-3, table of command codes). All that stand in no row are refused.
 use Rattle.std.specs.Prelude.{ℕ, ◌==◌, ◌||◌, Bool, true, false, Option, Some, None, if◌then◌else◌}
 use Rattle.ata_command.specs.declared.opcode.Transfer as moves
-use Rattle.ata_command.specs.declared.opcode.Way.{Way}
-use Rattle.ata_command.specs.declared.opcode.Way.TheVariants.{Dma, Single, Multiple, Verify}
-use Rattle.ata_command.specs.declared.opcode.Opcode.{Opcode}
+use Rattle.ata_command.specs.declared.opcode.{Way.{Way, TheVariants.{Dma, Single, Multiple, Verify}}, Opcode.Opcode}
 use Rattle.ata_command.specs.declared.opcode.Opcode.TheVariants as code
 
 -- a row: whether it writes, whether it is EXT, whether FUA, and how it moves its sectors

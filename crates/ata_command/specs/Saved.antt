@@ -2,14 +2,10 @@
 use Rattle.std.specs.Prelude.{◌≡◌, ℕ, ◌<◌, ◌^◌, List, ◌∷◌, Bool, refl}
 use Rattle.std.proofs.Common.{ap}
 use Rattle.saved_state.specs.State.{IsToldApart, bool_apart, number_apart, pair_apart, parts_apart, put_bool, put_number, put_pair}
-use Rattle.ata_command.specs.Modes.{sectors_in}
-use Rattle.ata_command.specs.declared.asked.LogPage.{LogPage}
-use Rattle.ata_command.specs.declared.settings.Multiple.{Multiple}
-use Rattle.ata_command.specs.declared.settings.Multiple.TheVariants.{Off, One, Two, Four, Eight, Sixteen}
-use Rattle.ata_command.specs.declared.settings.Settings.{Settings}
-use Rattle.ata_command.specs.declared.settings.TransferMode.{TransferMode}
-use Rattle.ata_command.specs.declared.settings.TransferMode.TheVariants.{Multiword0, Multiword1, Multiword2}
-use Rattle.ata_command.specs.declared.settings.TransferMode.TheVariants.{Ultra0, Ultra1, Ultra2, Ultra3, Ultra4, Ultra5, Ultra6}
+use Rattle.ata_command.specs.{Modes.sectors_in, declared.{asked.LogPage.LogPage, settings.Multiple.{Multiple, TheVariants.{Off, One, Two, Four}}}}
+use Rattle.ata_command.specs.declared.settings.{Multiple.TheVariants.{Eight, Sixteen}, Settings.Settings, TransferMode.TransferMode}
+use Rattle.ata_command.specs.declared.settings.TransferMode.TheVariants.{Multiword0, Multiword1, Multiword2, Ultra0, Ultra1, Ultra2, Ultra3, Ultra4}
+use Rattle.ata_command.specs.declared.settings.TransferMode.TheVariants.{Ultra5, Ultra6}
 
 abbrev pub mode_number : TransferMode → ℕ
 mode_number Multiword0 = 1

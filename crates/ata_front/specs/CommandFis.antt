@@ -1,11 +1,9 @@
 -- The FIS of a command that moves sectors, by what is next for it (ACS-3, 4, protocols; Serial ATA 3.x, 10.5 and 13.6).
 use Rattle.std.specs.Prelude.{ℕ, ◌+◌, ◌-◌, ◌*◌, ◌==◌, ◌&&◌, nat_le, nat_lt, Bool, true, false, not, length, Option, Some, None, if◌then◌else◌}
 use Rattle.block_command.specs.declared.command.Command as block
-use Rattle.block_command.specs.declared.command.Protocol.{Protocol}
+use Rattle.block_command.specs.{declared.command.{Protocol.Protocol, Turn.Turn}, Moments.{Moment, part_count, part_lba, part_of, turn_of}}
 use Rattle.block_command.specs.declared.command.Protocol.TheVariants as protocol
-use Rattle.block_command.specs.declared.command.Turn.{Turn}
 use Rattle.block_command.specs.declared.command.Turn.TheVariants as turn
-use Rattle.block_command.specs.Moments.{Moment, part_count, part_lba, part_of, turn_of}
 use Rattle.ata_reply.specs.declared.reply.Reply.{Reply}
 use Rattle.ata_reply.specs.declared.reply.Reply.TheVariants as reply
 use Rattle.ata_front.specs.declared.task.Trouble.{Trouble}

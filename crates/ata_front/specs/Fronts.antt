@@ -2,42 +2,23 @@
 -- command queuing).
 use Rattle.std.specs.Prelude.{ℕ, ◌≡◌, ◌-◌, ◌==◌, nat_lt, Bool, true, false, Option, Some, None, if◌then◌else◌}
 use Rattle.block_command.specs.declared.command.Command as block
-use Rattle.ata_reply.specs.declared.reply.AtaError.TheVariants.{Aborted}
-use Rattle.ata_reply.specs.declared.reply.Reply.{Reply}
+use Rattle.ata_reply.specs.declared.reply.{AtaError.TheVariants.Aborted, Reply.Reply}
 use Rattle.ata_reply.specs.declared.reply.Reply.TheVariants as reply
-use Rattle.ata_command.specs.Courses.{course}
-use Rattle.ata_command.specs.declared.asked.Asked.{Asked}
+use Rattle.ata_command.specs.{Courses.course, declared.asked.{Asked.Asked, LogPage.LogPage, Move.Move, PowerTask.PowerTask, Refusal.Refusal}}
+use Rattle.ata_command.specs.declared.{asked.SmartTask.SmartTask, control.Course.{Course, TheVariants.{Drop, Refuse, AbortAll, Take}}}
+use Rattle.ata_command.specs.{declared.{control.Standing.Standing, settings.{Setting.Setting, Settings.Settings}}, Modes.power_on}
 use Rattle.ata_command.specs.declared.asked.Asked.TheVariants as ask
-use Rattle.ata_command.specs.declared.asked.LogPage.{LogPage}
-use Rattle.ata_command.specs.declared.asked.Move.{Move}
-use Rattle.ata_command.specs.declared.asked.PowerTask.{PowerTask}
 use Rattle.ata_command.specs.declared.asked.PowerTask.TheVariants as power
-use Rattle.ata_command.specs.declared.asked.Refusal.{Refusal}
-use Rattle.ata_command.specs.declared.asked.SmartTask.{SmartTask}
 use Rattle.ata_command.specs.declared.asked.SmartTask.TheVariants as smart
-use Rattle.ata_command.specs.declared.control.Course.{Course}
-use Rattle.ata_command.specs.declared.control.Course.TheVariants.{Drop, Refuse, AbortAll, Take}
-use Rattle.ata_command.specs.declared.control.Standing.{Standing}
 use Rattle.ata_command.specs.declared.control.Standing.TheVariants as stand
-use Rattle.ata_command.specs.declared.settings.Setting.{Setting}
 use Rattle.ata_command.specs.declared.settings.Setting.TheVariants as set
-use Rattle.ata_command.specs.declared.settings.Settings.{Settings}
-use Rattle.ata_command.specs.Modes.{power_on}
-use Rattle.ata_front.specs.declared.front.Front.{Front}
-use Rattle.ata_front.specs.declared.front.Heard.{Heard}
-use Rattle.ata_front.specs.declared.task.Act.{Act}
+use Rattle.ata_front.specs.declared.{front.{Front.Front, Heard.Heard}, task.{Act.Act, Fault.{Fault, TheVariants.{Mixed, Queued}}, Owed.Owed}}
+use Rattle.ata_front.specs.declared.task.{Page.Page, Purpose.Purpose, Task.{Task, TheVariants.{Idle, Owes, Moves, Waits, Announces, Gives, Sends}}}
+use Rattle.ata_front.specs.declared.task.{Task.TheVariants.{Activates, Expects}, Trouble.Trouble}
 use Rattle.ata_front.specs.declared.task.Act.TheVariants as act
-use Rattle.ata_front.specs.declared.task.Fault.{Fault}
-use Rattle.ata_front.specs.declared.task.Fault.TheVariants.{Mixed, Queued}
-use Rattle.ata_front.specs.declared.task.Owed.{Owed}
 use Rattle.ata_front.specs.declared.task.Owed.TheVariants as owe
-use Rattle.ata_front.specs.declared.task.Page.{Page}
 use Rattle.ata_front.specs.declared.task.Page.TheVariants as page
-use Rattle.ata_front.specs.declared.task.Purpose.{Purpose}
 use Rattle.ata_front.specs.declared.task.Purpose.TheVariants as purpose
-use Rattle.ata_front.specs.declared.task.Task.{Task}
-use Rattle.ata_front.specs.declared.task.Task.TheVariants.{Idle, Owes, Moves, Waits, Announces, Gives, Sends, Activates, Expects}
-use Rattle.ata_front.specs.declared.task.Trouble.{Trouble}
 
 -- the settings are those of power on, but for the write cache, which is as the caller wants it
 abbrev pub opening : (write_cache : Bool) → Front

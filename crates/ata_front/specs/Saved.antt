@@ -1,22 +1,15 @@
 -- The front of a disk as words.
 use Rattle.std.specs.Prelude.{◌≡◌, ℕ, ◌<◌, ◌^◌, List, ◌∷◌, Option, Bool, refl}
 use Rattle.std.proofs.Common.{ap}
-use Rattle.saved_state.specs.State.{IsToldApart, KeepsOption, bool_apart, number_apart, option_apart, pair_apart, parts_apart, put_bool, put_number, put_option, put_pair}
-use Rattle.ata_reply.specs.declared.reply.AtaError.{AtaError}
-use Rattle.ata_reply.specs.Saved.{KeepsReply, error_apart, put_error, put_reply, reply_apart}
-use Rattle.ata_command.specs.declared.settings.Settings.{Settings}
-use Rattle.ata_command.specs.Saved.{KeepsPage as KeepsLogPage, page_apart as log_page_apart, put_page as put_log_page, put_settings, settings_apart}
-use Rattle.ata_front.specs.declared.front.Front.{Front}
-use Rattle.ata_front.specs.declared.task.Fault.{Fault}
-use Rattle.ata_front.specs.declared.task.Fault.TheVariants.{Mixed, Queued}
-use Rattle.ata_front.specs.declared.task.Moving.{Moving}
-use Rattle.ata_front.specs.declared.task.Page.{Page}
-use Rattle.ata_front.specs.declared.task.Page.TheVariants.{Identity, Log, SmartData, SmartThresholds}
-use Rattle.ata_front.specs.declared.task.Purpose.{Purpose}
-use Rattle.ata_front.specs.declared.task.Purpose.TheVariants.{Flush, CacheOff, Discard}
-use Rattle.ata_front.specs.declared.task.Task.{Task}
-use Rattle.ata_front.specs.declared.task.Task.TheVariants.{Idle, Owes, Moves, Waits, Announces, Gives, Sends, Activates, Expects}
-use Rattle.ata_front.specs.declared.task.Trouble.{Trouble}
+use Rattle.saved_state.specs.State.{IsToldApart, KeepsOption, bool_apart, number_apart, option_apart, pair_apart, parts_apart, put_bool, put_number}
+use Rattle.saved_state.specs.State.{put_option, put_pair}
+use Rattle.ata_reply.specs.{declared.reply.AtaError.AtaError, Saved.{KeepsReply, error_apart, put_error, put_reply, reply_apart}}
+use Rattle.ata_command.specs.{declared.settings.Settings.Settings, Saved.{KeepsPage as KeepsLogPage, page_apart as log_page_apart}}
+use Rattle.ata_command.specs.Saved.{put_page as put_log_page, put_settings, settings_apart}
+use Rattle.ata_front.specs.declared.{front.Front.Front, task.{Fault.{Fault, TheVariants.{Mixed, Queued}}, Moving.Moving, Page.Page}}
+use Rattle.ata_front.specs.declared.task.{Page.TheVariants.{Identity, Log, SmartData, SmartThresholds}, Purpose.{Purpose, TheVariants.Flush}}
+use Rattle.ata_front.specs.declared.task.{Purpose.TheVariants.{CacheOff, Discard}, Task.{Task, TheVariants.{Idle, Owes, Moves, Waits, Announces}}}
+use Rattle.ata_front.specs.declared.task.{Task.TheVariants.{Gives, Sends, Activates, Expects}, Trouble.Trouble}
 
 -- ## Why a command failed, and at which sector
 

@@ -1,16 +1,12 @@
 -- The FISes of a disk, by their fields (Serial ATA 3.x, 10.5; ACS-3, 6.2, Error, and 6.3, Status). All have PM Port 0.
 use Rattle.std.specs.Prelude.{ℕ, ◌≡◌, ◌/◌, ◌%◌, ◌&&◌, ◌||◌, Bool, true, false, not, List, ◌∷◌, Ok, if◌then◌else◌}
-use Rattle.fis_view.specs.Table.{D2h, Bits, Setup, Activate, Pio}
-use Rattle.fis_view.specs.Built.{IsBuilt, d2h_given, set_bits_given, dma_setup_given, dma_activate_given, pio_setup_given}
-use Rattle.fis_view.specs.Seen.{seen}
+use Rattle.fis_view.specs.{Table.{D2h, Bits, Setup, Activate, Pio}, Built.{IsBuilt, d2h_given, set_bits_given, dma_setup_given, dma_activate_given}}
+use Rattle.fis_view.specs.{Built.pio_setup_given, Seen.seen}
 use Rattle.fis_view.specs.declared.view.Fis.TheVariants as view
-use Rattle.ata_reply.specs.declared.reply.AtaError.{AtaError}
-use Rattle.ata_reply.specs.declared.reply.AtaError.TheVariants.{Aborted, NotFound, Uncorrectable, Interface}
-use Rattle.ata_reply.specs.declared.reply.Failure.{Failure}
+use Rattle.ata_reply.specs.declared.reply.{AtaError.{AtaError, TheVariants.{Aborted, NotFound, Uncorrectable, Interface}}, Failure.Failure}
+use Rattle.ata_reply.specs.declared.reply.{Announcement.Announcement, Reply.{Reply, TheVariants.{Signature, Accepted, Done, Active, Healthy, Failed}}}
+use Rattle.ata_reply.specs.declared.reply.Reply.TheVariants.{Ends, Aborts, SetUp}
 use Rattle.ata_reply.specs.declared.reply.SetUp as setup
-use Rattle.ata_reply.specs.declared.reply.Announcement.{Announcement}
-use Rattle.ata_reply.specs.declared.reply.Reply.{Reply}
-use Rattle.ata_reply.specs.declared.reply.Reply.TheVariants.{Signature, Accepted, Done, Active, Healthy, Failed, Ends, Aborts, SetUp}
 use Rattle.ata_reply.specs.declared.reply.Reply.TheVariants as reply
 
 -- ABRT, IDNF, UNC, and ICRC with ABRT

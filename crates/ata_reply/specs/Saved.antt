@@ -1,14 +1,12 @@
 -- Answers as words.
 use Rattle.std.specs.Prelude.{◌≡◌, ℕ, ◌<◌, ◌^◌, List, ◌∷◌, Bool, refl}
 use Rattle.std.proofs.Common.{ap, arith}
-use Rattle.saved_state.specs.State.{IsToldApart, bool_apart, number_apart, pair_apart, parts_apart, put_bool, put_number, put_pair, put_three, three_apart}
-use Rattle.ata_reply.specs.declared.reply.AtaError.{AtaError}
-use Rattle.ata_reply.specs.declared.reply.AtaError.TheVariants.{Aborted, NotFound, Uncorrectable, Interface}
-use Rattle.ata_reply.specs.declared.reply.Failure.{Failure}
+use Rattle.saved_state.specs.State.{IsToldApart, bool_apart, number_apart, pair_apart, parts_apart, put_bool, put_number, put_pair, put_three}
+use Rattle.saved_state.specs.State.{three_apart}
+use Rattle.ata_reply.specs.declared.reply.{AtaError.{AtaError, TheVariants.{Aborted, NotFound, Uncorrectable, Interface}}, Failure.Failure}
+use Rattle.ata_reply.specs.declared.reply.{Announcement.Announcement, Reply.{Reply, TheVariants.{Signature, Accepted, Done, Active, Healthy, Failed}}}
+use Rattle.ata_reply.specs.declared.reply.Reply.TheVariants.{Ends, Aborts, SetUp, Activate, Announce}
 use Rattle.ata_reply.specs.declared.reply.SetUp as setup
-use Rattle.ata_reply.specs.declared.reply.Announcement.{Announcement}
-use Rattle.ata_reply.specs.declared.reply.Reply.{Reply}
-use Rattle.ata_reply.specs.declared.reply.Reply.TheVariants.{Signature, Accepted, Done, Active, Healthy, Failed, Ends, Aborts, SetUp, Activate, Announce}
 
 abbrev pub error_number : AtaError → ℕ
 error_number Aborted = 1

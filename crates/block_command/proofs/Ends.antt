@@ -1,23 +1,16 @@
 -- The ends of a command are earned: at each stage the ledger is a function of the command's moment and of the bytes of its
 -- earlier parts.
-use Rattle.std.proofs.Common.{◌≡◌, ℕ, ◌+◌, ◌-◌, ◌*◌, ◌<◌, ◌≤◌, true, false, List, [], ◌∷◌, ◌++◌, length, take, drop, refl, ap, sym, ◌∙◌, arith, rules, inl, inr, ◌⊎◌, Some, None}
+use Rattle.std.proofs.Common.{◌≡◌, ℕ, ◌+◌, ◌-◌, ◌*◌, ◌<◌, ◌≤◌, true, false, List, [], ◌∷◌, ◌++◌, length, take, drop, refl, ap, sym, ◌∙◌, arith, rules}
+use Rattle.std.proofs.{Common.{inl, inr, ◌⊎◌, Some, None}, lemmas.{Bool.{eqb-true, eq-eqb, ltb-true, ltb-false}, List.{append-nil, append_assoc}}}
+use Rattle.std.proofs.{lemmas.List.{length-append, take_all, take-append-drop}, Math.Seq.{take-add}}
 use Rattle.std.specs.Prelude.{Bool, Option, nat_lt, if◌then◌else◌, ◌==◌, ◌&&◌}
-use Rattle.std.proofs.lemmas.Bool.{eqb-true, eq-eqb, ltb-true, ltb-false}
-use Rattle.std.proofs.lemmas.List.{append-nil, append_assoc, length-append, take_all, take-append-drop}
-use Rattle.std.proofs.Math.Seq.{take-add}
-use Rattle.block_command.specs.declared.command.Command.{Command}
-use Rattle.block_command.specs.declared.command.Protocol.{Protocol}
-use Rattle.block_command.specs.declared.command.Protocol.TheVariants.{Queued, Dma, Pio, Verify}
-use Rattle.block_command.specs.declared.command.Stage.{Stage}
-use Rattle.block_command.specs.declared.command.Stage.TheVariants.{Waiting, Load, Loading, SetUpRead, Announce, Sending}
-use Rattle.block_command.specs.declared.command.Stage.TheVariants.{SetUpWrite, Activate, Receiving}
-use Rattle.block_command.specs.declared.command.Stage.TheVariants.{Store, Storing, Flush, Flushing, End, Fail}
-use Rattle.block_command.specs.declared.command.Stage.TheVariants.{Ended}
-use Rattle.block_command.specs.Moments.{IsCommand, Moment, opening, whole, chunk, part_count, part_len, read_end, read_on, with_sectors}
-use Rattle.block_command.specs.Moments.{data_stage, first_data_stage, is_queued, is_verify, started, write_on}
-use Rattle.block_command.specs.Laws.{Input, Goes, Loads, Comes, Stores, Flushes, Fails, after, happening, account}
-use Rattle.block_command.specs.Laws.{HappensRightly, IsLoaded}
-use Rattle.block_command.specs.Laws.{Ledger, blank, entered, is_behind, IsEarned, Earned, EndsAreEarned}
+use Rattle.block_command.specs.declared.command.{Command.Command, Protocol.{Protocol, TheVariants.{Queued, Dma, Pio, Verify}}, Stage.Stage}
+use Rattle.block_command.specs.declared.command.Stage.TheVariants.{Waiting, Load, Loading, SetUpRead, Announce, Sending, SetUpWrite, Activate}
+use Rattle.block_command.specs.{declared.command.Stage.TheVariants.{Receiving, Store, Storing, Flush, Flushing, End, Fail, Ended}, Moments.IsCommand}
+use Rattle.block_command.specs.Moments.{Moment, opening, whole, chunk, part_count, part_len, read_end, read_on, with_sectors, data_stage}
+use Rattle.block_command.specs.{Moments.{first_data_stage, is_queued, is_verify, started, write_on}, Laws.{Input, Goes, Loads, Comes, Stores}}
+use Rattle.block_command.specs.Laws.{Flushes, Fails, after, happening, account, HappensRightly, IsLoaded, Ledger, blank, entered, is_behind, IsEarned}
+use Rattle.block_command.specs.Laws.{Earned, EndsAreEarned}
 
 abbrev pub read_ledger : List ℕ → Option ℕ → List ℕ → Ledger
 read_ledger given wanting sent = record {

@@ -1,10 +1,9 @@
 -- The rule of restored commands: what fits is what every command under way keeps.
-use Rattle.std.proofs.Common.{◌≡◌, ℕ, ◌+◌, ◌^◌, true, List, length, sym, subst, arith}
+use Rattle.std.proofs.{Common.{◌≡◌, ℕ, ◌+◌, ◌^◌, true, List, length, sym, subst, arith}, lemmas.Bool.{lt-ltb, ltb-true, le-leb, leb-true, and_parts}}
+use Rattle.std.proofs.lemmas.Bool.{and_from}
 use Rattle.std.specs.Prelude.{◌&&◌, nat_lt, nat_le}
-use Rattle.std.proofs.lemmas.Bool.{lt-ltb, ltb-true, le-leb, leb-true, and_parts, and_from}
-use Rattle.block_command.specs.declared.command.Command.{Command}
-use Rattle.block_command.specs.Moments.{IsCommand, IsMoment, Moment, part_len}
-use Rattle.block_command.specs.Saved.{KeepsMoment, KeepsParts, Parts, fit, fits, is_command, parts_of, put_moment, put_parts}
+use Rattle.block_command.specs.{declared.command.Command.Command, Moments.{IsCommand, IsMoment, Moment, part_len}, Saved.{KeepsMoment, KeepsParts}}
+use Rattle.block_command.specs.Saved.{Parts, fit, fits, is_command, parts_of, put_moment, put_parts}
 
 command_is : (c : Command) → is_command c ≡ true → IsCommand c
 command_is c e =

@@ -1,15 +1,11 @@
 -- What the run of a command tells by itself, which Data it may send, and when its end is earned. The ledger knows no stage
 -- and no part: it looks at what was asked, answered, sent and received, and at nothing else.
-use Rattle.std.specs.Prelude.{ℕ, ◌≡◌, ◌+◌, ◌*◌, ◌==◌, Bool, true, false, List, [], ◌∷◌, ◌++◌}
-use Rattle.std.specs.Prelude.{length, if◌then◌else◌, ◌&&◌, Option, Some, None}
-use Rattle.block_command.specs.declared.command.Command.{Command}
-use Rattle.block_command.specs.declared.command.Turn.{Turn}
-use Rattle.block_command.specs.declared.command.Turn.TheVariants as turn
-use Rattle.block_command.specs.Moments.{IsCommand, Moment, opening, turn_of, part_of, part_lba, part_count, gone, after_loaded, after_came}
-use Rattle.block_command.specs.declared.answer.AnswerError.{AnswerError}
+use Rattle.std.specs.Prelude.{ℕ, ◌≡◌, ◌+◌, ◌*◌, ◌==◌, Bool, true, false, List, [], ◌∷◌, ◌++◌, length, if◌then◌else◌, ◌&&◌, Option, Some, None}
+use Rattle.block_command.specs.{declared.command.{Command.Command, Turn.Turn}, Moments.{IsCommand, Moment, opening, turn_of, part_of, part_lba}}
+use Rattle.block_command.specs.Moments.{part_count, gone, after_loaded, after_came, load_fault, store_fault, flush_fault, failure_fault, after_stored}
+use Rattle.block_command.specs.{Moments.{after_flushed, after_failed, whole, is_verify}, declared.answer.AnswerError.AnswerError}
 use Rattle.block_command.specs.declared.answer.AnswerError.TheVariants.{OtherKind}
-use Rattle.block_command.specs.Moments.{load_fault, store_fault, flush_fault, failure_fault}
-use Rattle.block_command.specs.Moments.{after_stored, after_flushed, after_failed, whole, is_verify}
+use Rattle.block_command.specs.declared.command.Turn.TheVariants as turn
 
 -- what can be done with a command
 pub data Input : Type 0 where

@@ -1,18 +1,11 @@
 -- A command of a block disk at one moment, what it does next, and what it makes of what it is given
 -- (ACS-3, 4, protocols; Serial ATA 3.x, 10.5, FIS types, and 13.6, native command queuing).
-use Rattle.std.specs.Prelude.{ℕ, ◌+◌, ◌-◌, ◌*◌, ◌<◌, ◌≤◌, ◌==◌, ◌^◌, Bool, true, false, List, [], ◌++◌, length}
-use Rattle.std.specs.Prelude.{take, drop, nat_lt, not, if◌then◌else◌, ◌&&◌, Option, Some, None}
-use Rattle.block_command.specs.declared.answer.AnswerError.{AnswerError}
-use Rattle.block_command.specs.declared.answer.AnswerError.TheVariants.{OtherKind, OtherLength}
-use Rattle.block_command.specs.declared.command.Command.{Command}
-use Rattle.block_command.specs.declared.command.Protocol.{Protocol}
-use Rattle.block_command.specs.declared.command.Protocol.TheVariants.{Queued, Pio, Verify}
-use Rattle.block_command.specs.declared.command.Stage.{Stage}
-use Rattle.block_command.specs.declared.command.Stage.TheVariants.{Waiting, Load, Loading, SetUpRead, Announce, Sending}
-use Rattle.block_command.specs.declared.command.Stage.TheVariants.{SetUpWrite, Activate, Receiving}
-use Rattle.block_command.specs.declared.command.Stage.TheVariants.{Store, Storing, Flush, Flushing, End, Fail}
-use Rattle.block_command.specs.declared.command.Stage.TheVariants.{Ended}
-use Rattle.block_command.specs.declared.command.Turn.{Turn}
+use Rattle.std.specs.Prelude.{ℕ, ◌+◌, ◌-◌, ◌*◌, ◌<◌, ◌≤◌, ◌==◌, ◌^◌, Bool, true, false, List, [], ◌++◌, length, take, drop, nat_lt, not}
+use Rattle.std.specs.Prelude.{if◌then◌else◌, ◌&&◌, Option, Some, None}
+use Rattle.block_command.specs.declared.{answer.AnswerError.{AnswerError, TheVariants.{OtherKind, OtherLength}}, command.Command.Command}
+use Rattle.block_command.specs.declared.command.{Protocol.{Protocol, TheVariants.{Queued, Pio, Verify}}, Stage.{Stage, TheVariants.{Waiting, Load}}}
+use Rattle.block_command.specs.declared.command.Stage.TheVariants.{Loading, SetUpRead, Announce, Sending, SetUpWrite, Activate, Receiving, Store}
+use Rattle.block_command.specs.declared.command.{Stage.TheVariants.{Storing, Flush, Flushing, End, Fail, Ended}, Turn.Turn}
 use Rattle.block_command.specs.declared.command.Turn.TheVariants as turn
 
 -- a command at one moment: so many sectors of earlier parts are done; of the part that is under way the bytes are those

@@ -1,18 +1,12 @@
 -- Commands as words.
-use Rattle.std.specs.Prelude.{◌≡◌, ℕ, ◌+◌, ◌<◌, ◌^◌, Bool, ◌&&◌, nat_lt, nat_le, List, [], ◌∷◌, length, slice_index_or, refl}
-use Rattle.std.specs.List.{AllByRecursion}
+use Rattle.std.specs.{Prelude.{◌≡◌, ℕ, ◌+◌, ◌<◌, ◌^◌, Bool, ◌&&◌, nat_lt, nat_le, List, [], ◌∷◌, length, slice_index_or, refl}, List.AllByRecursion}
 use Rattle.std.proofs.Common.{ap, sym, ◌∙◌}
-use Rattle.saved_state.specs.State.{IsToldApart, put_bool, put_list, put_number, put_pair, put_three}
-use Rattle.saved_state.specs.State.{bool_apart, list_apart, number_apart, pair_apart, parts_apart, three_apart}
-use Rattle.block_command.specs.declared.command.Command.{Command}
-use Rattle.block_command.specs.declared.command.Protocol.{Protocol}
-use Rattle.block_command.specs.declared.command.Protocol.TheVariants.{Queued, Dma, Pio, Verify}
-use Rattle.block_command.specs.declared.command.Stage.{Stage}
-use Rattle.block_command.specs.declared.command.Stage.TheVariants.{Waiting, Load, Loading, SetUpRead, Announce, Sending}
-use Rattle.block_command.specs.declared.command.Stage.TheVariants.{SetUpWrite, Activate, Receiving}
-use Rattle.block_command.specs.declared.command.Stage.TheVariants.{Store, Storing, Flush, Flushing, End, Fail}
-use Rattle.block_command.specs.declared.command.Stage.TheVariants.{Ended}
-use Rattle.block_command.specs.Moments.{IsMoment, Moment, part_len}
+use Rattle.saved_state.specs.State.{IsToldApart, put_bool, put_list, put_number, put_pair, put_three, bool_apart, list_apart, number_apart}
+use Rattle.saved_state.specs.State.{pair_apart, parts_apart, three_apart}
+use Rattle.block_command.specs.declared.command.{Command.Command, Protocol.{Protocol, TheVariants.{Queued, Dma, Pio, Verify}}, Stage.Stage}
+use Rattle.block_command.specs.declared.command.Stage.TheVariants.{Waiting, Load, Loading, SetUpRead, Announce, Sending, SetUpWrite, Activate}
+use Rattle.block_command.specs.{declared.command.Stage.TheVariants.{Receiving, Store, Storing, Flush, Flushing, End, Fail, Ended}, Moments.IsMoment}
+use Rattle.block_command.specs.Moments.{Moment, part_len}
 
 abbrev pub protocol_number : Protocol → ℕ
 protocol_number Queued = 0

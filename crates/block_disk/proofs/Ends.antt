@@ -1,18 +1,15 @@
 -- The Data and the ends of the commands of a disk are earned: at each place the page of the books agrees with the command.
 use Rattle.std.proofs.Common.{◌≡◌, ℕ, ◌<◌, true, false, List, [], ◌∷◌, length, get_or, set, Some, None, refl, sym, ap, ◌∙◌, arith, inl, inr}
-use Rattle.std.specs.Prelude.{Option, Bool, replicate, if◌then◌else◌}
-use Rattle.std.specs.Option.{option_map}
-use Rattle.std.proofs.lemmas.Bool.{cases_eq, cases_lt}
-use Rattle.std.proofs.lemmas.List.{get_or-set_same, get_or-set_other, length-set, set-get_or, get_or-replicate, length-replicate}
-use Rattle.std.proofs.Math.ListN.{get_or-eq_default}
-use Rattle.block_command.specs.declared.command.Command.{Command}
-use Rattle.block_command.specs.Moments.{IsCommand, Moment, opening}
+use Rattle.std.proofs.lemmas.{Bool.{cases_eq, cases_lt}, List.{get_or-set_same, get_or-set_other, length-set, set-get_or, get_or-replicate}}
+use Rattle.std.proofs.{lemmas.List.{length-replicate}, Math.ListN.{get_or-eq_default}}
+use Rattle.std.specs.{Prelude.{Option, Bool, replicate, if◌then◌else◌}, Option.option_map}
+use Rattle.block_command.specs.{declared.command.Command.Command, Moments.{IsCommand, Moment, opening}, Laws.{Input, Happening, blank, entered}}
+use Rattle.block_command.specs.Laws.{happening}
 use Rattle.block_command.specs.Laws as command
-use Rattle.block_command.specs.Laws.{Input, Happening, blank, entered, happening}
 use Rattle.block_command.proofs.Door.{Agrees, steps, rights_then, begins}
-use Rattle.block_disk.specs.Table.{Table, none_under_way, with_command}
-use Rattle.block_disk.specs.Laws.{Event, Takes, Does, Resets, IsEvent, AreEvents, after, Shown, Took, Refused, At, shown_at, shown, account}
-use Rattle.block_disk.specs.Laws.{Page, at_page, page_entered, entered_in, PageAllows, IsAllowedBy, Earned, EndsAreEarned}
+use Rattle.block_disk.specs.{Table.{Table, none_under_way, with_command}, Laws.{Event, Takes, Does, Resets, IsEvent, AreEvents, after, Shown, Took}}
+use Rattle.block_disk.specs.Laws.{Refused, At, shown_at, shown, account, Page, at_page, page_entered, entered_in, PageAllows, IsAllowedBy, Earned}
+use Rattle.block_disk.specs.Laws.{EndsAreEarned}
 
 abbrev pub Matches : Option Moment → Option Page → Type 0
 Matches None None = Unit {0}

@@ -1,18 +1,14 @@
 -- Late answers count for nothing, and each number is given once.
-use Rattle.std.proofs.Common.{◌≡◌, ℕ, ◌<◌, true, false, List, [], ◌∷◌, set, Some, None, refl, sym, ap, ◌∙◌, arith}
-use Rattle.std.specs.Prelude.{Option, Bool, if◌then◌else◌}
-use Rattle.std.proofs.lemmas.List.{set-get_or}
-use Rattle.block_command.specs.Moments.{Moment}
-use Rattle.block_command.specs.Laws.{Input, Goes, Loads, Comes, Stores, Flushes, Fails, Happening, happening}
-use Rattle.block_disk.specs.Table.{at, with_input}
-use Rattle.block_disk.specs.Laws as laws
-use Rattle.block_disk.specs.Laws.{Page, At, Took, Refused, shown_at, entered_in, at_page, page_entered}
-use Rattle.block_disk.specs.Requests.{Queue, is_answer, Act, Takes, Sends, Asks, Hears, Answers, Resets, Draws, IsAct, AreActs, after_act, is_out, told, none_queued}
-use Rattle.block_disk.specs.Requests.{OnLink, seen, seen_by, Books, no_books, entered_by, out_after, IsSeenRightly, AreSeenRightly}
-use Rattle.block_disk.specs.Requests.{LateAnswersCountForNothing, numbers_given, Rises, NumbersAreFresh}
-use Rattle.block_disk.proofs.Ends.{Kept, Matches, kept_none, next}
-use Rattle.std.specs.Option.{option_map}
+use Rattle.std.proofs.{Common.{◌≡◌, ℕ, ◌<◌, true, false, List, [], ◌∷◌, set, Some, None, refl, sym, ap, ◌∙◌, arith}, lemmas.List.{set-get_or}}
+use Rattle.std.specs.{Prelude.{Option, Bool, if◌then◌else◌}, Option.option_map}
+use Rattle.block_command.specs.{Moments.Moment, Laws.{Input, Goes, Loads, Comes, Stores, Flushes, Fails, Happening, happening}}
 use Rattle.block_command.specs.declared.command.Command.{Command}
+use Rattle.block_disk.specs.{Table.{at, with_input}, Laws.{Page, At, Took, Refused, shown_at, entered_in, at_page, page_entered}, Requests.Queue}
+use Rattle.block_disk.specs.Requests.{is_answer, Act, Takes, Sends, Asks, Hears, Answers, Resets, Draws, IsAct, AreActs, after_act, is_out, told}
+use Rattle.block_disk.specs.Requests.{none_queued, OnLink, seen, seen_by, Books, no_books, entered_by, out_after, IsSeenRightly, AreSeenRightly}
+use Rattle.block_disk.specs.Requests.{LateAnswersCountForNothing, numbers_given, Rises, NumbersAreFresh}
+use Rattle.block_disk.specs.Laws as laws
+use Rattle.block_disk.proofs.Ends.{Kept, Matches, kept_none, next}
 
 pub record Agree (q : Queue) (b : Books) : Type 0 where
   pub kept : Kept q.table.places b.pages

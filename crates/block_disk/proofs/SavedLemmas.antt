@@ -2,8 +2,7 @@
 use Rattle.std.proofs.Common.{◌≡◌, ℕ, List, length, sym, subst}
 use Rattle.std.specs.Prelude.{Option}
 use Rattle.block_command.specs.Moments.{Moment}
-use Rattle.block_disk.specs.Table.{Table}
-use Rattle.block_disk.specs.Saved.{KeepsTable, KeepsTableParts, TableParts, put_table, put_table_parts}
+use Rattle.block_disk.specs.{Table.Table, Saved.{KeepsTable, KeepsTableParts, TableParts, put_table, put_table_parts}}
 
 abbrev pub table_of : TableParts → List (Option Moment) → Table
 table_of parts places = record { places = places; wire = parts.1 }

@@ -1,21 +1,18 @@
 -- Data of queued commands are of the command that the last DMA Setup named: at most one command has the wire.
 use Rattle.std.proofs.Common.{◌≡◌, ℕ, ◌+◌, ◌<◌, true, false, List, [], ◌∷◌, length, get_or, set, Some, None, refl, sym, ap, ◌∙◌, arith, inl, inr}
-use Rattle.std.specs.Prelude.{Option, Bool, replicate, is_none, not, ◌||◌, ◌&&◌, ◌==◌, nat_lt, if◌then◌else◌}
-use Rattle.std.specs.Option.{option_map}
-use Rattle.std.proofs.lemmas.Bool.{cases_eq, cases_lt, lt-ltb, eqb-true, eqb-false}
-use Rattle.std.proofs.lemmas.List.{get_or-set_same, get_or-set_other, length-set, length-replicate}
-use Rattle.block_command.specs.declared.command.Command.{Command}
-use Rattle.block_command.specs.declared.command.Protocol.{Protocol}
-use Rattle.block_command.specs.declared.command.Protocol.TheVariants.{Queued, Dma, Pio, Verify}
-use Rattle.block_command.specs.declared.command.Stage.{Stage}
-use Rattle.block_command.specs.declared.command.Stage.TheVariants.{Waiting, Load, Loading, SetUpRead, Announce, Sending, SetUpWrite, Activate, Receiving, Store, Storing, Flush, End}
-use Rattle.block_command.specs.Moments.{Moment, opening, is_set_up, is_queued, is_verify, turn_of, part_count, part_len, first_data_stage, data_stage, read_on}
-use Rattle.block_command.specs.Laws.{Input, Goes, Loads, Comes, Stores, Flushes, Fails, Happening, happening}
+use Rattle.std.proofs.lemmas.{Bool.{cases_eq, cases_lt, lt-ltb, eqb-true, eqb-false}, List.{get_or-set_same, get_or-set_other, length-set}}
+use Rattle.std.proofs.lemmas.List.{length-replicate}
+use Rattle.std.specs.{Prelude.{Option, Bool, replicate, is_none, not, ◌||◌, ◌&&◌, ◌==◌, nat_lt, if◌then◌else◌}, Option.option_map}
+use Rattle.block_command.specs.declared.command.{Command.Command, Protocol.{Protocol, TheVariants.{Queued, Dma, Pio, Verify}}, Stage.Stage}
+use Rattle.block_command.specs.declared.command.Stage.TheVariants.{Waiting, Load, Loading, SetUpRead, Announce, Sending, SetUpWrite, Activate}
+use Rattle.block_command.specs.{declared.command.Stage.TheVariants.{Receiving, Store, Storing, Flush, End}, Moments.{Moment, opening, is_set_up}}
+use Rattle.block_command.specs.{Moments.{is_queued, is_verify, turn_of, part_count, part_len, first_data_stage, data_stage, read_on}, Laws.Input}
+use Rattle.block_command.specs.Laws.{Goes, Loads, Comes, Stores, Flushes, Fails, Happening, happening}
 use Rattle.block_command.specs.Laws as command
 use Rattle.block_command.proofs.Door.{same_command, at as moment}
-use Rattle.block_disk.specs.Table.{Table, at, has_wire, may_go_at, wants_wire, freed, none_under_way, with_command}
-use Rattle.block_disk.specs.Laws.{Event, Takes, Does, Resets, IsAllowed, AreAllowed, after, Shown, At, Took, Refused, shown, shown_at, account}
-use Rattle.block_disk.specs.Laws.{wire_after, IsWired, AreWired, DataAreNamed}
+use Rattle.block_disk.specs.{Table.{Table, at, has_wire, may_go_at, wants_wire, freed, none_under_way, with_command}, Laws.{Event, Takes, Does}}
+use Rattle.block_disk.specs.Laws.{Resets, IsAllowed, AreAllowed, after, Shown, At, Took, Refused, shown, shown_at, account, wire_after, IsWired}
+use Rattle.block_disk.specs.Laws.{AreWired, DataAreNamed}
 use Rattle.block_disk.proofs.Ends.{each_is}
 
 abbrev sets_up : Stage → Input → Bool

@@ -2,9 +2,8 @@
 -- was taken last and its ledger since then.
 use Rattle.std.specs.Prelude.{ℕ, ◌≡◌, ◌<◌, true, List, [], ◌∷◌, Option, Some, None, nat_lt, if◌then◌else◌, replicate, slice_set, slice_index_or}
 use Rattle.std.specs.Option.{option_map}
-use Rattle.block_command.specs.declared.command.Command.{Command}
-use Rattle.block_command.specs.Moments.{IsCommand, Moment, is_queued}
-use Rattle.block_command.specs.Laws.{Input, Happening, Ledger, blank, entered, HappensRightly, happening}
+use Rattle.block_command.specs.{declared.command.Command.Command, Moments.{IsCommand, Moment, is_queued}, Laws.{Input, Happening, Ledger, blank}}
+use Rattle.block_command.specs.Laws.{entered, HappensRightly, happening}
 use Rattle.block_command.specs.Laws as command
 use Rattle.block_disk.specs.Table.{Table, at, is_under_way, may_go, none_under_way, with_input, with_taken}
 

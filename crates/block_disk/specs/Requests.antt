@@ -1,15 +1,13 @@
 -- Requests have numbers: what a command asks of its caller has a number that no other request has had, and an answer counts
 -- only where it names the number of the request that is out at its place.
-use Rattle.std.specs.Prelude.{ℕ, ◌+◌, ◌≡◌, ◌==◌, ◌<◌, ◌&&◌, nat_lt, Bool, true, false, List, [], ◌∷◌, ◌++◌, Option, Some, None, replicate, slice_index_or, slice_set, if◌then◌else◌}
-use Rattle.block_command.specs.declared.command.Command.{Command}
-use Rattle.block_command.specs.declared.command.Turn.{Turn}
+use Rattle.std.specs.Prelude.{ℕ, ◌+◌, ◌≡◌, ◌==◌, ◌<◌, ◌&&◌, nat_lt, Bool, true, false, List, [], ◌∷◌, ◌++◌, Option, Some, None, replicate}
+use Rattle.std.specs.Prelude.{slice_index_or, slice_set, if◌then◌else◌}
+use Rattle.block_command.specs.{declared.command.{Command.Command, Turn.Turn}, Moments.{IsCommand, Moment, is_queued, turn_of}, Laws.Input}
+use Rattle.block_command.specs.Laws.{Happening, Goes, Comes, Loads, Stores, Flushes, Fails, Waited, Loaded, Stored, Flushed, Failed}
+use Rattle.block_command.specs.declared.answer.AnswerError.{AnswerError, TheVariants.NotOut}
 use Rattle.block_command.specs.declared.command.Turn.TheVariants as turn
-use Rattle.block_command.specs.Moments.{IsCommand, Moment, is_queued, turn_of}
-use Rattle.block_command.specs.Laws.{Input, Happening, Goes, Comes, Loads, Stores, Flushes, Fails, Waited, Loaded, Stored, Flushed, Failed}
-use Rattle.block_command.specs.declared.answer.AnswerError.{AnswerError}
-use Rattle.block_command.specs.declared.answer.AnswerError.TheVariants.{NotOut}
-use Rattle.block_disk.specs.Table.{Table, at, is_under_way, may_go, none_under_way, refusal_at, with_input, with_taken}
-use Rattle.block_disk.specs.Laws.{Page, Shown, Took, Refused, At, Reset, IsAllowedBy, entered_in, shown_at}
+use Rattle.block_disk.specs.{Table.{Table, at, is_under_way, may_go, none_under_way, refusal_at, with_input, with_taken}, Laws.{Page, Shown, Took}}
+use Rattle.block_disk.specs.Laws.{Refused, At, Reset, IsAllowedBy, entered_in, shown_at}
 
 pub record Queue : Type 0 where
   pub table : Table

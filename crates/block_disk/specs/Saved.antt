@@ -1,13 +1,10 @@
 -- The commands by place, and the numbers of their requests, as words.
-use Rattle.std.specs.Prelude.{◌≡◌, ℕ, ◌<◌, ◌^◌, ◌==◌, Bool, List, Option, length}
-use Rattle.std.specs.List.{AllByRecursion}
+use Rattle.std.specs.{Prelude.{◌≡◌, ℕ, ◌<◌, ◌^◌, ◌==◌, Bool, List, Option, length}, List.AllByRecursion}
 use Rattle.std.proofs.Common.{ap, sym, ◌∙◌}
-use Rattle.saved_state.specs.State.{IsToldApart, KeepsOption, put_all, put_list, put_number, put_option, put_pair, put_three}
-use Rattle.saved_state.specs.State.{all_apart, list_apart, number_apart, option_apart, pair_apart, parts_apart, three_apart}
-use Rattle.block_command.specs.Moments.{Moment}
-use Rattle.block_command.specs.Saved.{KeepsMoment, moment_apart, put_moment}
-use Rattle.block_disk.specs.Table.{Table}
-use Rattle.block_disk.specs.Requests.{Queue}
+use Rattle.saved_state.specs.State.{IsToldApart, KeepsOption, put_all, put_list, put_number, put_option, put_pair, put_three, all_apart, list_apart}
+use Rattle.saved_state.specs.State.{number_apart, option_apart, pair_apart, parts_apart, three_apart}
+use Rattle.block_command.specs.{Moments.Moment, Saved.{KeepsMoment, moment_apart, put_moment}}
+use Rattle.block_disk.specs.{Table.Table, Requests.Queue}
 
 -- ## The table: the commands by place, and who has the wire
 

@@ -1,13 +1,9 @@
 -- The commands of a block disk under way: one at each of 32 tags, and one that is not queued.
-use Rattle.std.specs.Prelude.{ℕ, List, Option, Some, None, replicate, slice_index_or, slice_set, is_none, Bool, true, false, not, ◌||◌, ◌==◌, if◌then◌else◌}
-use Rattle.std.specs.Option.{option_map}
-use Rattle.block_command.specs.declared.command.Command.{Command}
-use Rattle.block_command.specs.declared.command.Turn.{Turn}
+use Rattle.std.specs.Prelude.{ℕ, List, Option, Some, None, replicate, slice_index_or, slice_set, is_none, Bool, true, false, not, ◌||◌, ◌==◌}
+use Rattle.std.specs.{Prelude.{if◌then◌else◌}, Option.option_map}
+use Rattle.block_command.specs.{declared.command.{Command.Command, Turn.Turn}, Moments.{Moment, opening, holds, is_ended, keeps_data, starts_write}}
+use Rattle.block_command.specs.{Moments.turn_of, declared.answer.AnswerError.{AnswerError, TheVariants.NotOut}, Laws.{Input, after, refusal}}
 use Rattle.block_command.specs.declared.command.Turn.TheVariants as turn
-use Rattle.block_command.specs.Moments.{Moment, opening, holds, is_ended, keeps_data, starts_write, turn_of}
-use Rattle.block_command.specs.declared.answer.AnswerError.{AnswerError}
-use Rattle.block_command.specs.declared.answer.AnswerError.TheVariants.{NotOut}
-use Rattle.block_command.specs.Laws.{Input, after, refusal}
 
 -- the command at each place, and the queued one whose Data are on the link
 pub record Table : Type 0 where

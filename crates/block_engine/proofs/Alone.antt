@@ -1,34 +1,24 @@
 -- While a discard is out, nothing of the queue runs.
-use Rattle.std.proofs.Common.{◌≡◌, ℕ, zero, suc, ◌<◌, ◌≤◌, true, false, List, [], ◌∷◌, length, get_or, set, Some, None, refl, sym, ap, ◌∙◌, arith, inl, inr, subst}
-use Rattle.std.specs.Prelude.{Option, Bool, not, ◌&&◌, ◌||◌, is_none, if◌then◌else◌}
-use Rattle.std.specs.Option.{option_map, is_some}
-use Rattle.std.proofs.lemmas.Bool.{cases_eq, cases_lt}
-use Rattle.std.proofs.lemmas.List.{get_or-set_same, get_or-set_other, length-set}
+use Rattle.std.proofs.Common.{◌≡◌, ℕ, zero, suc, ◌<◌, ◌≤◌, true, false, List, [], ◌∷◌, length, get_or, set, Some, None, refl, sym, ap, ◌∙◌, arith}
+use Rattle.std.proofs.{Common.{inl, inr, subst}, lemmas.{Bool.{cases_eq, cases_lt}, List.{get_or-set_same, get_or-set_other, length-set}}}
 use Rattle.std.proofs.Math.ListN.{get_or-eq_default}
-use Rattle.block_command.specs.declared.command.Command.{Command}
-use Rattle.block_command.specs.declared.command.Stage.{Stage}
-use Rattle.block_command.specs.declared.command.Stage.TheVariants.{Waiting, Ended}
-use Rattle.block_command.specs.Moments.{Moment, is_ended, is_storing, opening, runs, turn_of}
+use Rattle.std.specs.{Prelude.{Option, Bool, not, ◌&&◌, ◌||◌, is_none, if◌then◌else◌}, Option.{option_map, is_some}}
+use Rattle.block_command.specs.{declared.command.{Command.Command, Stage.{Stage, TheVariants.{Waiting, Ended}}}, Moments.{Moment, is_ended}}
+use Rattle.block_command.specs.{Moments.{is_storing, opening, runs, turn_of}, Laws.{Input, Goes, Stores, Flushes, after}}
 use Rattle.block_command.specs.Laws as command
-use Rattle.block_command.specs.Laws.{Input, Goes, Stores, Flushes, after}
-use Rattle.block_disk.specs.Table.{is_under_way, with_command, with_input}
-use Rattle.block_disk.specs.Requests.{asks_at, is_fis, is_request, sends_at, with_drawn, with_table}
+use Rattle.block_disk.specs.{Table.{is_under_way, with_command, with_input}, Requests.{asks_at, is_fis, is_request, sends_at, with_drawn, with_table}}
 use Rattle.block_disk.proofs.Door.{each_is}
-use Rattle.block_queue.specs.Line.{Line, any_below, command_at, left_of, line_answered, line_gone, line_reset, line_taken, may_send, orphan, orphan_of, with_queue}
-use Rattle.block_queue.specs.declared.queue.Orphan.{Orphan}
+use Rattle.block_queue.specs.Line.{Line, any_below, command_at, left_of, line_answered, line_gone, line_reset, line_taken, may_send, orphan}
+use Rattle.block_queue.specs.{Line.{orphan_of, with_queue}, declared.queue.Orphan.Orphan}
 use Rattle.block_queue.proofs.Door.{left_read, of_and, runs_before, storing_runs}
-use Rattle.block_scheduler.specs.Sets.{ends_at}
-use Rattle.block_scheduler.specs.Schedule.{ends_sent, is_busy, is_quiet}
-use Rattle.block_engine.specs.declared.aside.AsideKind.{AsideKind}
+use Rattle.block_scheduler.specs.{Sets.ends_at, Schedule.{ends_sent, is_busy, is_quiet}}
+use Rattle.block_engine.specs.{declared.{aside.{AsideKind.AsideKind, AsideStage.AsideStage}, request.Answer.Answer}, Aside.settled, Engine.runs_at}
+use Rattle.block_engine.specs.Engine.{EngineState, answered, discards, done_at, done_of, dropped_by, failed_by, is_asked, is_discard, line, loaded_at}
+use Rattle.block_engine.specs.{Engine.{none_engaged, place_of}, Laws.{Step, Takes, TakesAside, Starts, Asks, AsksAside, Answers, Hears, Sends}}
+use Rattle.block_engine.specs.Laws.{SendsEnds, SendsAside, Forgives, Resets, IsStep, after_step, AreSteps, after_steps, IsStill, DiscardsAreAlone}
 use Rattle.block_engine.specs.declared.aside.AsideKind.TheVariants as kinds
-use Rattle.block_engine.specs.declared.aside.AsideStage.{AsideStage}
 use Rattle.block_engine.specs.declared.aside.AsideStage.TheVariants as stages
-use Rattle.block_engine.specs.declared.request.Answer.{Answer}
 use Rattle.block_engine.specs.declared.request.Answer.TheVariants as answers
-use Rattle.block_engine.specs.Aside.{settled}
-use Rattle.block_engine.specs.Engine.{runs_at, EngineState, answered, discards, done_at, done_of, dropped_by, failed_by, is_asked, is_discard, line, loaded_at, none_engaged, place_of}
-use Rattle.block_engine.specs.Laws.{Step, Takes, TakesAside, Starts, Asks, AsksAside, Answers, Hears, Sends, SendsEnds, SendsAside, Forgives, Resets}
-use Rattle.block_engine.specs.Laws.{IsStep, after_step, AreSteps, after_steps, IsStill, DiscardsAreAlone}
 
 -- ## Commands that do not run
 

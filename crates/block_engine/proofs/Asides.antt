@@ -1,10 +1,9 @@
 -- The end of a command beside the queue is earned: at each stage the book is a function of the stage.
 use Rattle.std.proofs.Common.{◌≡◌, ℕ, true, false, List, [], ◌∷◌, Some, None, refl, sym, subst}
 use Rattle.std.specs.Prelude.{Bool, Option, ◌==◌, if◌then◌else◌}
-use Rattle.block_engine.specs.declared.aside.AsideStage.{AsideStage}
-use Rattle.block_engine.specs.declared.aside.AsideStage.TheVariants.{Idle, Waiting, Asked, Done, Failed}
-use Rattle.block_engine.specs.Aside.{AsideStep, Takes, Asks, Answers, Sends, Resets, after_answer, after_step, settled, step_shown, aside_account}
-use Rattle.block_engine.specs.Aside.{AsideBook, blank_aside, book_answered, aside_entered, IsSettled, AreSettled, AsidesAreEarned}
+use Rattle.block_engine.specs.{declared.aside.AsideStage.{AsideStage, TheVariants.{Idle, Waiting, Asked, Done, Failed}}, Aside.{AsideStep, Takes}}
+use Rattle.block_engine.specs.Aside.{Asks, Answers, Sends, Resets, after_answer, after_step, settled, step_shown, aside_account, AsideBook}
+use Rattle.block_engine.specs.Aside.{blank_aside, book_answered, aside_entered, IsSettled, AreSettled, AsidesAreEarned}
 
 -- what the book says at a stage
 abbrev pub Books : AsideStage → AsideBook → Type 0

@@ -1,12 +1,11 @@
 -- What is asked next, by whom.
 use Rattle.std.proofs.Common.{◌≡◌, ℕ, true, false, Some, None, sym, ap, inl, inr, ◌⊎◌, ◌≤◌}
 use Rattle.std.specs.Prelude.{Option, IfSome, IfNone, ◌^◌, is_none, if◌then◌else◌}
-use Rattle.block_command.specs.declared.answer.AnswerError.{AnswerError}
-use Rattle.block_command.specs.Laws.{Stores, Flushes}
+use Rattle.block_command.specs.{declared.answer.AnswerError.AnswerError, Laws.{Stores, Flushes}}
 use Rattle.block_queue.specs.Line.{IsOldest, Line, PassesNowhere, command_at, line_refusal}
 use Rattle.block_scheduler.specs.Sets.{asks_at}
-use Rattle.block_engine.specs.declared.request.Request.{Request}
-use Rattle.block_engine.specs.Engine.{EngineState, IsRequested, aside_asked, aside_what, done_of, line, may_ask, place_asked, what_at}
+use Rattle.block_engine.specs.{declared.request.Request.Request, Engine.{EngineState, IsRequested, aside_asked, aside_what, done_of, line, may_ask}}
+use Rattle.block_engine.specs.Engine.{place_asked, what_at}
 
 pub place_asks : (old new : EngineState) (result : Option Request) (p : ℕ) → IsOldest (line old).ranks (asks_at (line old)) p
     → IfSome result (λ r. r.number ≡ (line old).queue.next) → IfSome result (λ r. r.place ≡ Some p)

@@ -1,29 +1,20 @@
 -- What an engine keeps of a failure is of the command that was taken last at its place.
 use Rattle.std.proofs.Common.{◌≡◌, ℕ, ◌<◌, true, false, List, [], ◌∷◌, length, get_or, set, Some, None, refl, sym, ap, ◌∙◌, arith, subst}
+use Rattle.std.proofs.lemmas.{Bool.{eqb-true, eqb-false}, Option.{none-some}, List.{get_or-set_same, get_or-set_other, length-set, length-replicate}}
 use Rattle.std.specs.Prelude.{Option, Bool, not, ◌&&◌, ◌==◌, if◌then◌else◌, replicate}
-use Rattle.std.proofs.lemmas.Bool.{eqb-true, eqb-false}
-use Rattle.std.proofs.lemmas.Option.{none-some}
-use Rattle.std.proofs.lemmas.List.{get_or-set_same, get_or-set_other, length-set, length-replicate}
-use Rattle.block_command.specs.declared.answer.AnswerError.{AnswerError}
-use Rattle.block_command.specs.declared.command.Stage.{Stage}
-use Rattle.block_command.specs.declared.command.Stage.TheVariants.{Loading, Storing, Flushing}
-use Rattle.block_command.specs.Moments.{Moment, failure_fault, runs}
-use Rattle.block_command.specs.Laws.{Fails}
-use Rattle.block_disk.specs.Table.{is_under_way, refusal_at}
-use Rattle.block_disk.specs.Requests.{is_out}
+use Rattle.block_command.specs.declared.{answer.AnswerError.AnswerError, command.Stage.{Stage, TheVariants.{Loading, Storing, Flushing}}}
+use Rattle.block_command.specs.{Moments.{Moment, failure_fault, runs}, Laws.Fails}
+use Rattle.block_disk.specs.{Table.{is_under_way, refusal_at}, Requests.is_out}
 use Rattle.block_disk.proofs.Door.{each_is}
-use Rattle.block_queue.specs.declared.queue.Orphan.{Orphan}
-use Rattle.block_queue.specs.Line.{IsLine, Line, awaits, command_at, line_refusal, orphan, orphan_refusal}
+use Rattle.block_queue.specs.{declared.queue.Orphan.Orphan, Line.{IsLine, Line, awaits, command_at, line_refusal, orphan, orphan_refusal}}
 use Rattle.block_queue.proofs.Door.{new_line}
 use Rattle.block_scheduler.proofs.Runs.{line_of}
-use Rattle.block_engine.specs.declared.aside.AsideStage.{AsideStage}
-use Rattle.block_engine.specs.declared.request.Answer.{Answer}
+use Rattle.block_engine.specs.{declared.{aside.AsideStage.AsideStage, request.{Answer.Answer, Failure.Failure}}, Aside.{asks_for, settled}}
+use Rattle.block_engine.specs.Engine.{EngineState, answered, done_at, fail_refusal, failed_by, line, loaded_at, none_engaged, or_else, place_of}
+use Rattle.block_engine.specs.{Engine.runs_at, Laws.{Step, Takes, TakesAside, Starts, Asks, AsksAside, Answers, Hears, Sends, SendsEnds, SendsAside}}
+use Rattle.block_engine.specs.Laws.{Forgives, Resets, IsStep, after_step, AreSteps, after_steps, moves_of, is_own, failure_after, failure_in}
+use Rattle.block_engine.specs.Laws.{FailuresAreOwn}
 use Rattle.block_engine.specs.declared.request.Answer.TheVariants as answers
-use Rattle.block_engine.specs.declared.request.Failure.{Failure}
-use Rattle.block_engine.specs.Aside.{asks_for, settled}
-use Rattle.block_engine.specs.Engine.{EngineState, answered, done_at, fail_refusal, failed_by, line, loaded_at, none_engaged, or_else, place_of, runs_at}
-use Rattle.block_engine.specs.Laws.{Step, Takes, TakesAside, Starts, Asks, AsksAside, Answers, Hears, Sends, SendsEnds, SendsAside, Forgives, Resets}
-use Rattle.block_engine.specs.Laws.{IsStep, after_step, AreSteps, after_steps, moves_of, is_own, failure_after, failure_in, FailuresAreOwn}
 use Rattle.block_engine.proofs.Runs.{found_low, moved, step_are}
 
 -- ## The request that is out is of a command that runs

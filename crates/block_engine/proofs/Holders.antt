@@ -1,30 +1,23 @@
 -- Each number that is not answered was given, and to one alone: what each call leaves of that, and what a restored engine shows.
-use Rattle.std.proofs.Common.{◌≡◌, ◌≢◌, ℕ, zero, suc, ◌+◌, ◌-◌, ◌<◌, ◌≤◌, true, false, List, length, get_or, set, Some, None, refl, sym, ap, ◌∙◌, arith, inl, inr, ◌⊎◌, subst}
+use Rattle.std.proofs.Common.{◌≡◌, ◌≢◌, ℕ, zero, suc, ◌+◌, ◌-◌, ◌<◌, ◌≤◌, true, false, List, length, get_or, set, Some, None, refl, sym, ap, ◌∙◌}
+use Rattle.std.proofs.{Common.{arith, inl, inr, ◌⊎◌, subst}, lemmas.Bool.{cases_eq, cases_lt, lt-ltb, le-ltb, lt-leb, leb-false, eq-eqb, eqb-true}}
+use Rattle.std.proofs.lemmas.{Bool.{false_from_ne_true, not-false, not-true, not_from_true, not_from_false}, Option.same_Some, List.{get_or-set_same}}
+use Rattle.std.proofs.{lemmas.List.{get_or-set_other, length-set}, Math.ListN.{get_or-eq_default}}
 use Rattle.std.specs.Prelude.{Option, Bool, Result, Ok, Err, OnOk, OnErr, not, ◌||◌, ◌&&◌, ◌==◌, nat_lt, nat_le, if◌then◌else◌, replicate}
-use Rattle.std.proofs.lemmas.Bool.{cases_eq, cases_lt, lt-ltb, le-ltb, lt-leb, leb-false, eq-eqb, eqb-true, false_from_ne_true, not-false, not-true, not_from_true, not_from_false}
-use Rattle.std.proofs.lemmas.Option.{same_Some}
-use Rattle.std.proofs.lemmas.List.{get_or-set_same, get_or-set_other, length-set}
-use Rattle.std.proofs.Math.ListN.{get_or-eq_default}
 use Rattle.block_command.specs.declared.command.Command as commands
-use Rattle.block_command.specs.Moments.{Moment, is_storing}
-use Rattle.block_command.specs.Laws.{Input}
-use Rattle.block_disk.specs.Table.{is_under_way, with_input, with_taken}
-use Rattle.block_disk.specs.Requests.{Queue, is_out, number_at, with_table, number_of as given_number}
+use Rattle.block_command.specs.{Moments.{Moment, is_storing}, Laws.Input}
+use Rattle.block_disk.specs.{Table.{is_under_way, with_input, with_taken}, Requests.{Queue, is_out, number_at, with_table, number_of as given_number}}
 use Rattle.block_disk.proofs.Door.{each_is}
-use Rattle.block_queue.specs.declared.queue.Orphan.{Orphan}
-use Rattle.block_queue.specs.Line.{Line, any_below, command_at, is_of, left_of, line_answered, line_gone, line_reset, line_taken, may_send, moved_back, none_in_line, orphan, orphan_of}
+use Rattle.block_queue.specs.{declared.queue.Orphan.Orphan, Line.{Line, any_below, command_at, is_of, left_of, line_answered, line_gone, line_reset}}
+use Rattle.block_queue.specs.Line.{line_taken, may_send, moved_back, none_in_line, orphan, orphan_of}
 use Rattle.block_queue.proofs.Door.{any_at, any_none, left_read, of_or}
-use Rattle.block_scheduler.specs.Sets.{ends_at}
-use Rattle.block_scheduler.specs.Schedule.{Schedule, ends_all, ends_sent, line_sent, with_line}
-use Rattle.block_engine.specs.declared.aside.AsideKind.{AsideKind}
+use Rattle.block_scheduler.specs.{Sets.ends_at, Schedule.{Schedule, ends_all, ends_sent, line_sent, with_line}}
+use Rattle.block_engine.specs.declared.{aside.{AsideKind.AsideKind, AsideStage.AsideStage}, numbers.Holder.{Holder, TheVariants.{Command, Store}}}
+use Rattle.block_engine.specs.{declared.numbers.Holder.TheVariants.{Aside, Discard}, Aside.settled, Engine.dropped_by, Numbers.{AreNumbered, IsAlone}}
+use Rattle.block_engine.specs.Numbers.{IsHolder, are_numbered, asked_number, has_number, holder_at, is_misnumbered, is_number, misnumbered, number_of}
+use Rattle.block_engine.specs.Numbers.{store_number}
 use Rattle.block_engine.specs.declared.aside.AsideKind.TheVariants as kinds
-use Rattle.block_engine.specs.declared.aside.AsideStage.{AsideStage}
 use Rattle.block_engine.specs.declared.aside.AsideStage.TheVariants as stages
-use Rattle.block_engine.specs.declared.numbers.Holder.{Holder}
-use Rattle.block_engine.specs.declared.numbers.Holder.TheVariants.{Command, Store, Aside, Discard}
-use Rattle.block_engine.specs.Aside.{settled}
-use Rattle.block_engine.specs.Engine.{dropped_by}
-use Rattle.block_engine.specs.Numbers.{AreNumbered, IsAlone, IsHolder, are_numbered, asked_number, has_number, holder_at, is_misnumbered, is_number, misnumbered, number_of, store_number}
 
 -- ## Numbers go, or one is given
 

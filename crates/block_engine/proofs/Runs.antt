@@ -1,24 +1,19 @@
 -- A run of an engine is one of its scheduler.
 use Rattle.std.proofs.Common.{◌≡◌, ℕ, zero, suc, ◌<◌, true, false, List, [], ◌∷◌, ◌++◌, Some, None, refl, sym, ap, ◌∙◌, arith, inl, inr, ◌⊎◌, subst}
-use Rattle.std.specs.Prelude.{Option, Bool, if◌then◌else◌}
 use Rattle.std.proofs.lemmas.Option.{same_Some}
+use Rattle.std.specs.Prelude.{Option, Bool, if◌then◌else◌}
 use Rattle.block_command.specs.Laws.{Stores, Flushes}
-use Rattle.block_disk.specs.Table.{is_under_way}
-use Rattle.block_disk.specs.Requests.{is_answer}
-use Rattle.block_queue.specs.Line.{awaits, command_at, first_below, or_this}
-use Rattle.block_queue.specs.Deeds.{Goes}
-use Rattle.block_scheduler.specs.Schedule.{IsNextStart, Schedule}
+use Rattle.block_disk.specs.{Table.is_under_way, Requests.is_answer}
+use Rattle.block_queue.specs.{Line.{awaits, command_at, first_below, or_this}, Deeds.Goes}
+use Rattle.block_scheduler.specs.{Schedule.{IsNextStart, Schedule}, Laws.{Move, after_move, after_moves}}
 use Rattle.block_scheduler.specs.Laws as moves
-use Rattle.block_scheduler.specs.Laws.{Move, after_move, after_moves}
 use Rattle.block_scheduler.proofs.Runs as runs
-use Rattle.block_engine.specs.declared.aside.AsideStage.{AsideStage}
-use Rattle.block_engine.specs.declared.request.Answer.{Answer}
+use Rattle.block_engine.specs.{declared.{aside.AsideStage.AsideStage, request.Answer.Answer}, Aside.settled, Engine.{EngineState, IsEngineStart}}
+use Rattle.block_engine.specs.{Engine.{answered, discards, done_at, failed_by, line, loaded_at, none_engaged, place_of}, Laws.{Step, Takes}}
+use Rattle.block_engine.specs.Laws.{TakesAside, Starts, Asks, AsksAside, Answers, Hears, Sends, SendsEnds, SendsAside, Forgives, Resets, IsStep}
+use Rattle.block_engine.specs.Laws.{after_step, AreSteps, after_steps, answer_moves, moves_of, all_moves, IsHeard, AreHeard, RequestsAreApart}
+use Rattle.block_engine.specs.Laws.{EndsAreEarned, NumbersAreFresh, DataAreNamed, SomethingMoves}
 use Rattle.block_engine.specs.declared.request.Answer.TheVariants as answers
-use Rattle.block_engine.specs.Aside.{settled}
-use Rattle.block_engine.specs.Engine.{EngineState, IsEngineStart, answered, discards, done_at, failed_by, line, loaded_at, none_engaged, place_of}
-use Rattle.block_engine.specs.Laws.{Step, Takes, TakesAside, Starts, Asks, AsksAside, Answers, Hears, Sends, SendsEnds, SendsAside, Forgives, Resets}
-use Rattle.block_engine.specs.Laws.{IsStep, after_step, AreSteps, after_steps, answer_moves, moves_of, all_moves, IsHeard, AreHeard}
-use Rattle.block_engine.specs.Laws.{RequestsAreApart, EndsAreEarned, NumbersAreFresh, DataAreNamed, SomethingMoves}
 
 -- ## Lists of moves
 

@@ -1,9 +1,7 @@
 -- A restored engine.
 use Rattle.std.proofs.Common.{◌≡◌, ℕ, List, sym, subst}
-use Rattle.block_engine.specs.declared.request.Range.{Range}
-use Rattle.block_engine.specs.Engine.{EngineState}
-use Rattle.block_engine.specs.Numbers.{AreNumbered}
-use Rattle.block_engine.specs.Saved.{KeepsEngine, KeepsParts, Parts, parts_of, put_engine, put_parts}
+use Rattle.block_engine.specs.{declared.request.Range.Range, Engine.EngineState, Numbers.AreNumbered, Saved.{KeepsEngine, KeepsParts, Parts}}
+use Rattle.block_engine.specs.Saved.{parts_of, put_engine, put_parts}
 
 abbrev pub engine_of : Parts → List Range → EngineState
 engine_of parts ranges = record {

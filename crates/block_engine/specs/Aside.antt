@@ -1,7 +1,6 @@
 -- A command beside the queue: its stages, its runs, and when its end is earned.
 use Rattle.std.specs.Prelude.{ℕ, ◌≡◌, ◌==◌, Bool, true, false, List, [], ◌∷◌, Option, Some, None, if◌then◌else◌}
-use Rattle.block_engine.specs.declared.aside.AsideStage.{AsideStage}
-use Rattle.block_engine.specs.declared.aside.AsideStage.TheVariants.{Idle, Waiting, Asked, Done, Failed}
+use Rattle.block_engine.specs.declared.aside.AsideStage.{AsideStage, TheVariants.{Idle, Waiting, Asked, Done, Failed}}
 
 -- whether it is to ask
 abbrev pub is_waiting : AsideStage → Bool

@@ -1,36 +1,22 @@
 -- The engine of a block disk: what it asks the caller for, what it makes of the answers, and which FIS goes next.
-use Rattle.std.specs.Prelude.{ℕ, ◌≡◌, ◌+◌, ◌^◌, ◌<◌, ◌≤◌, ◌==◌, nat_lt, nat_le, Bool, true, false, not, ◌&&◌, ◌||◌, ◌⊎◌}
-use Rattle.std.specs.Prelude.{List, [], Option, Some, None, is_none, replicate, slice_set, if◌then◌else◌}
-use Rattle.block_command.specs.declared.answer.AnswerError.{AnswerError}
-use Rattle.block_command.specs.declared.answer.AnswerError.TheVariants.{NotOut, OtherKind, OtherSector}
-use Rattle.block_command.specs.declared.command.Command.{Command}
-use Rattle.block_command.specs.declared.command.Turn.{Turn}
+use Rattle.std.specs.Prelude.{ℕ, ◌≡◌, ◌+◌, ◌^◌, ◌<◌, ◌≤◌, ◌==◌, nat_lt, nat_le, Bool, true, false, not, ◌&&◌, ◌||◌, ◌⊎◌, List, [], Option, Some, None}
+use Rattle.std.specs.Prelude.{is_none, replicate, slice_set, if◌then◌else◌}
+use Rattle.block_command.specs.declared.{answer.AnswerError.{AnswerError, TheVariants.{NotOut, OtherKind, OtherSector}}, command.Command.Command}
+use Rattle.block_command.specs.{declared.command.Turn.Turn, Moments.{Moment, is_storing, part_count, part_lba, runs, turn_of}, Laws.{Input, Loads}}
+use Rattle.block_command.specs.Laws.{Stores, Flushes, Fails}
 use Rattle.block_command.specs.declared.command.Turn.TheVariants as turn
-use Rattle.block_command.specs.Moments.{Moment, is_storing, part_count, part_lba, runs, turn_of}
-use Rattle.block_command.specs.Laws.{Input, Loads, Stores, Flushes, Fails}
-use Rattle.block_disk.specs.Table.{is_under_way, starts_write_at}
-use Rattle.block_disk.specs.Requests.{with_asked, with_drawn}
-use Rattle.block_queue.specs.Line.{IsOldest, Line, PassesNowhere, awaits, command_at, first_below, line_answered, line_gone, line_refusal, line_reset, line_taken, may_send, with_queue}
+use Rattle.block_disk.specs.{Table.{is_under_way, starts_write_at}, Requests.{with_asked, with_drawn}}
+use Rattle.block_queue.specs.Line.{IsOldest, Line, PassesNowhere, awaits, command_at, first_below, line_answered, line_gone, line_refusal, line_reset}
+use Rattle.block_queue.specs.Line.{line_taken, may_send, with_queue}
 use Rattle.block_scheduler.specs.declared.scheduler.NextFis.TheVariants as fis
-use Rattle.block_scheduler.specs.Sets.{asks_at}
-use Rattle.block_scheduler.specs.Schedule.{IsNextFis, IsNextStart, Schedule, is_quiet, none_scheduled, with_line}
-use Rattle.block_engine.specs.declared.aside.AsideKind.{AsideKind}
-use Rattle.block_engine.specs.declared.aside.AsideKind.TheVariants as kinds
-use Rattle.block_engine.specs.declared.aside.AsideStage.{AsideStage}
-use Rattle.block_engine.specs.declared.aside.AsideStage.TheVariants.{Idle, Waiting, Asked}
-use Rattle.block_engine.specs.declared.engine.EngineFis.{EngineFis}
-use Rattle.block_engine.specs.declared.engine.EngineFis.TheVariants.{Ends, Of, Aside}
-use Rattle.block_engine.specs.declared.request.Answer.{Answer}
-use Rattle.block_engine.specs.declared.request.Answer.TheVariants.{Loaded, Done, Failed}
-use Rattle.block_engine.specs.declared.request.Failure.{Failure}
-use Rattle.block_engine.specs.declared.request.ErrorKind.{ErrorKind}
-use Rattle.block_engine.specs.declared.request.ErrorKind.TheVariants.{Uncorrectable}
-use Rattle.block_engine.specs.declared.request.Range.{Range}
-use Rattle.block_engine.specs.declared.request.Request.{Request}
-use Rattle.block_engine.specs.declared.request.What.{What}
-use Rattle.block_engine.specs.declared.request.What.TheVariants as what
-use Rattle.block_engine.specs.Aside.{asks_for, is_over, is_waiting, settled}
+use Rattle.block_scheduler.specs.{Sets.asks_at, Schedule.{IsNextFis, IsNextStart, Schedule, is_quiet, none_scheduled, with_line}}
+use Rattle.block_engine.specs.declared.aside.{AsideKind.AsideKind, AsideStage.{AsideStage, TheVariants.{Idle, Waiting, Asked}}}
+use Rattle.block_engine.specs.declared.{engine.EngineFis.{EngineFis, TheVariants.{Ends, Of, Aside}}, request.Answer.{Answer, TheVariants.Loaded}}
+use Rattle.block_engine.specs.declared.request.{Answer.TheVariants.{Done, Failed}, Failure.Failure, ErrorKind.{ErrorKind, TheVariants.Uncorrectable}}
+use Rattle.block_engine.specs.{declared.request.{Range.Range, Request.Request, What.What}, Aside.{asks_for, is_over, is_waiting, settled}}
 use Rattle.block_engine.specs.Numbers.{is_number}
+use Rattle.block_engine.specs.declared.aside.AsideKind.TheVariants as kinds
+use Rattle.block_engine.specs.declared.request.What.TheVariants as what
 
 pub record EngineState : Type 0 where
   pub schedule : Schedule

@@ -1,25 +1,19 @@
 -- Runs of an engine: each call does to its scheduler what some calls of a scheduler do, so the laws of the scheduler hold of what an
 -- engine shows.
-use Rattle.std.specs.Prelude.{ℕ, ◌≡◌, ◌<◌, ◌≤◌, ◌⊎◌, nat_lt, true, false, List, [], ◌∷◌, ◌++◌, map, Option, Some, None, Bool, not, ◌==◌, ◌&&◌, if◌then◌else◌, slice_index_or}
-use Rattle.block_command.specs.declared.command.Command.{Command}
-use Rattle.block_command.specs.Moments.{IsCommand, is_queued}
+use Rattle.std.specs.Prelude.{ℕ, ◌≡◌, ◌<◌, ◌≤◌, ◌⊎◌, nat_lt, true, false, List, [], ◌∷◌, ◌++◌, map, Option, Some, None, Bool, not, ◌==◌, ◌&&◌}
+use Rattle.std.specs.Prelude.{if◌then◌else◌, slice_index_or}
+use Rattle.block_command.specs.{declared.command.Command.Command, Moments.{IsCommand, is_queued}, Laws.Comes}
 use Rattle.block_command.specs.Laws as command
-use Rattle.block_command.specs.Laws.{Comes}
-use Rattle.block_disk.specs.Table.{is_under_way, with_input}
-use Rattle.block_disk.specs.Requests.{AreSeenRightly, Rises, Seen, asks, is_out, no_books, none_queued, numbers_given, seen_by, with_table}
-use Rattle.block_queue.specs.Line.{Line, command_at, may_send, may_start, with_queue, orphan}
-use Rattle.block_queue.specs.Deeds.{AllAreApart, AreNamed, Goes, act_of}
-use Rattle.block_scheduler.specs.Schedule.{ends_sent, line_sent}
+use Rattle.block_disk.specs.{Table.{is_under_way, with_input}, Requests.{AreSeenRightly, Rises, Seen, asks, is_out, no_books, none_queued}}
+use Rattle.block_disk.specs.Requests.{numbers_given, seen_by, with_table}
+use Rattle.block_queue.specs.{Line.{Line, command_at, may_send, may_start, with_queue, orphan}, Deeds.{AllAreApart, AreNamed, Goes, act_of}}
+use Rattle.block_scheduler.specs.{Schedule.{ends_sent, line_sent}, Laws.{Move, deeds_in, seen_in}}
 use Rattle.block_scheduler.specs.Laws as moves
-use Rattle.block_scheduler.specs.Laws.{Move, deeds_in, seen_in}
-use Rattle.block_engine.specs.declared.aside.AsideKind.{AsideKind}
-use Rattle.block_engine.specs.declared.aside.AsideStage.TheVariants.{Idle}
-use Rattle.block_engine.specs.declared.request.Answer.{Answer}
+use Rattle.block_engine.specs.declared.{aside.{AsideKind.AsideKind, AsideStage.TheVariants.Idle}, request.{Answer.Answer, Failure.Failure}}
+use Rattle.block_engine.specs.{declared.request.Range.Range, Aside.asks_for, Engine.{EngineState, IsEngineStart, answer_refusal, answered}}
+use Rattle.block_engine.specs.Engine.{aside_asked, aside_due, aside_sent, aside_taken, discards, done_of, engine_reset, line, may_ask, none_engaged}
+use Rattle.block_engine.specs.Engine.{on_line, place_asked, place_of, runs_at, started, taken, with_schedule}
 use Rattle.block_engine.specs.declared.request.Answer.TheVariants as answers
-use Rattle.block_engine.specs.declared.request.Failure.{Failure}
-use Rattle.block_engine.specs.declared.request.Range.{Range}
-use Rattle.block_engine.specs.Aside.{asks_for}
-use Rattle.block_engine.specs.Engine.{EngineState, IsEngineStart, answer_refusal, answered, aside_asked, aside_due, aside_sent, aside_taken, discards, done_of, engine_reset, line, may_ask, none_engaged, on_line, place_asked, place_of, runs_at, started, taken, with_schedule}
 
 -- the calls of an engine that change it; a refused answer changes nothing and is none of them
 pub data Step : Type 0 where

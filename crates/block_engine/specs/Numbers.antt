@@ -1,12 +1,9 @@
 -- The numbers of the requests that are not answered: each was given, and to one alone. So a caller's answer is taken for what it answers.
 use Rattle.std.specs.Prelude.{ℕ, ◌≡◌, ◌<◌, ◌-◌, ◌==◌, nat_lt, nat_le, Bool, false, not, ◌&&◌, ◌||◌, List, Option, Some, None, if◌then◌else◌}
 use Rattle.block_disk.specs.Requests.{number_at}
-use Rattle.block_queue.specs.Line.{Line, any_below, orphan}
-use Rattle.block_queue.specs.declared.queue.Orphan.{Orphan}
-use Rattle.block_engine.specs.declared.aside.AsideStage.{AsideStage}
-use Rattle.block_engine.specs.declared.aside.AsideStage.TheVariants.{Asked}
-use Rattle.block_engine.specs.declared.numbers.Holder.{Holder}
-use Rattle.block_engine.specs.declared.numbers.Holder.TheVariants.{Command, Store, Aside, Discard}
+use Rattle.block_queue.specs.{Line.{Line, any_below, orphan}, declared.queue.Orphan.Orphan}
+use Rattle.block_engine.specs.declared.{aside.AsideStage.{AsideStage, TheVariants.Asked}, numbers.Holder.{Holder, TheVariants.{Command, Store}}}
+use Rattle.block_engine.specs.declared.numbers.Holder.TheVariants.{Aside, Discard}
 
 abbrev pub IsHolder : Holder → Type 0
 IsHolder (Command p) = p < 33

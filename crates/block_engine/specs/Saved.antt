@@ -1,21 +1,13 @@
 -- The engine as words.
-use Rattle.std.specs.Prelude.{◌≡◌, ℕ, ◌<◌, ◌^◌, Bool, List, ◌∷◌, Option, length, refl}
-use Rattle.std.specs.List.{AllByRecursion}
+use Rattle.std.specs.{Prelude.{◌≡◌, ℕ, ◌<◌, ◌^◌, Bool, List, ◌∷◌, Option, length, refl}, List.AllByRecursion}
 use Rattle.std.proofs.Common.{ap, sym, ◌∙◌}
-use Rattle.saved_state.specs.State.{IsToldApart, KeepsOption, put_all, put_list, put_number, put_option, put_pair, put_three}
-use Rattle.saved_state.specs.State.{all_apart, list_apart, number_apart, option_apart, pair_apart, parts_apart, three_apart}
-use Rattle.block_scheduler.specs.Schedule.{Schedule}
-use Rattle.block_scheduler.specs.Saved.{KeepsSchedule, put_schedule, schedule_apart}
-use Rattle.block_engine.specs.declared.aside.AsideKind.{AsideKind}
+use Rattle.saved_state.specs.State.{IsToldApart, KeepsOption, put_all, put_list, put_number, put_option, put_pair, put_three, all_apart, list_apart}
+use Rattle.saved_state.specs.State.{number_apart, option_apart, pair_apart, parts_apart, three_apart}
+use Rattle.block_scheduler.specs.{Schedule.Schedule, Saved.{KeepsSchedule, put_schedule, schedule_apart}}
+use Rattle.block_engine.specs.declared.aside.{AsideKind.AsideKind, AsideStage.{AsideStage, TheVariants.{Idle, Waiting, Asked, Done, Failed}}}
+use Rattle.block_engine.specs.declared.request.{ErrorKind.{ErrorKind, TheVariants.{Uncorrectable, NotFound, Aborted}}, Failure.Failure, Range.Range}
+use Rattle.block_engine.specs.{Engine.{EngineState, line}, Numbers.{AreNumbered, are_numbered}}
 use Rattle.block_engine.specs.declared.aside.AsideKind.TheVariants as kinds
-use Rattle.block_engine.specs.declared.aside.AsideStage.{AsideStage}
-use Rattle.block_engine.specs.declared.aside.AsideStage.TheVariants.{Idle, Waiting, Asked, Done, Failed}
-use Rattle.block_engine.specs.declared.request.ErrorKind.{ErrorKind}
-use Rattle.block_engine.specs.declared.request.ErrorKind.TheVariants.{Uncorrectable, NotFound, Aborted}
-use Rattle.block_engine.specs.declared.request.Failure.{Failure}
-use Rattle.block_engine.specs.declared.request.Range.{Range}
-use Rattle.block_engine.specs.Engine.{EngineState, line}
-use Rattle.block_engine.specs.Numbers.{AreNumbered, are_numbered}
 
 -- ## What a command beside the queue asks for, and how far it has come
 

@@ -1,30 +1,23 @@
 -- No request is asked while another that shares a sector is out, unless both are loads: each request that is out is one of a
 -- command that waits for it, or a dropped store.
-use Rattle.std.proofs.Common.{◌≡◌, ◌≢◌, ℕ, ◌+◌, ◌-◌, ◌<◌, ◌≤◌, true, false, List, [], ◌∷◌, length, get_or, set, Some, None, refl, sym, ap, ◌∙◌, arith, inl, inr, ◌⊎◌, subst}
-use Rattle.std.specs.Prelude.{Option, Bool, not, ◌&&◌, nat_lt, cond, if◌then◌else◌}
-use Rattle.std.specs.Option.{option_map}
-use Rattle.std.specs.List.{filter}
-use Rattle.std.proofs.lemmas.Bool.{cases_eq, cases_lt, lt-ltb, eqb-true, eq-eqb, ltb-false}
-use Rattle.std.proofs.lemmas.Option.{same_Some, none-some}
-use Rattle.std.proofs.lemmas.List.{get_or-set_same, get_or-set_other, length-set}
-use Rattle.std.proofs.lemmas.List.FromFn.{get_or-map-range_with_len}
-use Rattle.block_command.specs.declared.command.Command.{Command}
-use Rattle.block_command.specs.declared.command.Stage.{Stage}
-use Rattle.block_command.specs.declared.command.Stage.TheVariants.{Load, Loading, Store, Storing, Flush, Flushing}
-use Rattle.block_command.specs.Moments.{Moment, runs, gone, is_ended, is_storing, opening, part_count, turn_of}
-use Rattle.block_command.specs.Laws.{Input, Goes, Comes, Happening, Ledger, after, shown}
+use Rattle.std.proofs.Common.{◌≡◌, ◌≢◌, ℕ, ◌+◌, ◌-◌, ◌<◌, ◌≤◌, true, false, List, [], ◌∷◌, length, get_or, set, Some, None, refl, sym, ap, ◌∙◌, arith}
+use Rattle.std.proofs.{Common.{inl, inr, ◌⊎◌, subst}, lemmas.{Bool.{cases_eq, cases_lt, lt-ltb, eqb-true, eq-eqb, ltb-false}, Option.same_Some}}
+use Rattle.std.proofs.lemmas.{Option.{none-some}, List.{get_or-set_same, get_or-set_other, length-set, FromFn.{get_or-map-range_with_len}}}
+use Rattle.std.specs.{Prelude.{Option, Bool, not, ◌&&◌, nat_lt, cond, if◌then◌else◌}, Option.option_map, List.filter}
+use Rattle.block_command.specs.declared.command.{Command.Command, Stage.{Stage, TheVariants.{Load, Loading, Store, Storing, Flush, Flushing}}}
+use Rattle.block_command.specs.{Moments.{Moment, runs, gone, is_ended, is_storing, opening, part_count, turn_of}, Laws.{Input, Goes, Comes}}
+use Rattle.block_command.specs.Laws.{Happening, Ledger, after, shown}
 use Rattle.block_command.proofs.Door.{Agrees, same_command, at as moment}
-use Rattle.block_disk.specs.Table.{Table, is_under_way, with_command, with_input}
-use Rattle.block_disk.specs.Laws.{Page, Took, Refused, shown_at}
-use Rattle.block_disk.specs.Requests.{Books, Queue, after_act, number_at, with_table, OnLink, Asked, asks_at, entered_by, is_answer, is_out, is_request, no_books, number_of, seen, with_asked, with_drawn}
+use Rattle.block_disk.specs.{Table.{Table, is_under_way, with_command, with_input}, Laws.{Page, Took, Refused, shown_at}, Requests.{Books, Queue}}
+use Rattle.block_disk.specs.Requests.{after_act, number_at, with_table, OnLink, Asked, asks_at, entered_by, is_answer, is_out, is_request, no_books}
+use Rattle.block_disk.specs.Requests.{number_of, seen, with_asked, with_drawn}
 use Rattle.block_disk.proofs.Door.{Agree, Matches}
-use Rattle.block_queue.specs.Line.{Line, IsLine, bars, command_at, conflict, is_in_way, is_of, left_at, left_below, left_of, line_answered, line_reset, moved_back, none_in_line, orphan, orphan_of, rank, share, with_queue}
-use Rattle.block_queue.specs.declared.queue.Orphan.{Orphan}
+use Rattle.block_queue.specs.Line.{Line, IsLine, bars, command_at, conflict, is_in_way, is_of, left_at, left_below, left_of, line_answered}
+use Rattle.block_queue.specs.{Line.{line_reset, moved_back, none_in_line, orphan, orphan_of, rank, share, with_queue}, declared.queue.Orphan.Orphan}
 use Rattle.block_queue.specs.Deeds.{Deed, Takes, Starts, Sends, Asks, Hears, Answers, Resets, Draws, IsDeed, AreDeeds, act_of, after_deed, seen_of}
-use Rattle.block_queue.specs.Deeds.{Out, Has, is_store, AreApart, Each, is_other, is_stored, out_after, IsApart, AllAreApart, RequestsAreApart, waits_for_caller}
-use Rattle.block_queue.proofs.Kept.{of_and, of_or}
-use Rattle.block_queue.proofs.Deeds.{agree_after, line_after, no_agree, same_queue}
-use Rattle.block_queue.proofs.Kept.{long_replicate, new_line}
+use Rattle.block_queue.specs.Deeds.{Out, Has, is_store, AreApart, Each, is_other, is_stored, out_after, IsApart, AllAreApart, RequestsAreApart}
+use Rattle.block_queue.specs.Deeds.{waits_for_caller}
+use Rattle.block_queue.proofs.{Kept.{of_and, of_or, long_replicate, new_line}, Deeds.{agree_after, line_after, no_agree, same_queue}}
 
 -- ## What a request is backed by
 

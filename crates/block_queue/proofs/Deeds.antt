@@ -1,20 +1,18 @@
 -- A run of a line is one of its requests, so what these keep it keeps.
 use Rattle.std.proofs.Common.{◌≡◌, ℕ, ◌<◌, true, false, List, [], ◌∷◌, map, Some, None, refl, ap, ◌∙◌, subst}
 use Rattle.std.specs.Prelude.{Option, Bool, not, ◌||◌, is_none, if◌then◌else◌}
-use Rattle.block_command.specs.declared.command.Command.{Command}
-use Rattle.block_command.specs.declared.command.Stage.{Stage}
-use Rattle.block_command.specs.declared.command.Stage.TheVariants.{Waiting, Load, Store, Flush}
-use Rattle.block_command.specs.Moments.{Moment, opening, turn_of}
-use Rattle.block_command.specs.Laws.{Input, Goes, Loads, Comes, Stores, Flushes, Fails, shown}
-use Rattle.block_disk.specs.Table.{Table, at, is_under_way, may_go_at, wants_wire, with_command, with_input}
+use Rattle.block_command.specs.{declared.command.{Command.Command, Stage.{Stage, TheVariants.{Waiting, Load, Store, Flush}}}, Moments.Moment}
+use Rattle.block_command.specs.{Moments.{opening, turn_of}, Laws.{Input, Goes, Loads, Comes, Stores, Flushes, Fails, shown}}
+use Rattle.block_disk.specs.{Table.{Table, at, is_under_way, may_go_at, wants_wire, with_command, with_input}, Laws.{shown_at, wire_after, IsWired}}
+use Rattle.block_disk.specs.Requests.{Queue, AreSeenRightly, Books, IsAct, after_act, asks_at, entered_by, is_answer, is_request, no_books}
+use Rattle.block_disk.specs.Requests.{none_queued, seen, seen_by, with_answer, with_table}
 use Rattle.block_disk.specs.Laws as laws
-use Rattle.block_disk.specs.Laws.{shown_at, wire_after, IsWired}
-use Rattle.block_disk.specs.Requests.{Queue, AreSeenRightly, Books, IsAct, after_act, asks_at, entered_by, is_answer, is_request, no_books, none_queued, seen, seen_by, with_answer, with_table}
 use Rattle.block_disk.proofs.Door.{Agree, Held, kept_none, none_held, numbers_are_fresh as fresh, one, stays_held}
-use Rattle.block_queue.specs.Line.{Line, IsLine, command_at, moved_back, may_start_at, none_in_line, starts, with_queue}
-use Rattle.block_queue.specs.Deeds.{Deed, Takes, Starts, Sends, Asks, Hears, Answers, Resets, Draws, IsDeed, AreDeeds, act_of, after_deed, seen_of}
-use Rattle.block_queue.specs.Deeds.{EndsAreEarned, NumbersAreFresh, IsHeard, AreHeard, IsNamed, AreNamed, DataAreNamed, named_after}
-use Rattle.block_queue.proofs.Kept.{answers_line, asked_line, drawn_line, forgets_line, given_line, is_given, long_left, of_and, reset_line, sent_line, start_line, take_line}
+use Rattle.block_queue.specs.{Line.{Line, IsLine, command_at, moved_back, may_start_at, none_in_line, starts, with_queue}, Deeds.{Deed, Takes}}
+use Rattle.block_queue.specs.Deeds.{Starts, Sends, Asks, Hears, Answers, Resets, Draws, IsDeed, AreDeeds, act_of, after_deed, seen_of, EndsAreEarned}
+use Rattle.block_queue.specs.Deeds.{NumbersAreFresh, IsHeard, AreHeard, IsNamed, AreNamed, DataAreNamed, named_after}
+use Rattle.block_queue.proofs.Kept.{answers_line, asked_line, drawn_line, forgets_line, given_line, is_given, long_left, of_and, reset_line}
+use Rattle.block_queue.proofs.Kept.{sent_line, start_line, take_line}
 
 -- ## The requests of a line
 

@@ -1,25 +1,22 @@
 -- What every line keeps, call by call.
-use Rattle.std.proofs.Common.{◌≡◌, ◌≢◌, ℕ, zero, suc, ◌^◌, ◌+◌, ◌-◌, ◌<◌, ◌≤◌, true, false, List, ◌++◌, length, get_or, set, Some, None, refl, sym, ap, ◌∙◌, arith, inl, inr}
-use Rattle.std.specs.Prelude.{Option, Bool, Result, Ok, Err, IfSome, IfNone, OnOk, OnErr, is_none, not, ◌||◌, ◌&&◌, ◌==◌, nat_lt, if◌then◌else◌, replicate, map}
-use Rattle.std.specs.Option.{option_map}
-use Rattle.std.specs.declared.alloc.AllocError.{AllocError}
-use Rattle.std.proofs.lemmas.Bool.{cases_eq, lt-ltb, eq-eqb, ltb-true, ltb-false}
-use Rattle.std.proofs.lemmas.Option.{same_Some, none-some}
-use Rattle.std.proofs.lemmas.List.{get_or-set_same, get_or-set_other, length-set, length-replicate, get_or-replicate, get_or-map, length-map, ext_get_or}
-use Rattle.std.proofs.lemmas.List.FromFn.{length-range_with_len, get_or-range_with_len, length-map-range_with_len, get_or-map-range_with_len}
-use Rattle.block_command.specs.declared.command.Command.{Command}
-use Rattle.block_command.specs.declared.command.Stage.{Stage}
-use Rattle.block_command.specs.declared.command.Stage.TheVariants.{Waiting, Load, Loading, SetUpRead, Sending, SetUpWrite, Activate, Receiving, Store, Storing, Flush, End, Fail, Ended}
-use Rattle.block_command.specs.declared.command.Protocol.{Protocol}
-use Rattle.block_command.specs.declared.command.Protocol.TheVariants.{Queued, Dma, Pio, Verify}
-use Rattle.block_command.specs.Moments.{Moment, runs, opening, chunk, data_stage, is_ended, is_queued, is_verify, part_count, part_len, read_end, read_on, started, turn_of, with_sectors}
+use Rattle.std.proofs.Common.{◌≡◌, ◌≢◌, ℕ, zero, suc, ◌^◌, ◌+◌, ◌-◌, ◌<◌, ◌≤◌, true, false, List, ◌++◌, length, get_or, set, Some, None, refl, sym}
+use Rattle.std.proofs.{Common.{ap, ◌∙◌, arith, inl, inr}, lemmas.{Bool.{cases_eq, lt-ltb, eq-eqb, ltb-true, ltb-false}, Option.same_Some}}
+use Rattle.std.proofs.lemmas.{Option.{none-some}, List.{get_or-set_same, get_or-set_other, length-set, length-replicate, get_or-replicate}}
+use Rattle.std.proofs.lemmas.List.{get_or-map, length-map, ext_get_or, FromFn.{length-range_with_len, get_or-range_with_len}}
+use Rattle.std.proofs.lemmas.List.FromFn.{length-map-range_with_len, get_or-map-range_with_len}
+use Rattle.std.specs.Prelude.{Option, Bool, Result, Ok, Err, IfSome, IfNone, OnOk, OnErr, is_none, not, ◌||◌, ◌&&◌, ◌==◌, nat_lt, if◌then◌else◌}
+use Rattle.std.specs.{Prelude.{replicate, map}, Option.option_map, declared.alloc.AllocError.AllocError}
+use Rattle.block_command.specs.declared.command.{Command.Command, Stage.{Stage, TheVariants.{Waiting, Load, Loading, SetUpRead, Sending, SetUpWrite}}}
+use Rattle.block_command.specs.declared.command.{Stage.TheVariants.{Activate, Receiving, Store, Storing, Flush, End, Fail, Ended}, Protocol.Protocol}
+use Rattle.block_command.specs.{declared.command.Protocol.TheVariants.{Queued, Dma, Pio, Verify}, Moments.{Moment, runs, opening, chunk, data_stage}}
+use Rattle.block_command.specs.Moments.{is_ended, is_queued, is_verify, part_count, part_len, read_end, read_on, started, turn_of, with_sectors}
 use Rattle.block_command.specs.Laws.{Input, Goes, Loads, Comes, Stores, Flushes, Fails, after}
 use Rattle.block_command.proofs.Door.{same_command, at as moment}
-use Rattle.block_disk.specs.Table.{Table, at, has_wire, freed, with_command, with_input}
-use Rattle.block_disk.specs.Requests.{Queue, number_at, with_table, with_answer, with_asked, with_drawn, queue_reset, asks_at, is_fis, sends_at}
-use Rattle.block_queue.specs.Line.{Line, IsLine, IsClear, IsWired, any_below, first_ranks, none_in_line, orphan, command_at, conflict, is_in_way, bars, is_before}
-use Rattle.block_queue.specs.Line.{waits_for, starts, may_start_at, with_queue, first_below, or_this, moved_up, moved_back, orphans_answered, left_below, left_of, left_at, line_reset}
-use Rattle.block_queue.specs.declared.queue.Orphan.{Orphan}
+use Rattle.block_disk.specs.{Table.{Table, at, has_wire, freed, with_command, with_input}, Requests.{Queue, number_at, with_table, with_answer}}
+use Rattle.block_disk.specs.Requests.{with_asked, with_drawn, queue_reset, asks_at, is_fis, sends_at}
+use Rattle.block_queue.specs.Line.{Line, IsLine, IsClear, IsWired, any_below, first_ranks, none_in_line, orphan, command_at, conflict, is_in_way}
+use Rattle.block_queue.specs.Line.{bars, is_before, waits_for, starts, may_start_at, with_queue, first_below, or_this, moved_up, moved_back}
+use Rattle.block_queue.specs.{Line.{orphans_answered, left_below, left_of, left_at, line_reset}, declared.queue.Orphan.Orphan}
 
 -- ## Tests of all places
 

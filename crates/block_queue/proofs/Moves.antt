@@ -1,19 +1,15 @@
 -- Commands never wait for each other in a circle, since they wait only for those that were taken before them.
 use Rattle.std.proofs.Common.{◌∙◌, ◌≡◌, ◌≢◌, ℕ, zero, suc, ◌-◌, ◌<◌, true, false, get_or, Some, None, refl, sym, ap, arith, inl, inr, ◌⊎◌, subst}
-use Rattle.std.specs.Prelude.{Option, Bool, is_none, not, ◌||◌, ◌&&◌, nat_lt, if◌then◌else◌}
 use Rattle.std.proofs.lemmas.Bool.{lt-ltb, ltb-true, ltb-false}
-use Rattle.block_command.specs.declared.command.Command.{Command}
-use Rattle.block_command.specs.declared.command.Stage.{Stage}
-use Rattle.block_command.specs.declared.command.Stage.TheVariants.{Waiting, Load, Loading, Announce, Sending}
-use Rattle.block_command.specs.declared.command.Stage.TheVariants.{Activate, Receiving}
-use Rattle.block_command.specs.declared.command.Stage.TheVariants.{Store, Storing, Flush, Flushing}
-use Rattle.block_command.specs.declared.command.Stage.TheVariants.{Ended}
-use Rattle.block_command.specs.Moments.{Moment, is_ended, is_queued, is_set_up, runs, turn_of}
-use Rattle.block_disk.specs.Table.{has_wire, is_under_way, wants_wire}
-use Rattle.block_disk.specs.Requests.{is_fis, is_request}
-use Rattle.block_queue.specs.Line.{Line, IsLine, PassesNowhere, any_below, bars, command_at, is_before, is_in_way, may_start, may_start_at, moved_back, orphan, rank, starts, waits_for}
-use Rattle.block_queue.specs.declared.queue.Orphan.{Orphan}
-use Rattle.block_queue.specs.Deeds.{Goes, MovesAt, MayStart, MaySend, MayAsk, CallerOwes, HostOwes, StoreOwed, Moves, SomethingMoves, IsLast, TakenIsLast, waits_for_caller, waits_for_host}
+use Rattle.std.specs.Prelude.{Option, Bool, is_none, not, ◌||◌, ◌&&◌, nat_lt, if◌then◌else◌}
+use Rattle.block_command.specs.declared.command.{Command.Command, Stage.{Stage, TheVariants.{Waiting, Load, Loading, Announce, Sending, Activate}}}
+use Rattle.block_command.specs.{declared.command.Stage.TheVariants.{Receiving, Store, Storing, Flush, Flushing, Ended}, Moments.{Moment, is_ended}}
+use Rattle.block_command.specs.Moments.{is_queued, is_set_up, runs, turn_of}
+use Rattle.block_disk.specs.{Table.{has_wire, is_under_way, wants_wire}, Requests.{is_fis, is_request}}
+use Rattle.block_queue.specs.Line.{Line, IsLine, PassesNowhere, any_below, bars, command_at, is_before, is_in_way, may_start, may_start_at}
+use Rattle.block_queue.specs.{Line.{moved_back, orphan, rank, starts, waits_for}, declared.queue.Orphan.Orphan, Deeds.{Goes, MovesAt, MayStart}}
+use Rattle.block_queue.specs.Deeds.{MaySend, MayAsk, CallerOwes, HostOwes, StoreOwed, Moves, SomethingMoves, IsLast, TakenIsLast, waits_for_caller}
+use Rattle.block_queue.specs.Deeds.{waits_for_host}
 use Rattle.block_queue.proofs.Kept.{any_at, before_taken, of_and, rank_below, rank_other, rank_same}
 
 -- ## Some number that passes

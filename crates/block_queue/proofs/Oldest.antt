@@ -1,12 +1,11 @@
 -- The oldest of the places in a set, found by taking the first out of it again and again.
-use Rattle.std.proofs.Common.{◌≡◌, ◌≢◌, ℕ, ◌+◌, ◌*◌, ◌%◌, ◌^◌, ◌<◌, ◌≤◌, true, false, List, Some, None, refl, sym, ap, ◌∙◌, arith, inl, inr, get_or, w64, bit_and}
-use Rattle.std.specs.Prelude.{Option, Bool, not, ◌&&◌, ◌==◌, nat_lt, if◌then◌else◌, IfSome, IfNone}
-use Rattle.std.specs.Int.{bit_at, bit_not, trailing_zeros}
+use Rattle.std.proofs.Common.{◌≡◌, ◌≢◌, ℕ, ◌+◌, ◌*◌, ◌%◌, ◌^◌, ◌<◌, ◌≤◌, true, false, List, Some, None, refl, sym, ap, ◌∙◌, arith, inl, inr, get_or}
+use Rattle.std.proofs.{Common.{w64, bit_and}, lemmas.Bool.{cases_eq, cases_lt, ltb-true, ltb-false, lt-ltb, le-ltb, eq-eqb, and_parts, and_from}}
+use Rattle.std.proofs.lemmas.{Bool.{and_left, not_from_true, not_from_false}, Nat.Bits.{bit_at-trailing_zeros, bit_at-zero, bit_at_clear_same}}
+use Rattle.std.proofs.lemmas.Nat.Bits.{bit_at_clear_other}
+use Rattle.std.specs.{Prelude.{Option, Bool, not, ◌&&◌, ◌==◌, nat_lt, if◌then◌else◌, IfSome, IfNone}, Int.{bit_at, bit_not, trailing_zeros}}
 use Rattle.std.specs.Int.Count.{trailing_of_zero}
-use Rattle.std.proofs.lemmas.Bool.{cases_eq, cases_lt, ltb-true, ltb-false, lt-ltb, le-ltb, eq-eqb, and_parts, and_from, and_left, not_from_true, not_from_false}
-use Rattle.std.proofs.lemmas.Nat.Bits.{bit_at-trailing_zeros, bit_at-zero, bit_at_clear_same, bit_at_clear_other}
-use Rattle.block_queue.specs.Line.{IsOldest, PassesNowhere, has_bit, is_before}
-use Rattle.block_queue.specs.Places.{IsFirstIn, IsWithout, older}
+use Rattle.block_queue.specs.{Line.{IsOldest, PassesNowhere, has_bit, is_before}, Places.{IsFirstIn, IsWithout, older}}
 
 -- of the places that pass, the oldest
 abbrev pub BestOf : List ℕ → (ℕ → Bool) → Option ℕ → Type 0

@@ -1,23 +1,20 @@
 -- The set of the places at which something stands, call by call, and walks over it.
-use Rattle.std.proofs.Common.{◌≡◌, ◌≢◌, ℕ, zero, suc, ◌+◌, ◌-◌, ◌*◌, ◌%◌, ◌^◌, ◌<◌, ◌≤◌, true, false, List, ◌++◌, length, get_or, set, Some, None, refl, sym, ap, ◌∙◌, arith, inl, inr, w64, bit_or}
+use Rattle.std.proofs.Common.{◌≡◌, ◌≢◌, ℕ, zero, suc, ◌+◌, ◌-◌, ◌*◌, ◌%◌, ◌^◌, ◌<◌, ◌≤◌, true, false, List, ◌++◌, length, get_or, set, Some, None}
+use Rattle.std.proofs.{Common.{refl, sym, ap, ◌∙◌, arith, inl, inr, w64, bit_or}, lemmas.Bool.{cases_eq, cases_lt, eq-eqb, ne_eqb}}
+use Rattle.std.proofs.lemmas.{List.{get_or-set_same, get_or-set_other, get_or-replicate}, Nat.Bits.{bit_at_set_same, bit_at_set_other, bit_at-zero}}
 use Rattle.std.specs.Prelude.{Option, Bool, Result, Ok, Err, IfSome, IfNone, OnOk, OnErr, is_some, not, ◌||◌, ◌&&◌, ◌==◌, nat_lt, if◌then◌else◌}
-use Rattle.std.specs.Option.{option_map}
-use Rattle.std.specs.declared.alloc.AllocError.{AllocError}
-use Rattle.std.proofs.lemmas.Bool.{cases_eq, cases_lt, eq-eqb, ne_eqb}
-use Rattle.std.proofs.lemmas.List.{get_or-set_same, get_or-set_other, get_or-replicate}
-use Rattle.std.proofs.lemmas.Nat.Bits.{bit_at_set_same, bit_at_set_other, bit_at-zero}
-use Rattle.block_command.specs.declared.command.Command.{Command}
-use Rattle.block_command.specs.declared.command.Stage.{Stage}
-use Rattle.block_command.specs.declared.command.Stage.TheVariants.{Waiting, Load, SetUpWrite, Activate, Receiving, Store, Flush, Fail}
-use Rattle.block_command.specs.Moments.{Moment, chunk, is_ended, is_queued, opening, part_len, started, turn_of}
-use Rattle.block_command.specs.Laws.{Input, Comes, Goes, after}
+use Rattle.std.specs.{Option.option_map, declared.alloc.AllocError.AllocError}
+use Rattle.block_command.specs.declared.command.{Command.Command, Stage.{Stage, TheVariants.{Waiting, Load, SetUpWrite, Activate, Receiving, Store}}}
+use Rattle.block_command.specs.{declared.command.Stage.TheVariants.{Flush, Fail}, Moments.{Moment, chunk, is_ended, is_queued, opening, part_len}}
+use Rattle.block_command.specs.{Moments.{started, turn_of}, Laws.{Input, Comes, Goes, after}}
 use Rattle.block_command.proofs.Door.{at as moment}
-use Rattle.block_disk.specs.Table.{at, is_under_way, with_command, with_input, with_taken}
-use Rattle.block_disk.specs.Requests.{Queue, asks_at, is_request, number_of, sends_at, with_answer, with_asked, with_drawn, with_table}
-use Rattle.block_queue.specs.declared.queue.Orphan.{Orphan}
-use Rattle.block_queue.specs.Line.{Line, PassesNowhere, any_below, awaits, bars, command_at, first_below, has_bit, is_in_way, is_of, may_start_at, moved_back, none_in_line, orphan, orphans_answered, starts, waits_for, with_queue}
+use Rattle.block_disk.specs.{Table.{at, is_under_way, with_command, with_input, with_taken}, Requests.{Queue, asks_at, is_request, number_of}}
+use Rattle.block_disk.specs.Requests.{sends_at, with_answer, with_asked, with_drawn, with_table}
+use Rattle.block_queue.specs.{declared.queue.Orphan.Orphan, Line.{Line, PassesNowhere, any_below, awaits, bars, command_at, first_below, has_bit}}
+use Rattle.block_queue.specs.Line.{is_in_way, is_of, may_start_at, moved_back, none_in_line, orphan, orphans_answered, starts, waits_for, with_queue}
 use Rattle.block_queue.specs.Places.{IsFirstIn, IsKept, IsNoted, IsWatched, IsWatchedIn, IsWithout, is_watched_in}
-use Rattle.block_queue.proofs.Kept.{any_none, answers_line, asks_line, came_line, draws_line, first_none, first_more, forgets_line, is_given, of_and, of_or, sent_line, starts_line, take_line, new_line}
+use Rattle.block_queue.proofs.Kept.{any_none, answers_line, asks_line, came_line, draws_line, first_none, first_more, forgets_line, is_given, of_and}
+use Rattle.block_queue.proofs.Kept.{of_or, sent_line, starts_line, take_line, new_line}
 
 -- ## One place of a set
 

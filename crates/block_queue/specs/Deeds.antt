@@ -1,17 +1,15 @@
 -- Runs of a line, and the laws over them. A run shows what one of its requests by number shows (`block_disk`).
-use Rattle.std.specs.Prelude.{ℕ, ◌≡◌, ◌+◌, ◌*◌, ◌<◌, ◌≤◌, ◌==◌, ◌&&◌, nat_lt, Bool, true, false, not, List, [], ◌∷◌, map, length, Option, Some, None, is_none}
-use Rattle.std.specs.List.{filter}
-use Rattle.block_command.specs.declared.command.Command.{Command}
-use Rattle.block_command.specs.declared.command.Stage.{Stage}
+use Rattle.std.specs.Prelude.{ℕ, ◌≡◌, ◌+◌, ◌*◌, ◌<◌, ◌≤◌, ◌==◌, ◌&&◌, nat_lt, Bool, true, false, not, List, [], ◌∷◌, map, length, Option, Some, None}
+use Rattle.std.specs.{Prelude.is_none, List.filter}
+use Rattle.block_command.specs.{declared.command.{Command.Command, Stage.Stage}, Moments.{IsCommand, Moment, is_queued}, Laws.{Input, Comes}}
+use Rattle.block_command.specs.Laws.{Happening, AskedLoad, AskedStore}
 use Rattle.block_command.specs.declared.command.Stage.TheVariants as stage
-use Rattle.block_command.specs.Moments.{IsCommand, Moment, is_queued}
-use Rattle.block_command.specs.Laws.{Input, Comes, Happening, AskedLoad, AskedStore}
-use Rattle.block_disk.specs.Table.{is_under_way, with_input}
-use Rattle.block_disk.specs.Laws.{At, Reset, IsWired, wire_after}
-use Rattle.block_disk.specs.Requests.{Act, AreSeenRightly, Rises, Seen, OnLink, Asked, Answered, asks, is_answer, no_books, none_queued}
-use Rattle.block_disk.specs.Requests.{numbers_given, seen, seen_by, with_asked, with_drawn, with_table}
+use Rattle.block_disk.specs.{Table.{is_under_way, with_input}, Laws.{At, Reset, IsWired, wire_after}, Requests.{Act, AreSeenRightly, Rises, Seen}}
+use Rattle.block_disk.specs.Requests.{OnLink, Asked, Answered, asks, is_answer, no_books, none_queued, numbers_given, seen, seen_by, with_asked}
+use Rattle.block_disk.specs.Requests.{with_drawn, with_table}
 use Rattle.block_disk.specs.Requests as requests
-use Rattle.block_queue.specs.Line.{Line, IsLine, command_at, is_before, line_answered, line_gone, line_reset, line_taken, may_send, may_start, none_in_line, orphan, with_queue}
+use Rattle.block_queue.specs.Line.{Line, IsLine, command_at, is_before, line_answered, line_gone, line_reset, line_taken, may_send, may_start}
+use Rattle.block_queue.specs.Line.{none_in_line, orphan, with_queue}
 
 -- what can be done with a line
 pub data Deed : Type 0 where

@@ -1,18 +1,12 @@
 -- Commands that share a sector are kept apart, if one of them writes: who was taken first goes first, and nobody passes a store
 -- that a reset dropped while it was out.
-use Rattle.std.specs.Prelude.{ℕ, zero, suc, ◌≡◌, ◌<◌, ◌+◌, ◌-◌, ◌==◌, nat_lt, Bool, true, false, not, ◌&&◌, ◌||◌, if◌then◌else◌}
-use Rattle.std.specs.Prelude.{List, length, map, replicate, slice_index_or, slice_set, Option, Some, None, is_none}
-use Rattle.std.specs.List.{range_with_len}
-use Rattle.std.specs.Int.{bit_at}
-use Rattle.block_command.specs.declared.command.Command.{Command}
-use Rattle.block_command.specs.declared.command.Turn.{Turn}
+use Rattle.std.specs.Prelude.{ℕ, zero, suc, ◌≡◌, ◌<◌, ◌+◌, ◌-◌, ◌==◌, nat_lt, Bool, true, false, not, ◌&&◌, ◌||◌, if◌then◌else◌, List, length, map}
+use Rattle.std.specs.{Prelude.{replicate, slice_index_or, slice_set, Option, Some, None, is_none}, List.range_with_len, Int.bit_at}
+use Rattle.block_command.specs.{declared.command.{Command.Command, Turn.Turn}, Moments.{Moment, is_ended, is_storing, runs, turn_of}, Laws.Input}
+use Rattle.block_command.specs.{Laws.{Goes, Stores, Fails}, declared.answer.AnswerError.{AnswerError, TheVariants.{NotOut, OtherKind}}}
 use Rattle.block_command.specs.declared.command.Turn.TheVariants as turn
-use Rattle.block_command.specs.Moments.{Moment, is_ended, is_storing, runs, turn_of}
-use Rattle.block_command.specs.Laws.{Input, Goes, Stores, Fails}
-use Rattle.block_command.specs.declared.answer.AnswerError.{AnswerError}
-use Rattle.block_command.specs.declared.answer.AnswerError.TheVariants.{NotOut, OtherKind}
-use Rattle.block_disk.specs.Table.{Table, at, has_wire, is_under_way, may_go, refusal_at, with_input, with_taken}
-use Rattle.block_disk.specs.Requests.{Queue, is_out, none_queued, number_at, queue_reset, sends_at, with_answer, with_table}
+use Rattle.block_disk.specs.{Table.{Table, at, has_wire, is_under_way, may_go, refusal_at, with_input, with_taken}, Requests.{Queue, is_out}}
+use Rattle.block_disk.specs.Requests.{none_queued, number_at, queue_reset, sends_at, with_answer, with_table}
 use Rattle.block_queue.specs.declared.queue.Orphan.{Orphan}
 
 pub record Line : Type 0 where

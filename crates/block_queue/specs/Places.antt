@@ -1,9 +1,7 @@
 -- Sets of places: bit n of a set is place n.
 use Rattle.std.specs.Prelude.{ℕ, ◌≡◌, ◌≢◌, ◌<◌, Bool, true, false, ◌||◌, List, slice_index_or, Option, Some, None, is_some, if◌then◌else◌}
-use Rattle.block_disk.specs.Table.{at, is_under_way}
-use Rattle.block_disk.specs.Requests.{Queue, number_at}
-use Rattle.block_queue.specs.declared.queue.Orphan.{Orphan}
-use Rattle.block_queue.specs.Line.{IsLine, Line, has_bit, is_before}
+use Rattle.block_disk.specs.{Table.{at, is_under_way}, Requests.{Queue, number_at}}
+use Rattle.block_queue.specs.{declared.queue.Orphan.Orphan, Line.{IsLine, Line, has_bit, is_before}}
 
 -- of the places in a set this one is the first
 pub record IsFirstIn (set p : ℕ) : Type 0 where

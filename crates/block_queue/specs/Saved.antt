@@ -1,15 +1,12 @@
 -- The queue as words.
-use Rattle.std.specs.Prelude.{◌≡◌, ℕ, ◌+◌, ◌<◌, ◌^◌, ◌==◌, nat_lt, nat_le, Bool, true, false, not, ◌&&◌, ◌||◌, List, Option, Some, None, is_some, length, slice_index_or}
-use Rattle.std.specs.List.{AllByRecursion}
+use Rattle.std.specs.Prelude.{◌≡◌, ℕ, ◌+◌, ◌<◌, ◌^◌, ◌==◌, nat_lt, nat_le, Bool, true, false, not, ◌&&◌, ◌||◌, List, Option, Some, None, is_some}
+use Rattle.std.specs.{Prelude.{length, slice_index_or}, List.AllByRecursion}
 use Rattle.std.proofs.Common.{ap, sym, ◌∙◌}
-use Rattle.saved_state.specs.State.{IsToldApart, KeepsOption, put_all, put_number, put_option, put_three}
-use Rattle.saved_state.specs.State.{all_apart, number_apart, option_apart, parts_apart, three_apart}
+use Rattle.saved_state.specs.State.{IsToldApart, KeepsOption, put_all, put_number, put_option, put_three, all_apart, number_apart, option_apart}
+use Rattle.saved_state.specs.State.{parts_apart, three_apart}
 use Rattle.block_command.specs.Moments.{Moment, part_lba, runs, turn_of}
-use Rattle.block_disk.specs.Requests.{Queue}
-use Rattle.block_disk.specs.Table.{Table, at, has_wire}
-use Rattle.block_disk.specs.Saved.{KeepsQueue, put_queue, queue_apart}
-use Rattle.block_queue.specs.declared.queue.Orphan.{Orphan}
-use Rattle.block_queue.specs.Line.{IsLine, Line, any_below, command_at, orphan, starts, waits_for}
+use Rattle.block_disk.specs.{Requests.Queue, Table.{Table, at, has_wire}, Saved.{KeepsQueue, put_queue, queue_apart}}
+use Rattle.block_queue.specs.{declared.queue.Orphan.Orphan, Line.{IsLine, Line, any_below, command_at, orphan, starts, waits_for}}
 
 -- ## A dropped store: its sectors and its number
 

@@ -1,15 +1,10 @@
 -- Ends that go together: the tags whose end is next are told in order, and no other changes anything.
 use Rattle.std.proofs.Common.{◌≡◌, ◌≢◌, ℕ, zero, suc, ◌+◌, ◌^◌, ◌<◌, ◌≤◌, true, false, None, refl, sym, ap, ◌∙◌, arith, inl, inr, ◌⊎◌}
-use Rattle.std.specs.Prelude.{Bool, nat_eq, ◌&&◌, if◌then◌else◌}
-use Rattle.std.specs.Option.{option_map}
-use Rattle.std.proofs.lemmas.Bool.{cases_eq, cases_lt}
-use Rattle.std.proofs.lemmas.List.{get_or-set_other}
-use Rattle.std.proofs.lemmas.Nat.Bits.{bit_at_above}
+use Rattle.std.proofs.lemmas.{Bool.{cases_eq, cases_lt}, List.{get_or-set_other}, Nat.Bits.bit_at_above}
+use Rattle.std.specs.{Prelude.{Bool, nat_eq, ◌&&◌, if◌then◌else◌}, Option.option_map}
 use Rattle.block_command.specs.Laws.{Goes, after}
-use Rattle.block_queue.specs.Line.{Line, PassesNowhere, command_at, has_bit, line_gone}
-use Rattle.block_queue.specs.Places.{IsFirstIn, IsWithout}
-use Rattle.block_scheduler.specs.Sets.{IsTagsOf, ends_at, is_end, turn_at}
-use Rattle.block_scheduler.specs.Schedule.{Schedule, end_sent, ends_sent, with_line}
+use Rattle.block_queue.specs.{Line.{Line, PassesNowhere, command_at, has_bit, line_gone}, Places.{IsFirstIn, IsWithout}}
+use Rattle.block_scheduler.specs.{Sets.{IsTagsOf, ends_at, is_end, turn_at}, Schedule.{Schedule, end_sent, ends_sent, with_line}}
 use Rattle.block_scheduler.proofs.Held.{ends_more, ends_none}
 
 -- ## Tags whose end is not next

@@ -1,26 +1,21 @@
 -- What every schedule keeps: its sets, and its bound in bytes.
-use Rattle.std.proofs.Common.{◌≡◌, ◌≢◌, ℕ, zero, suc, ◌+◌, ◌<◌, ◌≤◌, true, false, sym, List, Some, None, refl, ap, ◌∙◌, arith, inl, inr, ◌⊎◌, get_or, set, length, subst}
-use Rattle.std.specs.Prelude.{Option, Bool, IfSome, IfNone, ◌^◌, if◌then◌else◌}
-use Rattle.std.specs.Option.{option_map}
-use Rattle.std.proofs.lemmas.Bool.{cases_eq, cases_lt, leb-true}
-use Rattle.std.proofs.lemmas.List.{get_or-set_same, get_or-set_other, length-set}
-use Rattle.std.proofs.Math.ListN.{get_or-eq_default}
-use Rattle.block_command.specs.declared.command.Command.{Command}
-use Rattle.block_command.specs.declared.command.Turn.{Turn}
+use Rattle.std.proofs.Common.{◌≡◌, ◌≢◌, ℕ, zero, suc, ◌+◌, ◌<◌, ◌≤◌, true, false, sym, List, Some, None, refl, ap, ◌∙◌, arith, inl, inr, ◌⊎◌, get_or}
+use Rattle.std.proofs.{Common.{set, length, subst}, lemmas.{Bool.{cases_eq, cases_lt, leb-true}, List.{get_or-set_same, get_or-set_other}}}
+use Rattle.std.proofs.{lemmas.List.{length-set}, Math.ListN.{get_or-eq_default}}
+use Rattle.std.specs.{Prelude.{Option, Bool, IfSome, IfNone, ◌^◌, if◌then◌else◌}, Option.option_map}
+use Rattle.block_command.specs.{declared.command.{Command.Command, Turn.Turn}, Moments.{Moment, opening, is_storing, runs, turn_of}, Laws.Input}
+use Rattle.block_command.specs.Laws.{Goes, Comes, after}
 use Rattle.block_command.specs.declared.command.Turn.TheVariants as turn
-use Rattle.block_command.specs.Moments.{Moment, opening, is_storing, runs, turn_of}
-use Rattle.block_command.specs.Laws.{Input, Goes, Comes, after}
 use Rattle.block_command.proofs.Door.{same_command}
-use Rattle.block_disk.specs.Table.{at, with_command, with_input}
-use Rattle.block_disk.specs.Requests.{Queue, is_fis, is_request, number_at, with_answer, with_asked, with_drawn, with_table}
+use Rattle.block_disk.specs.{Table.{at, with_command, with_input}, Requests.{Queue, is_fis, is_request, number_at, with_answer, with_asked}}
+use Rattle.block_disk.specs.Requests.{with_drawn, with_table}
 use Rattle.block_disk.specs.Requests as requests
 use Rattle.block_disk.proofs.Door.{each_is}
-use Rattle.block_queue.specs.Line.{Line, command_at, left_of, line_answered, line_gone, line_reset, line_taken, may_send, moved_back, none_in_line, orphan, orphan_of, orphans_answered, starts, with_queue}
-use Rattle.block_queue.specs.declared.queue.Orphan.{Orphan}
+use Rattle.block_queue.specs.Line.{Line, command_at, left_of, line_answered, line_gone, line_reset, line_taken, may_send, moved_back, none_in_line}
+use Rattle.block_queue.specs.{Line.{orphan, orphan_of, orphans_answered, starts, with_queue}, declared.queue.Orphan.Orphan}
 use Rattle.block_queue.proofs.Door.{left_read, of_and, runs_before, storing_runs}
-use Rattle.block_scheduler.specs.declared.sets.Sets.{Sets}
-use Rattle.block_scheduler.specs.Sets.{AreSets, IsNoted, asks_at, is_end, no_sets, sends_alone, turn_at}
-use Rattle.block_scheduler.specs.Schedule.{IsKept, Schedule, with_line, end_sent, ends_sent, fits_at, held, held_at, held_below, held_by, held_for, held_of}
+use Rattle.block_scheduler.specs.{declared.sets.Sets.Sets, Sets.{AreSets, IsNoted, asks_at, is_end, no_sets, sends_alone, turn_at}, Schedule.IsKept}
+use Rattle.block_scheduler.specs.Schedule.{Schedule, with_line, end_sent, ends_sent, fits_at, held, held_at, held_below, held_by, held_for, held_of}
 use Rattle.block_scheduler.proofs.Places.{SameOthers, empty, empty_tags, noted_sets}
 
 -- ## Sums

@@ -1,20 +1,16 @@
 -- Sets of places.
-use Rattle.std.proofs.Common.{◌≡◌, ◌≢◌, ℕ, ◌+◌, ◌*◌, ◌%◌, ◌^◌, ◌<◌, ◌≤◌, true, false, List, Some, None, refl, sym, ap, ◌∙◌, arith, inl, inr, ◌⊎◌, w32, w64, bit_or, bit_and}
-use Rattle.std.specs.Prelude.{Option, Bool, IfSome, IfNone, is_none, nat_eq, not, ◌&&◌, ◌||◌}
-use Rattle.std.specs.Int.{bit_not}
-use Rattle.std.proofs.lemmas.Bool.{cases_eq, cases_lt, eq-eqb, false_from_ne_true}
-use Rattle.std.proofs.lemmas.Nat.Bits.{bit_at_set_same, bit_at_set_other, bit_at_clear_same, bit_at_clear_other, bit_at-zero}
-use Rattle.block_command.specs.declared.command.Stage.{Stage}
-use Rattle.block_command.specs.declared.command.Stage.TheVariants.{SetUpRead, SetUpWrite, End, Fail}
-use Rattle.block_command.specs.Moments.{Moment, is_set_up, turn_of}
-use Rattle.block_disk.specs.Table.{has_wire, wants_wire}
-use Rattle.block_disk.specs.Requests.{is_request}
+use Rattle.std.proofs.Common.{◌≡◌, ◌≢◌, ℕ, ◌+◌, ◌*◌, ◌%◌, ◌^◌, ◌<◌, ◌≤◌, true, false, List, Some, None, refl, sym, ap, ◌∙◌, arith, inl, inr, ◌⊎◌, w32}
+use Rattle.std.proofs.{Common.{w64, bit_or, bit_and}, lemmas.{Bool.{cases_eq, cases_lt, eq-eqb, false_from_ne_true}, Nat.Bits.bit_at_set_same}}
+use Rattle.std.proofs.lemmas.Nat.Bits.{bit_at_set_other, bit_at_clear_same, bit_at_clear_other, bit_at-zero}
+use Rattle.std.specs.{Prelude.{Option, Bool, IfSome, IfNone, is_none, nat_eq, not, ◌&&◌, ◌||◌}, Int.bit_not}
+use Rattle.block_command.specs.{declared.command.Stage.{Stage, TheVariants.{SetUpRead, SetUpWrite, End, Fail}}, Moments.{Moment, is_set_up, turn_of}}
+use Rattle.block_disk.specs.{Table.{has_wire, wants_wire}, Requests.is_request}
 use Rattle.block_disk.specs.Requests as requests
 use Rattle.block_queue.proofs.Door.{of_and}
-use Rattle.block_queue.specs.Line.{IsOldest, Line, PassesNowhere, command_at, has_bit, may_send, may_start, may_start_at, starts}
-use Rattle.block_queue.specs.Places.{IsFirstIn, IsWithout}
-use Rattle.block_scheduler.specs.declared.sets.Sets.{Sets}
-use Rattle.block_scheduler.specs.Sets.{AreSets, IsNoted, IsSetOf, IsTagsOf, IsWith, IsWithTag, asks_at, is_end, sends_alone, sends_at, turn_at, waits_at}
+use Rattle.block_queue.specs.{Line.{IsOldest, Line, PassesNowhere, command_at, has_bit, may_send, may_start, may_start_at, starts}, Places.IsFirstIn}
+use Rattle.block_queue.specs.Places.{IsWithout}
+use Rattle.block_scheduler.specs.{declared.sets.Sets.Sets, Sets.{AreSets, IsNoted, IsSetOf, IsTagsOf, IsWith, IsWithTag, asks_at, is_end}}
+use Rattle.block_scheduler.specs.Sets.{sends_alone, sends_at, turn_at, waits_at}
 
 abbrev pub bit : ℕ → Bool
 bit n = nat_eq n 1

@@ -1,18 +1,17 @@
 -- A run of a scheduler is one of its queue, and commands that wait for room never wait in a circle.
-use Rattle.std.proofs.Common.{◌≡◌, ℕ, zero, suc, ◌+◌, ◌*◌, ◌<◌, ◌≤◌, true, false, List, [], ◌∷◌, ◌++◌, Some, None, refl, sym, ap, ◌∙◌, arith, inl, inr, subst}
+use Rattle.std.proofs.Common.{◌≡◌, ℕ, zero, suc, ◌+◌, ◌*◌, ◌<◌, ◌≤◌, true, false, List, [], ◌∷◌, ◌++◌, Some, None, refl, sym, ap, ◌∙◌, arith, inl}
+use Rattle.std.proofs.{Common.{inr, subst}, lemmas.Bool.{cases_lt, ltb-true, leb-false}}
 use Rattle.std.specs.Prelude.{Option, Bool, ◌&&◌, nat_lt, is_none, if◌then◌else◌}
-use Rattle.std.proofs.lemmas.Bool.{cases_lt, ltb-true, leb-false}
 use Rattle.block_command.specs.Moments.{Moment, runs}
 use Rattle.block_disk.specs.Table.{is_under_way}
-use Rattle.block_queue.specs.Line.{Line, IsLine, command_at, line_gone, line_reset, may_send, may_start_at, orphan}
-use Rattle.block_queue.specs.declared.queue.Orphan.{Orphan}
-use Rattle.block_queue.specs.Deeds as deed
+use Rattle.block_queue.specs.{Line.{Line, IsLine, command_at, line_gone, line_reset, may_send, may_start_at, orphan}, declared.queue.Orphan.Orphan}
 use Rattle.block_queue.specs.Deeds.{AreDeeds, Deed, Goes, after_deed}
+use Rattle.block_queue.specs.Deeds as deed
 use Rattle.block_queue.proofs.Door as door
-use Rattle.block_scheduler.specs.Sets.{ends_at}
-use Rattle.block_scheduler.specs.Schedule.{IsTooLarge, IsNextStart, Schedule, ends_sent, fits_at, held, held_at, held_below, held_by, held_for, held_of, none_scheduled, with_line}
-use Rattle.block_scheduler.specs.Laws.{Move, Takes, Starts, Asks, Sends, SendsEnds, Hears, Answers, Draws, Forgives, Resets, IsMove, AreMoves, after_move, after_moves}
-use Rattle.block_scheduler.specs.Laws.{ends_deeds, deeds_of, all_deeds, RequestsAreApart, EndsAreEarned, IsHeard, AreHeard, DataAreNamed, NumbersAreFresh, SomethingMoves}
+use Rattle.block_scheduler.specs.{Sets.ends_at, Schedule.{IsTooLarge, IsNextStart, Schedule, ends_sent, fits_at, held, held_at, held_below, held_by}}
+use Rattle.block_scheduler.specs.{Schedule.{held_for, held_of, none_scheduled, with_line}, Laws.{Move, Takes, Starts, Asks, Sends, SendsEnds, Hears}}
+use Rattle.block_scheduler.specs.Laws.{Answers, Draws, Forgives, Resets, IsMove, AreMoves, after_move, after_moves, ends_deeds, deeds_of, all_deeds}
+use Rattle.block_scheduler.specs.Laws.{RequestsAreApart, EndsAreEarned, IsHeard, AreHeard, DataAreNamed, NumbersAreFresh, SomethingMoves}
 
 -- ## Lists of deeds
 

@@ -1,11 +1,10 @@
 -- The sets of the commands of a queue, made place by place.
-use Rattle.std.proofs.Common.{◌≡◌, ℕ, ◌+◌, ◌<◌, ◌≤◌, refl, sym, ap, ◌∙◌, arith, inl, inr}
+use Rattle.std.proofs.{Common.{◌≡◌, ℕ, ◌+◌, ◌<◌, ◌≤◌, refl, sym, ap, ◌∙◌, arith, inl, inr}, lemmas.Bool.cases_eq}
 use Rattle.std.specs.Prelude.{Bool}
-use Rattle.std.proofs.lemmas.Bool.{cases_eq}
 use Rattle.block_disk.specs.Requests.{is_request}
 use Rattle.block_queue.specs.Line.{Line, command_at, has_bit, starts}
-use Rattle.block_scheduler.specs.declared.sets.Sets.{Sets}
-use Rattle.block_scheduler.specs.Sets.{AreSets, IsNoted, IsWithTag, asks_at, ends_at, is_end, no_sets, sends_alone, sends_at, turn_at, waits_at}
+use Rattle.block_scheduler.specs.{declared.sets.Sets.Sets, Sets.{AreSets, IsNoted, IsWithTag, asks_at, ends_at, is_end, no_sets, sends_alone}}
+use Rattle.block_scheduler.specs.Sets.{sends_at, turn_at, waits_at}
 use Rattle.block_scheduler.proofs.Places.{asks_turn, place_more}
 
 -- the sets of the places below n

@@ -1,14 +1,11 @@
 -- What is held, summed over the places at which something stands.
 use Rattle.std.proofs.Common.{◌≡◌, ℕ, zero, suc, ◌+◌, ◌*◌, ◌<◌, ◌≤◌, true, false, Some, None, refl, sym, ap, ◌∙◌, arith, inl, inr}
-use Rattle.std.specs.Prelude.{Option, Bool, is_some, not, ◌||◌, if◌then◌else◌}
 use Rattle.std.proofs.lemmas.Bool.{cases_eq, cases_lt}
-use Rattle.block_command.specs.declared.command.Stage.{Stage}
-use Rattle.block_command.specs.declared.command.Stage.TheVariants.{Ended}
-use Rattle.block_command.specs.Moments.{Moment, is_ended, runs}
+use Rattle.std.specs.Prelude.{Option, Bool, is_some, not, ◌||◌, if◌then◌else◌}
+use Rattle.block_command.specs.{declared.command.Stage.{Stage, TheVariants.Ended}, Moments.{Moment, is_ended, runs}}
 use Rattle.block_disk.specs.Table.{is_under_way}
-use Rattle.block_queue.specs.declared.queue.Orphan.{Orphan}
-use Rattle.block_queue.specs.Line.{Line, PassesNowhere, command_at, has_bit, orphan}
-use Rattle.block_queue.specs.Places.{IsFirstIn, IsWatched, IsWithout}
+use Rattle.block_queue.specs.{declared.queue.Orphan.Orphan, Line.{Line, PassesNowhere, command_at, has_bit, orphan}, Places.{IsFirstIn, IsWatched}}
+use Rattle.block_queue.specs.Places.{IsWithout}
 use Rattle.block_queue.proofs.Door.{IsChecked, bare, checked_none}
 use Rattle.block_scheduler.specs.Schedule.{held_at, held_below, held_by, held_for, held_of, is_busy}
 

@@ -1,16 +1,13 @@
 -- Runs of a scheduler: each call does to the queue what some calls of the queue do, so what holds of each run of a queue holds of
 -- what a scheduler shows.
 use Rattle.std.specs.Prelude.{ℕ, zero, suc, ◌≡◌, ◌<◌, ◌≤◌, ◌&&◌, nat_lt, true, List, [], ◌∷◌, ◌++◌, map, Some, None, if◌then◌else◌}
-use Rattle.block_command.specs.declared.command.Command.{Command}
-use Rattle.block_command.specs.Moments.{IsCommand, is_queued}
-use Rattle.block_command.specs.Laws.{Input, Comes}
-use Rattle.block_disk.specs.Table.{is_under_way, with_input}
-use Rattle.block_disk.specs.Requests.{AreSeenRightly, Rises, Seen, asks, is_answer, no_books, none_queued, numbers_given, seen_by, with_asked, with_drawn, with_table}
+use Rattle.block_command.specs.{declared.command.Command.Command, Moments.{IsCommand, is_queued}, Laws.{Input, Comes}}
+use Rattle.block_disk.specs.{Table.{is_under_way, with_input}, Requests.{AreSeenRightly, Rises, Seen, asks, is_answer, no_books, none_queued}}
+use Rattle.block_disk.specs.Requests.{numbers_given, seen_by, with_asked, with_drawn, with_table}
 use Rattle.block_queue.specs.Line.{Line, command_at, line_answered, line_gone, line_reset, line_taken, may_send, may_start, none_in_line, with_queue}
-use Rattle.block_queue.specs.Deeds as deed
 use Rattle.block_queue.specs.Deeds.{AllAreApart, AreNamed, Deed, Goes, act_of, after_deed, seen_of}
-use Rattle.block_scheduler.specs.Sets.{ends_at}
-use Rattle.block_scheduler.specs.Schedule.{IsNextStart, Schedule, ends_all, ends_sent, line_sent, none_scheduled, with_line}
+use Rattle.block_queue.specs.Deeds as deed
+use Rattle.block_scheduler.specs.{Sets.ends_at, Schedule.{IsNextStart, Schedule, ends_all, ends_sent, line_sent, none_scheduled, with_line}}
 
 -- the calls of a scheduler that change it; a refused answer changes nothing and is none of them
 pub data Move : Type 0 where

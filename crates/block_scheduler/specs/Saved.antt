@@ -1,10 +1,8 @@
 -- The scheduler as words. Its sets are those of its commands, and are not saved.
 use Rattle.std.specs.Prelude.{ℕ, ◌<◌, ◌≤◌, ◌^◌, nat_le, Bool, List, Option}
 use Rattle.std.proofs.Common.{ap}
-use Rattle.saved_state.specs.State.{IsToldApart, KeepsOption, put_number, put_option, put_three}
-use Rattle.saved_state.specs.State.{number_apart, option_apart, parts_apart, three_apart}
-use Rattle.block_queue.specs.Line.{Line}
-use Rattle.block_queue.specs.Saved.{KeepsLine, line_apart, put_line}
+use Rattle.saved_state.specs.State.{IsToldApart, KeepsOption, put_number, put_option, put_three, number_apart, option_apart, parts_apart, three_apart}
+use Rattle.block_queue.specs.{Line.Line, Saved.{KeepsLine, line_apart, put_line}}
 use Rattle.block_scheduler.specs.Schedule.{Schedule, held}
 
 -- the commands, the limit in bytes, and the tag that failed

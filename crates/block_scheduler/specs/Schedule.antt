@@ -1,14 +1,12 @@
 -- What goes next at a disk, and how many bytes its commands may hold.
-use Rattle.std.specs.Prelude.{ℕ, zero, suc, ◌≡◌, ◌+◌, ◌*◌, ◌<◌, ◌≤◌, nat_le, nat_lt, Bool, true, false, not, ◌&&◌, ◌||◌, ◌⊎◌, Option, Some, None, if◌then◌else◌}
+use Rattle.std.specs.Prelude.{ℕ, zero, suc, ◌≡◌, ◌+◌, ◌*◌, ◌<◌, ◌≤◌, nat_le, nat_lt, Bool, true, false, not, ◌&&◌, ◌||◌, ◌⊎◌, Option, Some, None}
+use Rattle.std.specs.{Prelude.{if◌then◌else◌}, Option.is_some}
 use Rattle.block_command.specs.Moments.{Moment, runs}
-use Rattle.std.specs.Option.{is_some}
 use Rattle.block_disk.specs.Table.{is_under_way}
-use Rattle.block_queue.specs.Line.{Line, any_below, IsOldest, PassesNowhere, command_at, line_gone, line_reset, may_send, may_start, none_in_line, orphan}
-use Rattle.block_queue.specs.declared.queue.Orphan.{Orphan}
-use Rattle.block_scheduler.specs.declared.scheduler.NextFis.{NextFis}
-use Rattle.block_scheduler.specs.declared.scheduler.NextFis.TheVariants.{Ends, Alone}
-use Rattle.block_scheduler.specs.declared.sets.Sets.{Sets}
-use Rattle.block_scheduler.specs.Sets.{AreSets, IsTagsOf, ends_at, is_fail, sends_at, turn_at}
+use Rattle.block_queue.specs.Line.{Line, any_below, IsOldest, PassesNowhere, command_at, line_gone, line_reset, may_send, may_start, none_in_line}
+use Rattle.block_queue.specs.{Line.orphan, declared.queue.Orphan.Orphan}
+use Rattle.block_scheduler.specs.{declared.{scheduler.NextFis.{NextFis, TheVariants.{Ends, Alone}}, sets.Sets.Sets}, Sets.{AreSets, IsTagsOf}}
+use Rattle.block_scheduler.specs.Sets.{ends_at, is_fail, sends_at, turn_at}
 
 pub record Schedule : Type 0 where
   pub line : Line

@@ -1,8 +1,7 @@
 -- Sets of places, by what is next for their commands.
 use Rattle.std.specs.Prelude.{ℕ, ◌≡◌, ◌≢◌, ◌<◌, nat_lt, Bool, true, false, not, ◌&&◌, Option, Some, None}
-use Rattle.block_command.specs.declared.command.Turn.{Turn}
+use Rattle.block_command.specs.{declared.command.Turn.Turn, Moments.{Moment, turn_of}}
 use Rattle.block_command.specs.declared.command.Turn.TheVariants as turn
-use Rattle.block_command.specs.Moments.{Moment, turn_of}
 use Rattle.block_disk.specs.Requests.{asks, is_fis, is_request}
 use Rattle.block_queue.specs.Line.{Line, command_at, has_bit, starts}
 use Rattle.block_scheduler.specs.declared.sets.Sets.{Sets}

@@ -1,88 +1,54 @@
 -- What takes a bit out of PxSACT.
-use Rattle.std.proofs.Common.{◌≡◌, ◌≢◌, ℕ, zero, suc, ◌+◌, ◌-◌, ◌<◌, ◌^◌, ◌%◌, ◌&&◌, ◌||◌, min, Bool, true, false, not, List, [], ◌∷◌, ◌++◌, length, refl, sym, ap, subst, ◌∙◌, inl, inr, arith, w32, Option, Some, None, bit_or}
-use Rattle.std.specs.Prelude.{◌==◌, ◌⊎◌, MatchOption, IfSome, nat_lt, if◌then◌else◌}
-use Rattle.std.specs.Option.{option_map}
-use Rattle.std.specs.Int.{bit_at}
-use Rattle.std.proofs.lemmas.Bool.{and_parts, cases_Bool, eqb-true, false≢true, ltb-true, true≢false}
-use Rattle.std.proofs.lemmas.List.{append-nil}
-use Rattle.std.proofs.lemmas.Nat.Bits.{bit_at-lt, bit_at-pow_other, bit_at_and, bit_at_not}
+use Rattle.std.proofs.Common.{◌≡◌, ◌≢◌, ℕ, zero, suc, ◌+◌, ◌-◌, ◌<◌, ◌^◌, ◌%◌, ◌&&◌, ◌||◌, min, Bool, true, false, not, List, [], ◌∷◌, ◌++◌, length}
+use Rattle.std.proofs.{Common.{refl, sym, ap, subst, ◌∙◌, inl, inr, arith, w32, Option, Some, None, bit_or}, lemmas.Bool.{and_parts, cases_Bool}}
+use Rattle.std.proofs.lemmas.{Bool.{eqb-true, false≢true, ltb-true, true≢false}, List.{append-nil}, Nat.Bits.{bit_at-lt, bit_at-pow_other}}
+use Rattle.std.proofs.lemmas.Nat.Bits.{bit_at_and, bit_at_not}
+use Rattle.std.specs.{Prelude.{◌==◌, ◌⊎◌, MatchOption, IfSome, nat_lt, if◌then◌else◌}, Option.option_map, Int.bit_at}
 use Rattle.fis_view.specs.declared.view.Fis.{Fis}
 use Rattle.fis_view.specs.declared.view.Fis.TheVariants as view
-use Rattle.guest_fetch.specs.Commands.{Fetched}
+use Rattle.guest_fetch.specs.{Commands.Fetched, declared.fetch.Supplied.Supplied}
 use Rattle.hba_commands.specs.declared.command.Command.{Command}
-use Rattle.slots.specs.Commands.{slots_where}
-use Rattle.slots.specs.Slots.{Issue, has_bit, holds, is_queued_issue, issue_at, match_some, own_issue, slots_of}
-use Rattle.slots.specs.Table.{IsIssue}
-use Rattle.slots.specs.Work.{is_queued}
-use Rattle.slots.specs.declared.work.Work.{Work}
+use Rattle.slots.specs.{Commands.slots_where, Slots.{Issue, has_bit, holds, is_queued_issue, issue_at, match_some, own_issue, slots_of}}
+use Rattle.slots.specs.{Table.IsIssue, Work.is_queued, declared.work.Work.Work}
 use Rattle.slots.proofs.Door.{has_bit_mask, mask_fits}
 use Rattle.ahci_registers.specs.Bits as line_bits
-use Rattle.ahci_registers.specs.Offsets.{register_at}
-use Rattle.ahci_registers.specs.declared.link.Effect.{Effect}
+use Rattle.ahci_registers.specs.{Offsets.register_at, declared.{link.Effect.Effect, register.Register.{Register, TheVariants.PxSact}}}
 use Rattle.ahci_registers.specs.declared.link.Effect.TheVariants as effect
-use Rattle.ahci_registers.specs.declared.register.Register.{Register}
 use Rattle.ahci_registers.specs.declared.register.Register.TheVariants as ahci
-use Rattle.ahci_registers.specs.declared.register.Register.TheVariants.{PxSact}
-use Rattle.hba_fbs.specs.Bits.{st, without}
-use Rattle.hba_fbs.specs.Choosing.{Chooses, may_feed}
-use Rattle.hba_fbs.specs.Deciding.{Decides, decided}
-use Rattle.hba_fbs.specs.Greeting.{Greets}
-use Rattle.hba_fbs.specs.Offering.{AcceptsBy, asked_by}
-use Rattle.hba_fbs.specs.Placing.{Places}
-use Rattle.hba_fbs.specs.Posting.{posted}
-use Rattle.hba_fbs.specs.Reading.{value_of}
-use Rattle.hba_fbs.specs.Registers.{falls, own_refusal_by, written as written_register}
-use Rattle.hba_fbs.specs.Stopping.{SetsCmd}
-use Rattle.hba_fbs.specs.Taking.{ignores, port_of, posted_of, settled}
-use Rattle.hba_fbs.specs.Views.{Port, view_of}
-use Rattle.hba_fbs.specs.declared.error.WriteError.{WriteError}
-use Rattle.hba_fbs.specs.declared.hearing.Heard.{Heard}
+use Rattle.hba_fbs.specs.{Bits.{st, without}, Choosing.{Chooses, may_feed}, Deciding.{Decides, decided}, Greeting.Greets, Offering.AcceptsBy}
+use Rattle.hba_fbs.specs.{Offering.asked_by, Placing.Places, Posting.posted, Reading.value_of, Registers.{falls, own_refusal_by}}
+use Rattle.hba_fbs.specs.{Registers.written as written_register, Stopping.SetsCmd, Taking.{ignores, port_of, posted_of, settled}, Views.Port}
+use Rattle.hba_fbs.specs.{Views.view_of, declared.{error.WriteError.WriteError, hearing.Heard.Heard, registers.Registers.Registers}}
+use Rattle.hba_fbs.specs.declared.{report.TakeReport.TakeReport, room.Room.Room, turn.Turn.{Turn, TheVariants.{Feeds, Rests}}}
 use Rattle.hba_fbs.specs.declared.register.Register as port_register
 use Rattle.hba_fbs.specs.declared.register.Register.TheVariants as on_port
-use Rattle.hba_fbs.specs.declared.registers.Registers.{Registers}
-use Rattle.hba_fbs.specs.declared.report.TakeReport.{TakeReport}
-use Rattle.hba_fbs.specs.declared.room.Room.{Room}
-use Rattle.hba_fbs.specs.declared.turn.Turn.{Turn}
-use Rattle.hba_fbs.specs.declared.turn.Turn.TheVariants.{Feeds, Rests}
-use Rattle.hba_laws.specs.Agreement.{IsTold, work_of_issue, work_of_transfer}
-use Rattle.hba_laws.specs.Alike.{told_issued}
-use Rattle.hba_laws.specs.CoreHistories.{CoreViewsAreTold, event_by, frees, history_through, is_freed_in, turned_for}
+use Rattle.hba_laws.specs.{Agreement.{IsTold, work_of_issue, work_of_transfer}, Alike.told_issued, CoreHistories.{CoreViewsAreTold, event_by, frees}}
+use Rattle.hba_laws.specs.{CoreHistories.{history_through, is_freed_in, turned_for}, Cores.{CoreEvent, RunsBy}, History.{History, Transfer, issued}}
 use Rattle.hba_laws.specs.Cores as core
-use Rattle.hba_laws.specs.Cores.{CoreEvent, RunsBy}
 use Rattle.hba_laws.specs.History as history
-use Rattle.hba_laws.specs.History.{History, Transfer, issued}
 use Rattle.hba_laws.proofs.Door.{held, own_here, own_in}
-use Rattle.ahci_controller.specs.Access.{fits as fits_width, high_of, low_of, merged, ones_of, spread_of}
-use Rattle.ahci_controller.specs.Feeding.{GathersIf, Loses, LosesIf, MissesIf as MissesDataIf, SendsIf, without_feeding}
-use Rattle.ahci_controller.specs.Fetching.{GoesOn, MissesIf, SuppliesIf, answered, fits, is_asked, want_at, without_fetch}
-use Rattle.ahci_controller.specs.Issuing.{PlacesSlot, RefusesSlot, device_of, not_issued, offered_command}
-use Rattle.ahci_controller.specs.Next.{Frames, FramesFor, GoesIf, Reads, RestsNow, TurnsIf, is_fed, is_halted, next_device, next_read, next_slot, next_write, turn_to, written}
-use Rattle.ahci_controller.specs.Offers.{offer_in, offers_nothing}
-use Rattle.ahci_controller.specs.Own.{engine_of}
-use Rattle.ahci_controller.specs.Reading.{is_idle, shown}
-use Rattle.ahci_controller.specs.States.{ControllerState, kept}
-use Rattle.ahci_controller.specs.Taking.{CoreHearsIf, room_for}
-use Rattle.ahci_controller.specs.Wide.{WritesAt, WritesFitting, WritesIf, block_of}
-use Rattle.ahci_controller.specs.Writing.{ClearsIf, Commands, Leaves, ResetsBy, WritesGlobal, WritesRegister, link_effect, link_moved, plain, told_refusal}
-use Rattle.ahci_controller.specs.declared.access.Width.{Width}
-use Rattle.ahci_controller.specs.declared.feeding.Fed.{Fed}
-use Rattle.ahci_controller.specs.declared.feeding.Fed.TheVariants as fed_answer
-use Rattle.ahci_controller.specs.declared.issuing.NotTaken.{NotTaken}
-use Rattle.ahci_controller.specs.declared.issuing.Supply.{Supply}
-use Rattle.ahci_controller.specs.declared.issuing.Supply.TheVariants as supply_answer
-use Rattle.ahci_controller.specs.declared.next.Next.{Next}
-use Rattle.ahci_controller.specs.declared.next.Next.TheVariants as next_step
-use Rattle.ahci_controller.specs.declared.wide.WideWritten.{WideWritten}
+use Rattle.ahci_controller.specs.{Access.{fits as fits_width, high_of, low_of, merged, ones_of, spread_of}, Feeding.{GathersIf, Loses, LosesIf}}
+use Rattle.ahci_controller.specs.{Feeding.{MissesIf as MissesDataIf, SendsIf, without_feeding}, Fetching.{GoesOn, MissesIf, SuppliesIf, answered}}
+use Rattle.ahci_controller.specs.{Fetching.{fits, is_asked, want_at, without_fetch}, Issuing.{PlacesSlot, RefusesSlot, device_of, not_issued}}
+use Rattle.ahci_controller.specs.{Issuing.offered_command, Next.{Frames, FramesFor, GoesIf, Reads, RestsNow, TurnsIf, is_fed, is_halted, next_device}}
+use Rattle.ahci_controller.specs.{Next.{next_read, next_slot, next_write, turn_to, written}, Offers.{offer_in, offers_nothing}, Own.engine_of}
+use Rattle.ahci_controller.specs.{Reading.{is_idle, shown}, States.{ControllerState, kept}, Taking.{CoreHearsIf, room_for}, Wide.WritesAt}
+use Rattle.ahci_controller.specs.{Wide.{WritesFitting, WritesIf, block_of}, Writing.{ClearsIf, Commands, Leaves, ResetsBy, WritesGlobal}}
+use Rattle.ahci_controller.specs.{Writing.{WritesRegister, link_effect, link_moved, plain, told_refusal}, declared.access.Width.Width}
+use Rattle.ahci_controller.specs.declared.{feeding.Fed.Fed, issuing.{NotTaken.NotTaken, Supply.Supply}, next.Next.Next, wide.WideWritten.WideWritten}
 use Rattle.ahci_controller.specs.declared.writing.Written.{Written}
+use Rattle.ahci_controller.specs.declared.feeding.Fed.TheVariants as fed_answer
+use Rattle.ahci_controller.specs.declared.issuing.Supply.TheVariants as supply_answer
+use Rattle.ahci_controller.specs.declared.next.Next.TheVariants as next_step
 use Rattle.ahci_controller.proofs.Door.{or_left, or_none, or_right}
-use Rattle.guest_fetch.specs.declared.fetch.Supplied.{Supplied}
 use Rattle.guest_fetch.specs.declared.fetch.Supplied.TheVariants as came_as
-use Rattle.controller_laws.specs.Active.{ActiveBitsFall, ActiveFalls, IsNamed}
-use Rattle.controller_laws.specs.CoreEvents.{AreCoreEvents, commanded_by, commanded_with, no_tables, of_event, of_fed, of_frame, of_next, of_part, of_register, of_supply, of_turn, of_turned, of_wide, of_write, overridden_by, relinked_by, reset_by, told}
-use Rattle.controller_laws.specs.Ends.{AreTold, IsFreed, StopsWide}
+use Rattle.controller_laws.specs.{Active.{ActiveBitsFall, ActiveFalls, IsNamed}, CoreEvents.{AreCoreEvents, commanded_by, commanded_with, no_tables}}
+use Rattle.controller_laws.specs.CoreEvents.{of_event, of_fed, of_frame, of_next, of_part, of_register, of_supply, of_turn, of_turned, of_wide}
+use Rattle.controller_laws.specs.{CoreEvents.{of_write, overridden_by, relinked_by, reset_by, told}, Ends.{AreTold, IsFreed, StopsWide}, Events.Does}
+use Rattle.controller_laws.specs.Events.{Event, IsController}
 use Rattle.controller_laws.specs.Events as event
-use Rattle.controller_laws.specs.Events.{Does, Event, IsController}
-use Rattle.controller_laws.proofs.PlainLemmas.{ArePlain, IsOfFis, IsPlain, Names, NotIssue, NoIssue, frame_event, frees_named, issues_keep, issues_plain, kept_issued, no_issue_both, plain_through, through_after, turn_keeps, turned_plain}
+use Rattle.controller_laws.proofs.PlainLemmas.{ArePlain, IsOfFis, IsPlain, Names, NotIssue, NoIssue, frame_event, frees_named, issues_keep}
+use Rattle.controller_laws.proofs.PlainLemmas.{issues_plain, kept_issued, no_issue_both, plain_through, through_after, turn_keeps, turned_plain}
 
 -- ---- what PxSACT shows
 

@@ -1,57 +1,37 @@
 -- What each call does to the core.
-use Rattle.std.proofs.Common.{◌≡◌, ℕ, ◌<◌, ◌^◌, ◌&&◌, Bool, true, false, not, List, [], ◌∷◌, length, refl, sym, ap, subst, ◌∙◌, Option, Some, None, get_or-set_same}
-use Rattle.std.specs.Prelude.{MatchOption, if◌then◌else◌, nat_lt}
-use Rattle.std.specs.Option.{option_map}
-use Rattle.std.proofs.lemmas.Bool.{and_parts, ltb-true}
+use Rattle.std.proofs.Common.{◌≡◌, ℕ, ◌<◌, ◌^◌, ◌&&◌, Bool, true, false, not, List, [], ◌∷◌, length, refl, sym, ap, subst, ◌∙◌, Option, Some, None}
+use Rattle.std.proofs.{Common.{get_or-set_same}, lemmas.Bool.{and_parts, ltb-true}}
+use Rattle.std.specs.{Prelude.{MatchOption, if◌then◌else◌, nat_lt}, Option.option_map}
 use Rattle.fis_view.specs.Frames.{IsFrame}
 use Rattle.slots.specs.Slots.{Issue, issue_at, match_some}
-use Rattle.guest_fetch.specs.Commands.{Fetched}
-use Rattle.guest_fetch.specs.declared.fetch.Supplied.{Supplied}
+use Rattle.guest_fetch.specs.{Commands.Fetched, declared.{fetch.Supplied.Supplied, moves.Move.Move}}
 use Rattle.guest_fetch.specs.declared.fetch.Supplied.TheVariants as supplied
-use Rattle.guest_fetch.specs.declared.moves.Move.{Move}
 use Rattle.hba_commands.specs.declared.command.Command.{Command}
-use Rattle.hba_fbs.specs.Choosing.{Chooses, MayChoose, may_feed}
-use Rattle.hba_fbs.specs.Placing.{issue_error}
-use Rattle.hba_fbs.specs.Taking.{port_of}
-use Rattle.hba_fbs.specs.Turning.{orders}
-use Rattle.hba_fbs.specs.Views.{Port, last_command}
-use Rattle.hba_fbs.specs.declared.error.IssueError.{IssueError}
-use Rattle.hba_fbs.specs.declared.report.TakeReport.{TakeReport}
-use Rattle.hba_fbs.specs.declared.turn.Turn.{Turn}
-use Rattle.hba_fbs.specs.declared.turn.Turn.TheVariants.{Feeds, Orders, Rests}
+use Rattle.hba_fbs.specs.{Choosing.{Chooses, MayChoose, may_feed}, Placing.issue_error, Taking.port_of, Turning.orders, Views.{Port, last_command}}
+use Rattle.hba_fbs.specs.declared.{error.IssueError.IssueError, report.TakeReport.TakeReport, turn.Turn.{Turn, TheVariants.{Feeds, Orders, Rests}}}
+use Rattle.hba_fbs.specs.{Registers.own_refusal_by, Stopping.SetsCmd}
 use Rattle.hba_laws.specs.Cores as core
 use Rattle.hba_laws.specs.Cores.{CoreEvent, HasBytes, IsCore}
-use Rattle.ahci_controller.specs.Feeding.{GathersIf, Loses, LosesIf, MissesIf as MissesDataIf, SendsIf, without_feeding}
-use Rattle.ahci_controller.specs.Fetching.{GoesOn, MissesIf, SuppliesIf, answered, fits, is_asked, next_number, without_fetch}
-use Rattle.ahci_controller.specs.Access.{fits as fits_width}
-use Rattle.ahci_controller.specs.Issuing.{PlacesSlot, RefusesSlot, device_of, not_issued, not_taken as not_taken_as, offered_command}
-use Rattle.ahci_controller.specs.Next.{FeedsTo, Frames, FramesFor, GoesIf, OrdersSlot, Reads, RestsNow, StartsUp, TurnsIf, count_next, counted_slot, feed_next, is_fed, is_halted, next_device, next_read, next_slot, next_write, order_next, rest, run_of, step_of, step_with, turn_to, written}
-use Rattle.ahci_controller.specs.Moving.{count_of}
-use Rattle.ahci_controller.specs.Offers.{offer_in}
-use Rattle.ahci_controller.specs.States.{ControllerState, kept}
-use Rattle.ahci_controller.specs.Taking.{CoreHearsIf, is_any, room_for}
-use Rattle.ahci_controller.specs.declared.feeding.Fed.{Fed}
+use Rattle.ahci_controller.specs.{Feeding.{GathersIf, Loses, LosesIf, MissesIf as MissesDataIf, SendsIf, without_feeding}, Fetching.GoesOn}
+use Rattle.ahci_controller.specs.{Fetching.{MissesIf, SuppliesIf, answered, fits, is_asked, next_number, without_fetch}, Access.fits as fits_width}
+use Rattle.ahci_controller.specs.{Issuing.{PlacesSlot, RefusesSlot, device_of, not_issued, not_taken as not_taken_as, offered_command}, Next.FeedsTo}
+use Rattle.ahci_controller.specs.Next.{Frames, FramesFor, GoesIf, OrdersSlot, Reads, RestsNow, StartsUp, TurnsIf, count_next, counted_slot, feed_next}
+use Rattle.ahci_controller.specs.Next.{is_fed, is_halted, next_device, next_read, next_slot, next_write, order_next, rest, run_of, step_of, step_with}
+use Rattle.ahci_controller.specs.{Next.{turn_to, written}, Moving.count_of, Offers.offer_in, States.{ControllerState, kept}, Taking.CoreHearsIf}
+use Rattle.ahci_controller.specs.{Taking.{is_any, room_for}, declared.{feeding.Fed.Fed, issuing.{NotTaken.NotTaken, Supply.Supply}, next.Next.Next}}
+use Rattle.ahci_controller.specs.{declared.{wants.Carried.Carried, taking.Took.Took}, Own.engine_of, Reading.is_idle}
 use Rattle.ahci_controller.specs.declared.feeding.Fed.TheVariants as fed_answer
-use Rattle.ahci_controller.specs.declared.issuing.NotTaken.{NotTaken}
 use Rattle.ahci_controller.specs.declared.issuing.NotTaken.TheVariants as not_taken
-use Rattle.ahci_controller.specs.declared.issuing.Supply.{Supply}
 use Rattle.ahci_controller.specs.declared.issuing.Supply.TheVariants as supply_answer
-use Rattle.ahci_controller.specs.declared.next.Next.{Next}
 use Rattle.ahci_controller.specs.declared.next.Next.TheVariants as next_step
-use Rattle.ahci_controller.specs.declared.wants.Carried.{Carried}
 use Rattle.ahci_controller.specs.declared.taking.Hindrance.TheVariants as why
 use Rattle.hba_fbs.specs.declared.greeting.Listens.TheVariants as listens
-use Rattle.ahci_controller.specs.declared.taking.Took.{Took}
-use Rattle.controller_laws.specs.CoreEvents.{AreCoreEvents, no_tables, of_all, of_event, commanded_with, of_fed, of_frame, of_next, of_supply, of_turn}
+use Rattle.controller_laws.specs.CoreEvents.{AreCoreEvents, no_tables, of_all, of_event, commanded_with, of_fed, of_frame, of_next, of_supply}
+use Rattle.controller_laws.specs.{CoreEvents.of_turn, Events.{Does, Event, IsController, IsWhole, Runs, Takes}}
 use Rattle.controller_laws.specs.Events as event
-use Rattle.controller_laws.specs.Events.{Does, Event, IsController, IsWhole, Runs, Takes}
-use Rattle.controller_laws.proofs.ListLemmas.{as_list, core_kept, no_core_event, one_core_event, then_core_events}
-use Rattle.controller_laws.proofs.RegisterLemmas.{started_as, wide_are, write_are}
-use Rattle.hba_fbs.specs.Registers.{own_refusal_by}
-use Rattle.hba_fbs.specs.Stopping.{SetsCmd}
+use Rattle.controller_laws.proofs.{ListLemmas.{as_list, core_kept, no_core_event, one_core_event, then_core_events}, RegisterLemmas.started_as}
+use Rattle.controller_laws.proofs.RegisterLemmas.{wide_are, write_are}
 use Rattle.hba_fbs.specs.declared.register.Register.TheVariants as on_port
-use Rattle.ahci_controller.specs.Own.{engine_of}
-use Rattle.ahci_controller.specs.Reading.{is_idle}
 
 -- ---- supplies
 

@@ -1,51 +1,31 @@
 -- Where the bytes of Data go, over a run.
-use Rattle.std.proofs.Common.{◌≡◌, ◌≢◌, ℕ, zero, suc, ◌+◌, ◌-◌, ◌<◌, ◌≤◌, ◌&&◌, ◌||◌, min, Bool, true, false, not, List, [], ◌∷◌, ◌++◌, length, take, drop, get_or, set, refl, sym, ap, subst, ◌∙◌, inl, inr, arith, Option, Some, None, get_or-set_same, get_or-set_other}
-use Rattle.std.specs.Prelude.{◌==◌, ◌⊎◌, MatchOption, IfSome, is_some, nat_lt, slice_get, if◌then◌else◌}
-use Rattle.std.specs.Option.{option_map}
-use Rattle.std.proofs.lemmas.Bool.{and_parts, cases_eq, eqb-true, false≢true, lt-ltb, ltb-false, ltb-true, or_parts, true≢false}
-use Rattle.std.proofs.lemmas.List.{append-nil, append_assoc, drop-drop, length-drop, length-take}
+use Rattle.std.proofs.Common.{◌≡◌, ◌≢◌, ℕ, zero, suc, ◌+◌, ◌-◌, ◌<◌, ◌≤◌, ◌&&◌, ◌||◌, min, Bool, true, false, not, List, [], ◌∷◌, ◌++◌, length, take}
+use Rattle.std.proofs.Common.{drop, get_or, set, refl, sym, ap, subst, ◌∙◌, inl, inr, arith, Option, Some, None, get_or-set_same, get_or-set_other}
+use Rattle.std.proofs.lemmas.{Bool.{and_parts, cases_eq, eqb-true, false≢true, lt-ltb, ltb-false, ltb-true, or_parts, true≢false}, List.{append-nil}}
+use Rattle.std.proofs.lemmas.List.{append_assoc, drop-drop, length-drop, length-take}
+use Rattle.std.specs.{Prelude.{◌==◌, ◌⊎◌, MatchOption, IfSome, is_some, nat_lt, slice_get, if◌then◌else◌}, Option.option_map}
 use Rattle.slots.specs.Slots.{has_bit, match_some}
-use Rattle.guest_fetch.specs.Commands.{Fetched}
-use Rattle.guest_fetch.specs.Moves.{moves_at, moves_of}
-use Rattle.guest_fetch.specs.Places.{Places, Single, named, place, room_at, single, singles, singles_from, total_of}
-use Rattle.guest_fetch.specs.declared.entry.Entry.{Entry}
-use Rattle.guest_fetch.specs.declared.fetch.Supplied.{Supplied}
+use Rattle.guest_fetch.specs.{Commands.Fetched, Moves.{moves_at, moves_of}, Places.{Places, Single, named, place, room_at, single, singles}}
+use Rattle.guest_fetch.specs.{Places.{singles_from, total_of}, declared.{entry.Entry.Entry, fetch.Supplied.Supplied, moves.Move.Move}}
 use Rattle.guest_fetch.specs.declared.fetch.Supplied.TheVariants as came_as
-use Rattle.guest_fetch.specs.declared.moves.Move.{Move}
-use Rattle.hba_fbs.specs.Choosing.{may_feed}
-use Rattle.hba_fbs.specs.declared.report.Wrote.{Wrote}
-use Rattle.hba_fbs.specs.declared.turn.Turn.{Turn}
-use Rattle.hba_fbs.specs.declared.turn.Turn.TheVariants.{Feeds}
-use Rattle.ahci_controller.specs.Access.{fits as fits_width}
-use Rattle.ahci_controller.specs.Feeding.{GathersIf, Loses, LosesIf, MissesIf as MissesDataIf, SendsIf, sent_to, without_feeding}
-use Rattle.ahci_controller.specs.Fetching.{GoesOn, MissesIf, SuppliesIf, answered, fits, is_asked, want_at, without_fetch}
-use Rattle.ahci_controller.specs.Issuing.{PlacesSlot, RefusesSlot, not_issued}
-use Rattle.ahci_controller.specs.Moving.{commands_after, moved_on}
-use Rattle.ahci_controller.specs.Next.{Turns, TurnsIf, after_count, after_rest, counted_slot, first_run, is_fed, is_halted, left, next_write, rest, run_of, step_of, step_with, turn_to, written}
-use Rattle.ahci_controller.specs.Outbox.{no_writes}
-use Rattle.ahci_controller.specs.Rules.{IsCarried}
-use Rattle.ahci_controller.specs.States.{ControllerState, kept}
-use Rattle.ahci_controller.specs.Taking.{brought, carried, is_any}
-use Rattle.ahci_controller.specs.Wide.{WritesFitting}
-use Rattle.ahci_controller.specs.declared.access.Width.{Width}
-use Rattle.ahci_controller.specs.declared.feeding.Fed.{Fed}
-use Rattle.ahci_controller.specs.declared.issuing.NotTaken.{NotTaken}
-use Rattle.ahci_controller.specs.declared.issuing.Supply.{Supply}
-use Rattle.ahci_controller.specs.declared.next.Next.{Next}
+use Rattle.hba_fbs.specs.{Choosing.may_feed, declared.{report.Wrote.Wrote, turn.Turn.{Turn, TheVariants.Feeds}}}
+use Rattle.ahci_controller.specs.{Access.fits as fits_width, Feeding.{GathersIf, Loses, LosesIf, MissesIf as MissesDataIf, SendsIf, sent_to}}
+use Rattle.ahci_controller.specs.{Feeding.without_feeding, Fetching.{GoesOn, MissesIf, SuppliesIf, answered, fits, is_asked, want_at, without_fetch}}
+use Rattle.ahci_controller.specs.{Issuing.{PlacesSlot, RefusesSlot, not_issued}, Moving.{commands_after, moved_on}, Next.{Turns, TurnsIf}}
+use Rattle.ahci_controller.specs.Next.{after_count, after_rest, counted_slot, first_run, is_fed, is_halted, left, next_write, rest, run_of, step_of}
+use Rattle.ahci_controller.specs.{Next.{step_with, turn_to, written}, Outbox.no_writes, Rules.IsCarried, States.{ControllerState, kept}}
+use Rattle.ahci_controller.specs.{Taking.{brought, carried, is_any}, Wide.WritesFitting, declared.{access.Width.Width, feeding.Fed.Fed}}
+use Rattle.ahci_controller.specs.declared.{issuing.{NotTaken.NotTaken, Supply.Supply}, next.Next.Next, taking.Took.Took, wants.Carried.Carried}
+use Rattle.ahci_controller.specs.declared.{wants.Writes.Writes, wide.WideWritten.WideWritten}
 use Rattle.ahci_controller.specs.declared.next.Next.TheVariants as next_step
 use Rattle.ahci_controller.specs.declared.taking.Hindrance.TheVariants as why
-use Rattle.ahci_controller.specs.declared.taking.Took.{Took}
-use Rattle.ahci_controller.specs.declared.wants.Carried.{Carried}
-use Rattle.ahci_controller.specs.declared.wants.Writes.{Writes}
-use Rattle.ahci_controller.specs.declared.wide.WideWritten.{WideWritten}
-use Rattle.controller_laws.specs.Carrying.{AllAreSaid, AreLeft, AreNumbered, AreSaid, BytesAreSaid, Carrying, IsLeft, IsOwnData, IsSaid, SaidOfData, carrying_after_call, carrying_by, carrying_of, cut_behind, cut_wide, first_of, moves_in, moves_said, placed_of, said_more, said_of}
+use Rattle.controller_laws.specs.Carrying.{AllAreSaid, AreLeft, AreNumbered, AreSaid, BytesAreSaid, Carrying, IsLeft, IsOwnData, IsSaid, SaidOfData}
+use Rattle.controller_laws.specs.Carrying.{carrying_after_call, carrying_by, carrying_of, cut_behind, cut_wide, first_of, moves_in, moves_said}
+use Rattle.controller_laws.specs.{Carrying.{placed_of, said_more, said_of}, Events.{Does, Event, IsController, Runs, Takes}, Places.IsPlaced}
+use Rattle.controller_laws.specs.Places.{IsWritten}
 use Rattle.controller_laws.specs.Events as event
-use Rattle.controller_laws.specs.Events.{Does, Event, IsController, Runs, Takes}
-use Rattle.controller_laws.specs.Places.{IsPlaced, IsWritten}
-use Rattle.controller_laws.proofs.OwnDataLemmas.{data_is_own, frame_short}
-use Rattle.controller_laws.proofs.PlaceLemmas.{writes_are_placed}
-use Rattle.controller_laws.proofs.TouchLemmas.{IsCalm, Touches, part_touches, turn_calm, write_touches, written_calm}
-use Rattle.controller_laws.proofs.TouchLemmas.Touches.{Drops, Keeps}
+use Rattle.controller_laws.proofs.{OwnDataLemmas.{data_is_own, frame_short}, PlaceLemmas.writes_are_placed, TouchLemmas.{IsCalm, Touches}}
+use Rattle.controller_laws.proofs.TouchLemmas.{part_touches, turn_calm, write_touches, written_calm, Touches.{Drops, Keeps}}
 
 -- ---- bytes with their places
 

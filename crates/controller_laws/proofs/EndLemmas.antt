@@ -1,31 +1,22 @@
 -- What ends a command, by what its device's history says.
 use Rattle.std.proofs.Common.{◌≡◌, ℕ, ◌<◌, Bool, true, false, length, refl, sym, ap, subst, ◌∙◌, inl, inr, arith, Option, Some, None, bit_or}
-use Rattle.std.specs.Prelude.{MatchOption, is_some, not}
 use Rattle.std.proofs.lemmas.Bool.{cases_Bool, false≢true, true≢false}
-use Rattle.slots.specs.Commands.{is_unanswered, slots_where}
-use Rattle.slots.specs.Slots.{Issue, has_bit, holds, is_queued_issue, issue_at, own_issue, slots_of}
+use Rattle.std.specs.Prelude.{MatchOption, is_some, not}
+use Rattle.slots.specs.{Commands.{is_unanswered, slots_where}, Slots.{Issue, has_bit, holds, is_queued_issue, issue_at, own_issue, slots_of}}
 use Rattle.slots.specs.Table.{IsIssue, IsTable}
 use Rattle.slots.proofs.Door.{has_bit_mask}
 use Rattle.ahci_registers.specs.declared.register.Register.TheVariants.{PxCi}
-use Rattle.hba_fbs.specs.Reading.{value_of}
-use Rattle.hba_fbs.specs.Views.{Port}
-use Rattle.hba_laws.specs.CoreHistories.{CoreFreedByOwn}
-use Rattle.hba_laws.specs.History.{History}
+use Rattle.hba_fbs.specs.{Reading.value_of, Views.Port}
+use Rattle.hba_laws.specs.{CoreHistories.CoreFreedByOwn, History.History}
 use Rattle.hba_laws.proofs.Door.{held, own_here, own_in}
-use Rattle.ahci_controller.specs.Access.{fits as fits_width}
-use Rattle.ahci_controller.specs.Fetching.{fits, is_asked}
-use Rattle.ahci_controller.specs.Next.{is_fed, next_write}
-use Rattle.ahci_controller.specs.Reading.{shown}
+use Rattle.ahci_controller.specs.{Access.fits as fits_width, Fetching.{fits, is_asked}, Next.{is_fed, next_write}, Reading.shown}
 use Rattle.ahci_controller.specs.States.{ControllerState}
 use Rattle.ahci_controller.proofs.Door.{or_left, or_none, or_right}
-use Rattle.controller_laws.specs.CoreEvents.{AreCoreEvents, of_event}
-use Rattle.controller_laws.specs.Ends.{AreTold, Falls, IssuesFall}
+use Rattle.controller_laws.specs.{CoreEvents.{AreCoreEvents, of_event}, Ends.{AreTold, Falls, IssuesFall}, Events.{Does, Event, IsController}}
 use Rattle.controller_laws.specs.Events as event
-use Rattle.controller_laws.specs.Events.{Does, Event, IsController}
-use Rattle.controller_laws.proofs.FallLemmas.{Goes, Keeps, Stands, gather_stands, miss_goes, not_there_stands, said_stands, supply_goes, take_stands, turn_stands, wide_falls, write_falls}
-use Rattle.controller_laws.proofs.FallLemmas.Goes.{Placed, Waits}
-use Rattle.controller_laws.proofs.FallLemmas.Keeps.{Still, Stopped}
-use Rattle.controller_laws.proofs.FallLemmas.Stands.{Fails, Reads}
+use Rattle.controller_laws.proofs.FallLemmas.{Goes, Keeps, Stands, gather_stands, miss_goes, not_there_stands, said_stands, supply_goes, take_stands}
+use Rattle.controller_laws.proofs.FallLemmas.{turn_stands, wide_falls, write_falls, Goes.{Placed, Waits}, Keeps.{Still, Stopped}, Stands.Fails}
+use Rattle.controller_laws.proofs.FallLemmas.Stands.{Reads}
 
 -- ---- what PxCI shows
 

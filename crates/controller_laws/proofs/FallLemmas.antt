@@ -1,58 +1,32 @@
 -- What becomes of a slot that is being read, or of one whose command is a bad one.
-use Rattle.std.proofs.Common.{◌≡◌, ◌≢◌, ℕ, ◌<◌, ◌^◌, ◌&&◌, ◌||◌, Bool, true, false, not, List, length, get_or, refl, sym, ap, ◌∙◌, inl, inr, arith, Option, Some, None, bit_or}
+use Rattle.std.proofs.Common.{◌≡◌, ◌≢◌, ℕ, ◌<◌, ◌^◌, ◌&&◌, ◌||◌, Bool, true, false, not, List, length, get_or, refl, sym, ap, ◌∙◌, inl, inr, arith}
+use Rattle.std.proofs.{Common.{Option, Some, None, bit_or}, lemmas.{List.{length-map, FromFn.{get_or-map-range_with_len}}, Bool.and_parts}}
+use Rattle.std.proofs.lemmas.Bool.{cases_Bool, cases_eq, false≢true, ltb-true}
 use Rattle.std.specs.Prelude.{◌⊎◌, MatchOption, is_some, nat_lt, if◌then◌else◌}
-use Rattle.std.proofs.lemmas.List.{length-map}
-use Rattle.std.proofs.lemmas.List.FromFn.{get_or-map-range_with_len}
-use Rattle.std.proofs.lemmas.Bool.{and_parts, cases_Bool, cases_eq, false≢true, ltb-true}
-use Rattle.slots.specs.Slots.{DeviceSlots, Issue, has_bit, issue_at, own_issue, owned_by, slots_of}
-use Rattle.slots.specs.Table.{IsTable}
+use Rattle.slots.specs.{Slots.{DeviceSlots, Issue, has_bit, issue_at, own_issue, owned_by, slots_of}, Table.IsTable}
 use Rattle.ahci_registers.specs.Bits as line_bits
-use Rattle.ahci_registers.specs.Offsets.{register_at}
-use Rattle.ahci_registers.specs.declared.link.Effect.{Effect}
+use Rattle.ahci_registers.specs.{Offsets.register_at, declared.{link.Effect.Effect, register.Register.Register}}
 use Rattle.ahci_registers.specs.declared.link.Effect.TheVariants as effect
-use Rattle.ahci_registers.specs.declared.register.Register.{Register}
 use Rattle.ahci_registers.specs.declared.register.Register.TheVariants as ahci
-use Rattle.guest_fetch.specs.Commands.{Fetched}
-use Rattle.guest_fetch.specs.declared.fetch.Supplied.{Supplied}
+use Rattle.guest_fetch.specs.{Commands.Fetched, declared.fetch.Supplied.Supplied}
 use Rattle.guest_fetch.specs.declared.fetch.Supplied.TheVariants as supplied
-use Rattle.hba_fbs.specs.Choosing.{may_feed}
+use Rattle.hba_fbs.specs.{Choosing.may_feed, Bits.without, Issuing.{issue_with, issued_slots, issues_with}, Offering.{Offer, asked_by}}
+use Rattle.hba_fbs.specs.{Placing.Places, Views.{DeviceView, Port}, declared.{error.WriteError.WriteError, registers.Registers.Registers}}
+use Rattle.hba_fbs.specs.declared.turn.Turn.{Turn, TheVariants.Feeds}
 use Rattle.hba_commands.specs.declared.command.Command.{Command}
-use Rattle.hba_fbs.specs.Bits.{without}
-use Rattle.hba_fbs.specs.Issuing.{issue_with, issued_slots, issues_with}
-use Rattle.hba_fbs.specs.Offering.{Offer, asked_by}
-use Rattle.hba_fbs.specs.Placing.{Places}
-use Rattle.hba_fbs.specs.Views.{DeviceView, Port}
 use Rattle.hba_fbs.proofs.Door.{own_at}
-use Rattle.hba_fbs.specs.declared.error.WriteError.{WriteError}
 use Rattle.hba_fbs.specs.declared.register.Register as port_register
-use Rattle.hba_fbs.specs.declared.registers.Registers.{Registers}
-use Rattle.hba_fbs.specs.declared.turn.Turn.{Turn}
-use Rattle.hba_fbs.specs.declared.turn.Turn.TheVariants.{Feeds}
-use Rattle.ahci_controller.specs.Access.{merged}
-use Rattle.ahci_controller.specs.Feeding.{GathersIf, Loses, LosesIf, LosesSlot, MissesIf as MissesDataIf, SendsIf, without_feeding}
-use Rattle.ahci_controller.specs.Fetching.{GoesOn, MissesIf, SuppliesIf, answered, fits, is_asked, without_fetch}
-use Rattle.ahci_controller.specs.Issuing.{PlacesSlot, RefusesSlot, device_of, not_issued, offered_command}
-use Rattle.ahci_controller.specs.Next.{FeedsTo, Frames, FramesFor, GoesIf, OrdersSlot, Reads as ReadsSlot, RestsNow, StartsUp, TurnsIf, is_halted, next_device, next_read, next_slot, turn_to, written}
-use Rattle.ahci_controller.specs.Offers.{offer_in}
+use Rattle.ahci_controller.specs.{Access.merged, Feeding.{GathersIf, Loses, LosesIf, LosesSlot, MissesIf as MissesDataIf, SendsIf, without_feeding}}
+use Rattle.ahci_controller.specs.{Fetching.{GoesOn, MissesIf, SuppliesIf, answered, fits, is_asked, without_fetch}, Issuing.{PlacesSlot, RefusesSlot}}
+use Rattle.ahci_controller.specs.{Issuing.{device_of, not_issued, offered_command}, Next.{FeedsTo, Frames, FramesFor, GoesIf, OrdersSlot}}
+use Rattle.ahci_controller.specs.Next.{Reads as ReadsSlot, RestsNow, StartsUp, TurnsIf, is_halted, next_device, next_read, next_slot, turn_to}
+use Rattle.ahci_controller.specs.{Next.written, Offers.offer_in, Own.commanded, Reading.shown, States.ControllerState, Taking.Hears}
+use Rattle.ahci_controller.specs.{declared.taking.Took.Took, Wants.dropped, Wide.{WritesAt, WritesFitting, WritesIf}, Writing.{Commands, Leaves}}
+use Rattle.ahci_controller.specs.Writing.{ResetsBy, StartsPort, Tells, WritesGlobal, WritesRegister, asked_state, fresh_slots, idle_for, link_effect}
+use Rattle.ahci_controller.specs.{Writing.{link_moved, plain}, declared.{access.Width.Width, feeding.Fed.Fed, issuing.NotTaken.NotTaken}}
+use Rattle.ahci_controller.specs.declared.{issuing.Supply.Supply, latch.Latch.Latch, next.Next.Next, own.OwnRegisters.OwnRegisters, wants.Wants.Wants}
+use Rattle.ahci_controller.specs.declared.{wide.WideWritten.WideWritten, writing.Written.Written}
 use Rattle.ahci_controller.specs.Own as own_words
-use Rattle.ahci_controller.specs.Own.{commanded}
-use Rattle.ahci_controller.specs.Reading.{shown}
-use Rattle.ahci_controller.specs.States.{ControllerState}
-use Rattle.ahci_controller.specs.Taking.{Hears}
-use Rattle.ahci_controller.specs.declared.taking.Took.{Took}
-use Rattle.ahci_controller.specs.Wants.{dropped}
-use Rattle.ahci_controller.specs.Wide.{WritesAt, WritesFitting, WritesIf}
-use Rattle.ahci_controller.specs.Writing.{Commands, Leaves, ResetsBy, StartsPort, Tells, WritesGlobal, WritesRegister, asked_state, fresh_slots, idle_for, link_effect, link_moved, plain}
-use Rattle.ahci_controller.specs.declared.access.Width.{Width}
-use Rattle.ahci_controller.specs.declared.feeding.Fed.{Fed}
-use Rattle.ahci_controller.specs.declared.issuing.NotTaken.{NotTaken}
-use Rattle.ahci_controller.specs.declared.issuing.Supply.{Supply}
-use Rattle.ahci_controller.specs.declared.latch.Latch.{Latch}
-use Rattle.ahci_controller.specs.declared.next.Next.{Next}
-use Rattle.ahci_controller.specs.declared.own.OwnRegisters.{OwnRegisters}
-use Rattle.ahci_controller.specs.declared.wants.Wants.{Wants}
-use Rattle.ahci_controller.specs.declared.wide.WideWritten.{WideWritten}
-use Rattle.ahci_controller.specs.declared.writing.Written.{Written}
 use Rattle.ahci_controller.proofs.Door.{or_left, or_right, pow_same, other_stays}
 use Rattle.controller_laws.specs.Ends.{StopsWide}
 

@@ -1,52 +1,31 @@
 -- What each call does to the interrupts, and what it tells of the line.
-use Rattle.std.proofs.Common.{◌≡◌, ℕ, ◌+◌, ◌*◌, ◌^◌, ◌&&◌, ◌||◌, Bool, true, false, not, List, [], ◌∷◌, ◌++◌, refl, sym, ap, subst, ◌∙◌, inl, inr, Option, Some, None}
-use Rattle.std.specs.Prelude.{MatchOption, if◌then◌else◌}
-use Rattle.std.specs.Int.{from_bool}
-use Rattle.std.proofs.lemmas.Bool.{cases_Bool, false≢true, true≢false}
+use Rattle.std.proofs.Common.{◌≡◌, ℕ, ◌+◌, ◌*◌, ◌^◌, ◌&&◌, ◌||◌, Bool, true, false, not, List, [], ◌∷◌, ◌++◌, refl, sym, ap, subst, ◌∙◌, inl, inr}
+use Rattle.std.proofs.{Common.{Option, Some, None}, lemmas.Bool.{cases_Bool, false≢true, true≢false}}
+use Rattle.std.specs.{Prelude.{MatchOption, if◌then◌else◌}, Int.from_bool}
 use Rattle.slots.specs.Slots.{has_bit, match_some}
 use Rattle.ahci_registers.specs.Bits as line_bits
-use Rattle.ahci_registers.specs.Lines.{LineEvent, after, pends}
-use Rattle.ahci_registers.specs.Lines.LineEvent.{Caused, WroteError, WroteGlobal, WrotePortMask, WrotePortStatus, WroteStatus}
-use Rattle.ahci_registers.specs.Offsets.{register_at}
-use Rattle.ahci_registers.specs.declared.link.Effect.{Effect}
+use Rattle.ahci_registers.specs.Lines.{LineEvent, after, pends, LineEvent.{Caused, WroteError, WroteGlobal, WrotePortMask, WrotePortStatus}}
+use Rattle.ahci_registers.specs.{Lines.LineEvent.WroteStatus, Offsets.register_at, declared.{link.Effect.Effect, register.Register.Register}}
 use Rattle.ahci_registers.specs.declared.link.Effect.TheVariants as effect
-use Rattle.ahci_registers.specs.declared.register.Register.{Register}
 use Rattle.ahci_registers.specs.declared.register.Register.TheVariants as ahci
-use Rattle.guest_fetch.specs.Commands.{Fetched}
-use Rattle.guest_fetch.specs.declared.fetch.Supplied.{Supplied}
+use Rattle.guest_fetch.specs.{Commands.Fetched, declared.fetch.Supplied.Supplied}
 use Rattle.guest_fetch.specs.declared.fetch.Supplied.TheVariants as came_as
-use Rattle.hba_fbs.specs.Choosing.{may_feed}
-use Rattle.hba_fbs.specs.declared.error.WriteError.{WriteError}
-use Rattle.hba_fbs.specs.declared.turn.Turn.{Turn}
-use Rattle.hba_fbs.specs.declared.turn.Turn.TheVariants.{Feeds}
-use Rattle.ahci_controller.specs.Access.{fits as fits_width, merged}
-use Rattle.ahci_controller.specs.Feeding.{GathersIf, Loses, LosesIf, MissesIf as MissesDataIf, SendsIf, without_feeding}
-use Rattle.ahci_controller.specs.Fetching.{GoesOn, MissesIf, SuppliesIf, answered, fits, is_asked, without_fetch}
-use Rattle.ahci_controller.specs.Issuing.{PlacesSlot, RefusesSlot, not_issued}
-use Rattle.ahci_controller.specs.Latch.{edge, edge_between, latched, opening_latch, raised, releases}
-use Rattle.ahci_controller.specs.Next.{Frames, FramesFor, GoesIf, Reads, RestsNow, TurnsIf, is_fed, is_halted, next_device, next_read, next_slot, next_write, turn_to, written}
-use Rattle.ahci_controller.specs.Own as own_words
-use Rattle.ahci_controller.specs.Reading.{shown}
-use Rattle.ahci_controller.specs.States.{ControllerState}
-use Rattle.ahci_controller.specs.Taking.{Hears}
-use Rattle.ahci_controller.specs.Wants.{dropped}
-use Rattle.ahci_controller.specs.Wide.{WritesAt, WritesFitting, WritesIf}
-use Rattle.ahci_controller.specs.Writing.{Leaves, ResetsBy, Restarts, WritesGlobal, WritesRegister, link_effect, link_moved, plain}
-use Rattle.ahci_controller.specs.declared.access.Width.{Width}
-use Rattle.ahci_controller.specs.declared.feeding.Fed.{Fed}
-use Rattle.ahci_controller.specs.declared.issuing.NotTaken.{NotTaken}
-use Rattle.ahci_controller.specs.declared.issuing.Supply.{Supply}
-use Rattle.ahci_controller.specs.declared.latch.Edge.{Edge}
-use Rattle.ahci_controller.specs.declared.latch.Edge.TheVariants.{Steady, Rising, Falling}
-use Rattle.ahci_controller.specs.declared.latch.Latch.{Latch}
-use Rattle.ahci_controller.specs.declared.next.Next.{Next}
-use Rattle.ahci_controller.specs.declared.own.OwnRegisters.{OwnRegisters}
-use Rattle.ahci_controller.specs.declared.taking.Took.{Took}
-use Rattle.ahci_controller.specs.declared.wide.WideWritten.{WideWritten}
+use Rattle.hba_fbs.specs.{Choosing.may_feed, declared.{error.WriteError.WriteError, turn.Turn.{Turn, TheVariants.Feeds}}}
+use Rattle.ahci_controller.specs.{Access.{fits as fits_width, merged}, Feeding.{GathersIf, Loses, LosesIf, MissesIf as MissesDataIf, SendsIf}}
+use Rattle.ahci_controller.specs.{Feeding.without_feeding, Fetching.{GoesOn, MissesIf, SuppliesIf, answered, fits, is_asked, without_fetch}}
+use Rattle.ahci_controller.specs.{Issuing.{PlacesSlot, RefusesSlot, not_issued}, Latch.{edge, edge_between, latched, opening_latch, raised, releases}}
+use Rattle.ahci_controller.specs.Next.{Frames, FramesFor, GoesIf, Reads, RestsNow, TurnsIf, is_fed, is_halted, next_device, next_read, next_slot}
+use Rattle.ahci_controller.specs.{Next.{next_write, turn_to, written}, Reading.shown, States.ControllerState, Taking.Hears, Wants.dropped}
+use Rattle.ahci_controller.specs.{Wide.{WritesAt, WritesFitting, WritesIf}, Writing.{Leaves, ResetsBy, Restarts, WritesGlobal, WritesRegister}}
+use Rattle.ahci_controller.specs.{Writing.{link_effect, link_moved, plain}, declared.{access.Width.Width, feeding.Fed.Fed, issuing.NotTaken.NotTaken}}
+use Rattle.ahci_controller.specs.declared.{issuing.Supply.Supply, latch.{Edge.{Edge, TheVariants.{Steady, Rising, Falling}}, Latch.Latch}}
+use Rattle.ahci_controller.specs.declared.{next.Next.Next, own.OwnRegisters.OwnRegisters, taking.Took.Took, wide.WideWritten.WideWritten}
 use Rattle.ahci_controller.specs.declared.writing.Written.{Written}
+use Rattle.ahci_controller.specs.Own as own_words
 use Rattle.controller_laws.specs.Events as event
-use Rattle.controller_laws.specs.Events.{Does, Event, Runs}
-use Rattle.controller_laws.specs.Interrupts.{ClearsWide, GoesBy, LineIsKept, LineIsTold, OpensLatched, PendingFalls, PendingRises, PendsWide, StaysLatched, clears, clears_at, edges_in, edges_of, edges_of_fed, edges_of_supply, is_calm, line_after, line_shown, pending_shown}
+use Rattle.controller_laws.specs.{Events.{Does, Event, Runs}, Interrupts.{ClearsWide, GoesBy, LineIsKept, LineIsTold, OpensLatched, PendingFalls}}
+use Rattle.controller_laws.specs.Interrupts.{PendingRises, PendsWide, StaysLatched, clears, clears_at, edges_in, edges_of, edges_of_fed}
+use Rattle.controller_laws.specs.Interrupts.{edges_of_supply, is_calm, line_after, line_shown, pending_shown}
 
 -- ---- the interrupts
 

@@ -1,17 +1,12 @@
 -- Lists of events of the core, one after another.
-use Rattle.std.proofs.Common.{◌≡◌, List, [], ◌∷◌, ◌++◌, refl, sym, subst, arith, replicate, None}
-use Rattle.std.proofs.lemmas.Bool.{false≢true}
-use Rattle.slots.specs.Table.{IsTable}
-use Rattle.slots.specs.Slots.{no_slots}
+use Rattle.std.proofs.{Common.{◌≡◌, List, [], ◌∷◌, ◌++◌, refl, sym, subst, arith, replicate, None}, lemmas.Bool.{false≢true}}
+use Rattle.slots.specs.{Table.IsTable, Slots.no_slots}
 use Rattle.slots.proofs.Door.{new_table}
-use Rattle.hba_fbs.specs.Resets.{link_reset, whole_reset}
-use Rattle.hba_fbs.specs.Views.{Port}
+use Rattle.hba_fbs.specs.{Resets.{link_reset, whole_reset}, Views.Port}
 use Rattle.hba_fbs.proofs.Door.{none_have}
-use Rattle.hba_laws.specs.Cores.{CoreEvent, DoesBy, IsCore}
-use Rattle.hba_laws.specs.CoreHistories.{IsFramedBy}
+use Rattle.hba_laws.specs.{Cores.{CoreEvent, DoesBy, IsCore}, CoreHistories.IsFramedBy}
 use Rattle.ahci_controller.specs.States.{ControllerState}
-use Rattle.controller_laws.specs.CoreEvents.{AreCoreEvents}
-use Rattle.controller_laws.specs.Events.{IsController}
+use Rattle.controller_laws.specs.{CoreEvents.AreCoreEvents, Events.IsController}
 
 pub core_kept : (c : ControllerState) → IsController c → IsCore c.core
 core_kept c k = record { port = k.port; slots = k.slots }

@@ -1,13 +1,9 @@
 -- No device of a controller that opens has a history yet, and histories go on.
-use Rattle.std.proofs.Common.{ℕ, [], sym, subst, inl, inr}
-use Rattle.std.proofs.lemmas.Bool.{cases_eq}
-use Rattle.hba_fbs.specs.Greeting.{line_view}
-use Rattle.hba_fbs.specs.Views.{DeviceView, opening_port, view_of}
+use Rattle.std.proofs.{Common.{ℕ, [], sym, subst, inl, inr}, lemmas.Bool.cases_eq}
+use Rattle.hba_fbs.specs.{Greeting.line_view, Views.{DeviceView, opening_port, view_of}}
 use Rattle.hba_fbs.specs.declared.greeting.Line.TheVariants as on_line
-use Rattle.hba_laws.specs.Agreement.{IsTold}
-use Rattle.hba_laws.specs.CoreHistories.{CoreOpensUntold, CoreViewsAreTold}
-use Rattle.controller_laws.specs.CoreEvents.{of_event}
-use Rattle.controller_laws.specs.Ends.{HistoriesGoOn, OpensUntold}
+use Rattle.hba_laws.specs.{Agreement.IsTold, CoreHistories.{CoreOpensUntold, CoreViewsAreTold}}
+use Rattle.controller_laws.specs.{CoreEvents.of_event, Ends.{HistoriesGoOn, OpensUntold}}
 
 no_line : IsTold (view_of 15 opening_port) [] → IsTold (line_view on_line.Empty) []
 no_line told = record { issued = told.issued; agrees = told.agrees }

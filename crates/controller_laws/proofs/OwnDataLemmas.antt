@@ -1,47 +1,27 @@
 -- The bytes that a report tells of are of the device that owns their slot, and lie within what its command moves.
-use Rattle.std.proofs.Common.{◌≡◌, ℕ, ◌+◌, ◌-◌, ◌<◌, ◌≤◌, ◌%◌, ◌&&◌, Bool, true, false, cond, eqb, List, length, refl, sym, ap, subst, ◌∙◌, arith, Option, Some, None}
+use Rattle.std.proofs.Common.{◌≡◌, ℕ, ◌+◌, ◌-◌, ◌<◌, ◌≤◌, ◌%◌, ◌&&◌, Bool, true, false, cond, eqb, List, length, refl, sym, ap, subst, ◌∙◌, arith}
+use Rattle.std.proofs.{Common.{Option, Some, None}, lemmas.Bool.{and_parts, false≢true, leb-true, ltb-false}}
 use Rattle.std.specs.Prelude.{◌==◌, ◌||◌, MatchOption, IfSome, is_some, not, nat_le, nat_lt, if◌then◌else◌, Result, Ok, Err}
-use Rattle.std.proofs.lemmas.Bool.{and_parts, false≢true, leb-true, ltb-false}
-use Rattle.fis_view.specs.Frames.{IsFrame}
-use Rattle.fis_view.specs.Seen.{kind_of, may_have, seen, view_as}
+use Rattle.fis_view.specs.{Frames.IsFrame, Seen.{kind_of, may_have, seen, view_as}, Table.{Kind, Data, field}, declared.view.Fis.Fis}
+use Rattle.fis_view.specs.declared.view.FisFault.{FisFault, TheVariants.WrongLength}
 use Rattle.fis_view.specs.Table as table
-use Rattle.fis_view.specs.Table.{Kind, Data, field}
-use Rattle.fis_view.specs.declared.view.Fis.{Fis}
 use Rattle.fis_view.specs.declared.view.Fis.TheVariants as view
-use Rattle.fis_view.specs.declared.view.FisFault.{FisFault}
-use Rattle.fis_view.specs.declared.view.FisFault.TheVariants.{WrongLength}
-use Rattle.guest_fetch.specs.Commands.{Fetched}
-use Rattle.guest_fetch.specs.Places.{room_at}
+use Rattle.guest_fetch.specs.{Commands.Fetched, Places.room_at}
 use Rattle.hba_commands.specs.declared.command.Command.{Command}
 use Rattle.port_errors.specs.declared.cause.DeviceCause.TheVariants as cause
-use Rattle.slots.specs.Commands.{answer_of, completed}
-use Rattle.slots.specs.Data.{after_arrive, may_activate, receiving_slot}
-use Rattle.slots.specs.Setup.{dma_context, out_setup, pio_fault, pio_issue, setup_fault}
-use Rattle.slots.specs.Slots.{DeviceSlots, Issue, issue_at, match_some, own_issue, sent_pio}
-use Rattle.slots.specs.Table.{IsContext, IsContextOf, IsIssue}
-use Rattle.slots.specs.declared.answer.SetupError.{SetupError}
-use Rattle.slots.specs.declared.table.Context.{Context}
-use Rattle.hba_fbs.specs.Deciding.{Decides, Passes, decided, heard_within, is_past}
-use Rattle.hba_fbs.specs.Greeting.{Greets, greeted_in}
-use Rattle.hba_fbs.specs.Hearing.{answered, block_of, bus_failed, faulty, heard_bytes, heard_d2h, heard_data, heard_data_of, heard_fis, heard_out, is_admitted, named, overflowed, quietly, set_up, tag_of}
-use Rattle.hba_fbs.specs.Status.{after_reset, is_busy, is_error, with_bits, with_file}
-use Rattle.hba_fbs.specs.Taking.{admitted, heard_report, ignores, port_of, wrote_by}
-use Rattle.hba_fbs.specs.Views.{DeviceView, HaveCommands, Port, last_command, view_of}
-use Rattle.hba_fbs.specs.declared.hearing.Happening.{Happening}
+use Rattle.slots.specs.{Commands.{answer_of, completed}, Data.{after_arrive, may_activate, receiving_slot}, Setup.{dma_context, out_setup, pio_fault}}
+use Rattle.slots.specs.{Setup.{pio_issue, setup_fault}, Slots.{DeviceSlots, Issue, issue_at, match_some, own_issue, sent_pio}, Table.IsContext}
+use Rattle.slots.specs.{Table.{IsContextOf, IsIssue}, declared.{answer.SetupError.SetupError, table.Context.Context}}
+use Rattle.hba_fbs.specs.{Deciding.{Decides, Passes, decided, heard_within, is_past}, Greeting.{Greets, greeted_in}, Hearing.{answered, block_of}}
+use Rattle.hba_fbs.specs.Hearing.{bus_failed, faulty, heard_bytes, heard_d2h, heard_data, heard_data_of, heard_fis, heard_out, is_admitted, named}
+use Rattle.hba_fbs.specs.{Hearing.{overflowed, quietly, set_up, tag_of}, Status.{after_reset, is_busy, is_error, with_bits, with_file}}
+use Rattle.hba_fbs.specs.{Taking.{admitted, heard_report, ignores, port_of, wrote_by}, Views.{DeviceView, HaveCommands, Port, last_command, view_of}}
+use Rattle.hba_fbs.specs.declared.{hearing.{Happening.Happening, Heard.Heard}, report.{TakeReport.TakeReport, Wrote.Wrote}, room.Room.Room}
+use Rattle.hba_fbs.specs.declared.{room.Room.TheVariants.{Bytes, NoTable, Whole}, state.DeviceState.DeviceState, status.Block.Block}
 use Rattle.hba_fbs.specs.declared.hearing.Happening.TheVariants as happening
-use Rattle.hba_fbs.specs.declared.hearing.Heard.{Heard}
-use Rattle.hba_fbs.specs.declared.report.TakeReport.{TakeReport}
-use Rattle.hba_fbs.specs.declared.report.Wrote.{Wrote}
-use Rattle.hba_fbs.specs.declared.room.Room.{Room}
-use Rattle.hba_fbs.specs.declared.room.Room.TheVariants.{Bytes, NoTable, Whole}
-use Rattle.hba_fbs.specs.declared.state.DeviceState.{DeviceState}
-use Rattle.hba_fbs.specs.declared.status.Block.{Block}
-use Rattle.ahci_controller.specs.Rules.{IsOffered}
-use Rattle.ahci_controller.specs.States.{ControllerState, cursor, kept}
-use Rattle.ahci_controller.specs.Taking.{CoreHearsIf, is_overflow, part_in, part_of, payload_of, room_for}
-use Rattle.ahci_controller.specs.declared.taking.Took.{Took}
-use Rattle.controller_laws.specs.Carrying.{DataIsOwn, DataIsWhole, IsOwnData, IsWholeData}
-use Rattle.controller_laws.specs.Events.{IsController, Takes}
+use Rattle.ahci_controller.specs.{Rules.IsOffered, States.{ControllerState, cursor, kept}, Taking.{CoreHearsIf, is_overflow, part_in, part_of}}
+use Rattle.ahci_controller.specs.{Taking.{payload_of, room_for}, declared.taking.Took.Took}
+use Rattle.controller_laws.specs.{Carrying.{DataIsOwn, DataIsWhole, IsOwnData, IsWholeData}, Events.{IsController, Takes}}
 
 -- it is of the device's last setup, and as long as the payload
 record BringsNext (own : DeviceSlots) (len : ℕ) (wrote : Wrote) : Type 0 where

@@ -1,23 +1,15 @@
 -- The first of the moves of a command's bytes, and the writes to the guest.
-use Rattle.std.proofs.Common.{◌≡◌, ℕ, zero, suc, ◌+◌, ◌-◌, ◌<◌, ◌≤◌, Bool, true, false, List, [], ◌∷◌, refl, sym, ap, subst, ◌∙◌, arith, Option, Some, None}
-use Rattle.std.specs.Prelude.{MatchOption, nat_lt, slice_get, if◌then◌else◌}
-use Rattle.std.specs.Option.{option_map}
-use Rattle.std.proofs.lemmas.Bool.{ltb-false, ltb-true}
+use Rattle.std.proofs.Common.{◌≡◌, ℕ, zero, suc, ◌+◌, ◌-◌, ◌<◌, ◌≤◌, Bool, true, false, List, [], ◌∷◌, refl, sym, ap, subst, ◌∙◌, arith, Option, Some}
+use Rattle.std.proofs.{Common.None, lemmas.Bool.{ltb-false, ltb-true}}
+use Rattle.std.specs.{Prelude.{MatchOption, nat_lt, slice_get, if◌then◌else◌}, Option.option_map}
 use Rattle.slots.specs.Slots.{match_some}
-use Rattle.guest_fetch.specs.Commands.{Fetched}
-use Rattle.guest_fetch.specs.Moves.{move_of, moves_at, moves_of}
-use Rattle.guest_fetch.specs.Places.{place, room_at}
-use Rattle.guest_fetch.specs.declared.entry.Entry.{Entry}
+use Rattle.guest_fetch.specs.{Commands.Fetched, Moves.{move_of, moves_at, moves_of}, Places.{place, room_at}, declared.entry.Entry.Entry}
 use Rattle.guest_fetch.specs.declared.moves.Move.{Move}
-use Rattle.ahci_controller.specs.Next.{Frames, FramesFor, GoesIf, Reads, RestsNow, count_next, counted_slot, TurnsIf, feed_next, first_run, is_halted, left, next_device, next_read, next_slot, next_write, order_next, rest, run_of, step_of, step_with, turn_to, written}
-use Rattle.ahci_controller.specs.Moving.{count_of}
-use Rattle.ahci_controller.specs.States.{ControllerState, kept}
-use Rattle.ahci_controller.specs.declared.next.Next.{Next}
+use Rattle.ahci_controller.specs.Next.{Frames, FramesFor, GoesIf, Reads, RestsNow, count_next, counted_slot, TurnsIf, feed_next, first_run, is_halted}
+use Rattle.ahci_controller.specs.Next.{left, next_device, next_read, next_slot, next_write, order_next, rest, run_of, step_of, step_with, turn_to}
+use Rattle.ahci_controller.specs.{Next.written, Moving.count_of, States.{ControllerState, kept}, declared.{next.Next.Next, wants.Carried.Carried}}
 use Rattle.ahci_controller.specs.declared.next.Next.TheVariants as next_step
-use Rattle.ahci_controller.specs.declared.wants.Carried.{Carried}
-use Rattle.hba_fbs.specs.Turning.{orders}
-use Rattle.hba_fbs.specs.declared.turn.Turn.{Turn}
-use Rattle.hba_fbs.specs.declared.turn.Turn.TheVariants.{Rests}
+use Rattle.hba_fbs.specs.{Turning.orders, declared.turn.Turn.{Turn, TheVariants.Rests}}
 use Rattle.controller_laws.specs.Places.{IsPlaced, IsWritten, WritesArePlaced}
 
 -- ---- the first move

@@ -1,39 +1,27 @@
 -- What the events of a core do to a queued command: what ends it, and that nothing is issued in its slot meanwhile.
-use Rattle.std.proofs.Common.{◌≡◌, ◌≢◌, ℕ, zero, suc, ◌<◌, ◌^◌, ◌&&◌, ◌||◌, Bool, true, false, not, List, [], ◌∷◌, ◌++◌, drop, refl, sym, ap, subst, ◌∙◌, inl, inr, Option, Some, None}
-use Rattle.std.specs.Prelude.{◌==◌, MatchOption, IfSome, is_some, if◌then◌else◌}
-use Rattle.std.specs.Option.{option_map}
-use Rattle.std.proofs.lemmas.Bool.{and_parts, cases_Bool, eq-eqb, eqb-true, false≢true, or_parts, true≢false}
-use Rattle.std.proofs.lemmas.List.{append-nil, append_assoc}
+use Rattle.std.proofs.Common.{◌≡◌, ◌≢◌, ℕ, zero, suc, ◌<◌, ◌^◌, ◌&&◌, ◌||◌, Bool, true, false, not, List, [], ◌∷◌, ◌++◌, drop, refl, sym, ap, subst}
+use Rattle.std.proofs.{Common.{◌∙◌, inl, inr, Option, Some, None}, lemmas.Bool.{and_parts, cases_Bool, eq-eqb, eqb-true, false≢true, or_parts}}
+use Rattle.std.proofs.lemmas.{Bool.{true≢false}, List.{append-nil, append_assoc}}
+use Rattle.std.specs.{Prelude.{◌==◌, MatchOption, IfSome, is_some, if◌then◌else◌}, Option.option_map}
 use Rattle.host_memory.specs.declared.table.Prd.{Prd}
 use Rattle.hba_commands.specs.declared.command.Command.{Command}
-use Rattle.slots.specs.Slots.{Issue, Slots, has_bit, holds, is_control, is_pio, issue_at, match_some, own_issue}
-use Rattle.slots.specs.Work.{is_dma, is_queued, is_read}
-use Rattle.slots.specs.declared.work.Kind.{Kind}
-use Rattle.slots.specs.declared.work.Kind.TheVariants.{PioIn, Control}
-use Rattle.slots.specs.declared.work.Work.{Work}
+use Rattle.slots.specs.{Slots.{Issue, Slots, has_bit, holds, is_control, is_pio, issue_at, match_some, own_issue}, Work.{is_dma, is_queued, is_read}}
+use Rattle.slots.specs.declared.work.{Kind.{Kind, TheVariants.{PioIn, Control}}, Work.Work}
 use Rattle.slots.specs.declared.answer.Answered as answered_type
 use Rattle.slots.specs.declared.answer.Answered.TheVariants as answer
-use Rattle.hba_fbs.specs.Deciding.{decided}
-use Rattle.hba_fbs.specs.Registers.{falls}
-use Rattle.hba_fbs.specs.Taking.{admitted, ignores, port_of}
-use Rattle.hba_fbs.specs.Views.{Port, view_of}
-use Rattle.hba_fbs.specs.Writing.{cleared_by, is_device}
-use Rattle.hba_fbs.specs.declared.hearing.Happening.{Happening}
+use Rattle.hba_fbs.specs.{Deciding.decided, Registers.falls, Taking.{admitted, ignores, port_of}, Views.{Port, view_of}, Writing.cleared_by}
+use Rattle.hba_fbs.specs.{Writing.is_device, declared.{hearing.Happening.Happening, room.Room.Room, status.Block.Block, turn.Turn.Turn}}
+use Rattle.hba_fbs.specs.declared.turn.Turn.TheVariants.{Feeds, Orders, Rests}
 use Rattle.hba_fbs.specs.declared.hearing.Happening.TheVariants as happening
 use Rattle.hba_fbs.specs.declared.register.Register as port_register
 use Rattle.hba_fbs.specs.declared.register.Register.TheVariants as on_port
-use Rattle.hba_fbs.specs.declared.room.Room.{Room}
-use Rattle.hba_fbs.specs.declared.status.Block.{Block}
-use Rattle.hba_fbs.specs.declared.turn.Turn.{Turn}
-use Rattle.hba_fbs.specs.declared.turn.Turn.TheVariants.{Feeds, Orders, Rests}
 use Rattle.fis_view.specs.Seen.{seen}
-use Rattle.hba_laws.specs.Alike.{told_issue, told_issued}
-use Rattle.hba_laws.specs.CoreHistories.{event_by, frees, happened, history_through, is_freed_in, turned_for, written_for}
+use Rattle.hba_laws.specs.{Alike.{told_issue, told_issued}, CoreHistories.{event_by, frees, happened, history_through, is_freed_in, turned_for}}
+use Rattle.hba_laws.specs.{CoreHistories.written_for, Cores.{CoreEvent, RunsBy}, Delivering.{begun_by, event_heard, event_of, event_of_answer}}
+use Rattle.hba_laws.specs.{Delivering.{event_of_block, event_sent, is_control_issue}, History.{Event, History, Transfer, completes, filled}}
+use Rattle.hba_laws.specs.History.{is_all_filled, is_at, is_set_up, issued, unless, waiting_in}
 use Rattle.hba_laws.specs.Cores as core
-use Rattle.hba_laws.specs.Cores.{CoreEvent, RunsBy}
-use Rattle.hba_laws.specs.Delivering.{begun_by, event_heard, event_of, event_of_answer, event_of_block, event_sent, is_control_issue}
 use Rattle.hba_laws.specs.History as history
-use Rattle.hba_laws.specs.History.{Event, History, Transfer, completes, filled, is_all_filled, is_at, is_set_up, issued, unless, waiting_in}
 
 -- ---- histories
 

@@ -1,39 +1,24 @@
 -- What a write of a register does to the core.
 use Rattle.std.proofs.Common.{◌≡◌, ℕ, ◌+◌, Bool, true, false, List, [], ◌∷◌, ◌++◌, refl, sym, ap, subst, ◌∙◌, Option, Some, None}
 use Rattle.std.specs.Prelude.{◌==◌, MatchOption, if◌then◌else◌}
-use Rattle.slots.specs.Slots.{match_some}
-use Rattle.slots.specs.Table.{IsTable}
+use Rattle.slots.specs.{Slots.match_some, Table.IsTable}
 use Rattle.ahci_registers.specs.Bits as line_bits
-use Rattle.ahci_registers.specs.Offsets.{register_at}
-use Rattle.ahci_registers.specs.declared.link.Effect.{Effect}
+use Rattle.ahci_registers.specs.{Offsets.register_at, declared.{link.Effect.Effect, register.Register.Register}}
 use Rattle.ahci_registers.specs.declared.link.Effect.TheVariants as effect
-use Rattle.ahci_registers.specs.declared.register.Register.{Register}
 use Rattle.ahci_registers.specs.declared.register.Register.TheVariants as ahci
-use Rattle.hba_fbs.specs.Offering.{AcceptsBy}
-use Rattle.hba_fbs.specs.Reading.{shown_device}
-use Rattle.hba_fbs.specs.Registers.{AreOwn, own_refusal_by}
-use Rattle.hba_fbs.specs.Resets.{link_reset, whole_reset}
-use Rattle.hba_fbs.specs.Stopping.{Overrides, SetsCmd}
-use Rattle.hba_fbs.specs.Views.{Port}
-use Rattle.hba_fbs.specs.declared.error.WriteError.{WriteError}
+use Rattle.hba_fbs.specs.{Offering.AcceptsBy, Reading.shown_device, Registers.{AreOwn, own_refusal_by}, Resets.{link_reset, whole_reset}}
+use Rattle.hba_fbs.specs.{Stopping.{Overrides, SetsCmd}, Views.Port, declared.{error.WriteError.WriteError, registers.Registers.Registers}}
 use Rattle.hba_fbs.specs.declared.register.Register as port_register
 use Rattle.hba_fbs.specs.declared.register.Register.TheVariants as on_port
-use Rattle.hba_fbs.specs.declared.registers.Registers.{Registers}
 use Rattle.hba_laws.specs.Cores as core
 use Rattle.hba_laws.specs.Cores.{CoreEvent, IsCore}
-use Rattle.ahci_controller.specs.Access.{merged}
-use Rattle.ahci_controller.specs.Offers.{offer_in, offers_nothing}
-use Rattle.ahci_controller.specs.Own.{commanded, engine_of}
-use Rattle.ahci_controller.specs.Reading.{shown}
-use Rattle.ahci_controller.specs.States.{ControllerState}
-use Rattle.ahci_controller.specs.Wide.{WritesAt, WritesFitting, WritesIf, WritesPart, block_of}
-use Rattle.ahci_controller.specs.Writing.{ClearsIf, Commands, Leaves, ResetsBy, Tells, WritesGlobal, WritesRegister, asked_state, clears_busy, engine, idle_for, link_effect, link_moved, plain, told_refusal}
-use Rattle.ahci_controller.specs.declared.access.Width.{Width}
-use Rattle.ahci_controller.specs.declared.latch.Latch.{Latch}
-use Rattle.ahci_controller.specs.declared.own.OwnRegisters.{OwnRegisters}
-use Rattle.ahci_controller.specs.declared.wide.WideWritten.{WideWritten}
-use Rattle.ahci_controller.specs.declared.writing.Written.{Written}
-use Rattle.controller_laws.specs.CoreEvents.{AreCoreEvents, commanded_by, commanded_with, no_tables, of_part, of_register, of_wide, of_write, overridden_by, relinked_by, reset_by, told}
+use Rattle.ahci_controller.specs.{Access.merged, Offers.{offer_in, offers_nothing}, Own.{commanded, engine_of}, Reading.shown, States.ControllerState}
+use Rattle.ahci_controller.specs.{Wide.{WritesAt, WritesFitting, WritesIf, WritesPart, block_of}, Writing.{ClearsIf, Commands, Leaves, ResetsBy}}
+use Rattle.ahci_controller.specs.Writing.{Tells, WritesGlobal, WritesRegister, asked_state, clears_busy, engine, idle_for, link_effect, link_moved}
+use Rattle.ahci_controller.specs.{Writing.{plain, told_refusal}, declared.{access.Width.Width, latch.Latch.Latch, own.OwnRegisters.OwnRegisters}}
+use Rattle.ahci_controller.specs.declared.{wide.WideWritten.WideWritten, writing.Written.Written}
+use Rattle.controller_laws.specs.CoreEvents.{AreCoreEvents, commanded_by, commanded_with, no_tables, of_part, of_register, of_wide, of_write}
+use Rattle.controller_laws.specs.CoreEvents.{overridden_by, relinked_by, reset_by, told}
 use Rattle.controller_laws.proofs.ListLemmas.{as_list, link_kept, no_core_event, one_core_event, then_core_events, whole_kept}
 
 core_is : (old new : ControllerState) → new ≡ old → new.core ≡ old.core

@@ -1,47 +1,28 @@
 -- A command that may go waits for at most 31 others, over a run.
-use Rattle.std.proofs.Common.{◌≡◌, ◌≢◌, ℕ, ◌+◌, ◌<◌, ◌≤◌, Bool, true, false, List, [], ◌∷◌, length, refl, sym, ap, subst, ◌∙◌, arith, Option, Some, None}
-use Rattle.std.specs.Prelude.{MatchOption, if◌then◌else◌}
-use Rattle.std.specs.Option.{option_map}
-use Rattle.std.proofs.lemmas.Bool.{and_parts, false≢true}
+use Rattle.std.proofs.Common.{◌≡◌, ◌≢◌, ℕ, ◌+◌, ◌<◌, ◌≤◌, Bool, true, false, List, [], ◌∷◌, length, refl, sym, ap, subst, ◌∙◌, arith, Option, Some}
+use Rattle.std.proofs.{Common.None, lemmas.Bool.{and_parts, false≢true}}
+use Rattle.std.specs.{Prelude.{MatchOption, if◌then◌else◌}, Option.option_map}
 use Rattle.slots.specs.Slots.{Issue, has_bit, holds, issue_at, lowest_below, match_some}
 use Rattle.slots.proofs.Door.{has_bit_mask, lowest_is}
-use Rattle.guest_fetch.specs.Commands.{Fetched}
-use Rattle.guest_fetch.specs.declared.fetch.Supplied.{Supplied}
+use Rattle.guest_fetch.specs.{Commands.Fetched, declared.{fetch.Supplied.Supplied, moves.Move.Move}}
 use Rattle.guest_fetch.specs.declared.fetch.Supplied.TheVariants as came_as
-use Rattle.guest_fetch.specs.declared.moves.Move.{Move}
 use Rattle.hba_commands.specs.declared.command.Command.{Command}
-use Rattle.hba_fbs.specs.Choosing.{due_slots, is_free, may_feed, may_order}
-use Rattle.hba_fbs.specs.Taking.{is_running}
-use Rattle.hba_fbs.specs.Turning.{orders}
-use Rattle.hba_fbs.specs.Views.{HaveCommands, Port, last_command}
-use Rattle.hba_fbs.specs.declared.turn.Turn.{Turn}
-use Rattle.hba_fbs.specs.declared.turn.Turn.TheVariants.{Feeds, Orders, Rests}
-use Rattle.ahci_controller.specs.Access.{fits as fits_width}
-use Rattle.ahci_controller.specs.Circle.{first_behind, is_behind}
-use Rattle.ahci_controller.specs.Fairness.{AllHave, OthersOnly, SlotsComeRound}
-use Rattle.ahci_controller.specs.Feeding.{GathersIf, Loses, LosesIf, MissesIf as MissesDataIf, SendsIf, without_feeding}
-use Rattle.ahci_controller.specs.Fetching.{GoesOn, MissesIf, SuppliesIf, answered, fits, is_asked, without_fetch}
-use Rattle.ahci_controller.specs.Issuing.{PlacesSlot, RefusesSlot, not_issued}
-use Rattle.ahci_controller.specs.Moving.{count_of}
-use Rattle.ahci_controller.specs.Next.{Frames, FramesFor, GoesIf, OrdersSlot, Reads, RestsNow, TurnsIf, count_next, counted_slot, feed_next, is_fed, is_halted, next_device, next_read, next_slot, next_write, order_next, rest, run_of, step_of, step_with, turn_to, written}
-use Rattle.ahci_controller.specs.Own as own_words
-use Rattle.ahci_controller.specs.States.{ControllerState, kept}
-use Rattle.ahci_controller.specs.Wants.{dropped}
-use Rattle.ahci_controller.specs.Wide.{WritesFitting}
-use Rattle.ahci_controller.specs.declared.access.Width.{Width}
-use Rattle.ahci_controller.specs.declared.circle.Circle.{Circle}
-use Rattle.ahci_controller.specs.declared.feeding.Fed.{Fed}
-use Rattle.ahci_controller.specs.declared.issuing.NotTaken.{NotTaken}
-use Rattle.ahci_controller.specs.declared.issuing.Supply.{Supply}
-use Rattle.ahci_controller.specs.declared.next.Next.{Next}
-use Rattle.ahci_controller.specs.declared.next.Next.TheVariants as next_step
-use Rattle.ahci_controller.specs.declared.wants.Carried.{Carried}
+use Rattle.hba_fbs.specs.{Choosing.{due_slots, is_free, may_feed, may_order}, Taking.is_running, Turning.orders, Views.{HaveCommands, Port}}
+use Rattle.hba_fbs.specs.{Views.last_command, declared.turn.Turn.{Turn, TheVariants.{Feeds, Orders, Rests}}}
+use Rattle.ahci_controller.specs.{Access.fits as fits_width, Circle.{first_behind, is_behind}, Fairness.{AllHave, OthersOnly, SlotsComeRound}}
+use Rattle.ahci_controller.specs.{Feeding.{GathersIf, Loses, LosesIf, MissesIf as MissesDataIf, SendsIf, without_feeding}, Fetching.GoesOn}
+use Rattle.ahci_controller.specs.{Fetching.{MissesIf, SuppliesIf, answered, fits, is_asked, without_fetch}, Issuing.{PlacesSlot, RefusesSlot}}
+use Rattle.ahci_controller.specs.{Issuing.not_issued, Moving.count_of, Next.{Frames, FramesFor, GoesIf, OrdersSlot, Reads, RestsNow, TurnsIf}}
+use Rattle.ahci_controller.specs.Next.{count_next, counted_slot, feed_next, is_fed, is_halted, next_device, next_read, next_slot, next_write}
+use Rattle.ahci_controller.specs.{Next.{order_next, rest, run_of, step_of, step_with, turn_to, written}, States.{ControllerState, kept}}
+use Rattle.ahci_controller.specs.{Wants.dropped, Wide.WritesFitting, declared.{access.Width.Width, circle.Circle.Circle, feeding.Fed.Fed}}
+use Rattle.ahci_controller.specs.declared.{issuing.{NotTaken.NotTaken, Supply.Supply}, next.Next.Next, wants.Carried.Carried}
 use Rattle.ahci_controller.specs.declared.wide.WideWritten.{WideWritten}
+use Rattle.ahci_controller.specs.Own as own_words
+use Rattle.ahci_controller.specs.declared.next.Next.TheVariants as next_step
 use Rattle.controller_laws.specs.Events as event
-use Rattle.controller_laws.specs.Events.{Does, Event, IsController, Runs}
-use Rattle.controller_laws.specs.Rounds.{CommandsComeRound, IsPassed, Waits, goes, orders_in}
-use Rattle.controller_laws.proofs.TouchLemmas.{Touches, part_touches, write_touches}
-use Rattle.controller_laws.proofs.TouchLemmas.Touches.{Drops, Keeps}
+use Rattle.controller_laws.specs.{Events.{Does, Event, IsController, Runs}, Rounds.{CommandsComeRound, IsPassed, Waits, goes, orders_in}}
+use Rattle.controller_laws.proofs.TouchLemmas.{Touches, part_touches, write_touches, Touches.{Drops, Keeps}}
 
 -- ---- the slot that has its turn
 

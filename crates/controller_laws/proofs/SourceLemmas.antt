@@ -1,52 +1,29 @@
 -- What the command of a slot is, over a run.
-use Rattle.std.proofs.Common.{◌≡◌, ◌≢◌, ℕ, ◌<◌, Bool, true, false, List, [], ◌∷◌, ◌++◌, length, get_or, set, refl, sym, ap, subst, ◌∙◌, inl, inr, Option, Some, None, get_or-set_same, get_or-set_other, length-set}
+use Rattle.std.proofs.Common.{◌≡◌, ◌≢◌, ℕ, ◌<◌, Bool, true, false, List, [], ◌∷◌, ◌++◌, length, get_or, set, refl, sym, ap, subst, ◌∙◌, inl, inr}
+use Rattle.std.proofs.{Common.{Option, Some, None, get_or-set_same, get_or-set_other, length-set}, lemmas.Bool.{and_parts, cases_eq, eq-eqb}}
+use Rattle.std.proofs.lemmas.{Bool.{eqb-true, false≢true, ltb-true, true≢false}, List.{get_or-replicate, length-replicate}}
 use Rattle.std.specs.Prelude.{◌==◌, MatchOption, nat_lt, if◌then◌else◌}
-use Rattle.std.proofs.lemmas.Bool.{and_parts, cases_eq, eq-eqb, eqb-true, false≢true, ltb-true, true≢false}
-use Rattle.std.proofs.lemmas.List.{get_or-replicate, length-replicate}
 use Rattle.slots.specs.Slots.{has_bit, match_some}
-use Rattle.guest_fetch.specs.Commands.{Fetched}
-use Rattle.guest_fetch.specs.Fetch.{Fetching}
-use Rattle.guest_fetch.specs.Fetching.{Keeps as KeepsPart, Supplies, headed, supplied, want_of}
-use Rattle.guest_fetch.specs.Headers.{header_in, header_place, header_refusal}
-use Rattle.guest_fetch.specs.Entries.{reached}
-use Rattle.guest_fetch.specs.Heads.{head_of}
-use Rattle.guest_fetch.specs.Places.{Places}
-use Rattle.guest_fetch.specs.Runs.{Comes, CommandIsWhatWasSupplied, IsSupplied, Then, entries_of}
-use Rattle.guest_fetch.specs.declared.fetch.Step.{Step}
-use Rattle.guest_fetch.specs.declared.fetch.Step.TheVariants.{AtEntries, AtHeader}
-use Rattle.guest_fetch.specs.declared.fetch.Supplied.{Supplied}
-use Rattle.guest_fetch.specs.declared.fetch.Supplied.TheVariants as came_as
-use Rattle.guest_fetch.specs.declared.head.Head.{Head}
-use Rattle.guest_fetch.specs.declared.header.Header.{Header}
+use Rattle.guest_fetch.specs.{Commands.Fetched, Fetch.Fetching, Fetching.{Keeps as KeepsPart, Supplies, headed, supplied, want_of}, Headers.header_in}
+use Rattle.guest_fetch.specs.{Headers.{header_place, header_refusal}, Entries.reached, Heads.head_of, Places.Places, Runs.Comes}
+use Rattle.guest_fetch.specs.{Runs.{CommandIsWhatWasSupplied, IsSupplied, Then, entries_of}, declared.fetch.Step.{Step, TheVariants.AtEntries}}
+use Rattle.guest_fetch.specs.declared.{fetch.{Step.TheVariants.AtHeader, Supplied.Supplied}, head.Head.Head, header.Header.Header}
 use Rattle.guest_fetch.specs.declared.refusal.Refusal.{Refusal}
+use Rattle.guest_fetch.specs.declared.fetch.Supplied.TheVariants as came_as
 use Rattle.hba_commands.specs.declared.command.Command as core_command
-use Rattle.hba_fbs.specs.Choosing.{may_feed}
-use Rattle.hba_fbs.specs.Views.{last_command}
-use Rattle.hba_fbs.specs.declared.report.Wrote.{Wrote}
-use Rattle.hba_fbs.specs.declared.turn.Turn.{Turn}
-use Rattle.hba_fbs.specs.declared.turn.Turn.TheVariants.{Feeds}
-use Rattle.ahci_controller.specs.Access.{fits as fits_width}
-use Rattle.ahci_controller.specs.Feeding.{GathersIf, Loses, LosesIf, MissesIf as MissesDataIf, SendsIf, sent_to, without_feeding}
-use Rattle.ahci_controller.specs.Fetching.{GoesOn, MissesIf, SuppliesIf, SuppliesSlot, answered, fetch_of, fits, is_asked, want_at, without_fetch}
-use Rattle.ahci_controller.specs.Issuing.{PlacesSlot, RefusesSlot, not_issued}
-use Rattle.ahci_controller.specs.Moving.{commands_after, moved_on}
-use Rattle.ahci_controller.specs.Next.{is_fed, turn_to}
-use Rattle.ahci_controller.specs.Own.{list_of}
-use Rattle.ahci_controller.specs.Rules.{IsOffered}
-use Rattle.ahci_controller.specs.States.{ControllerState, fetch_at, kept}
-use Rattle.ahci_controller.specs.Taking.{brought}
-use Rattle.ahci_controller.specs.Wide.{WritesFitting}
-use Rattle.ahci_controller.specs.declared.access.Width.{Width}
-use Rattle.ahci_controller.specs.declared.feeding.Fed.{Fed}
-use Rattle.ahci_controller.specs.declared.issuing.NotTaken.{NotTaken}
-use Rattle.ahci_controller.specs.declared.issuing.Supply.{Supply}
-use Rattle.ahci_controller.specs.declared.issuing.Supply.TheVariants as supply_answer
+use Rattle.hba_fbs.specs.{Choosing.may_feed, Views.last_command, declared.{report.Wrote.Wrote, turn.Turn.{Turn, TheVariants.Feeds}}}
+use Rattle.ahci_controller.specs.{Access.fits as fits_width, Feeding.{GathersIf, Loses, LosesIf, MissesIf as MissesDataIf, SendsIf, sent_to}}
+use Rattle.ahci_controller.specs.{Feeding.without_feeding, Fetching.{GoesOn, MissesIf, SuppliesIf, SuppliesSlot, answered, fetch_of, fits, is_asked}}
+use Rattle.ahci_controller.specs.{Fetching.{want_at, without_fetch}, Issuing.{PlacesSlot, RefusesSlot, not_issued}, Moving.{commands_after, moved_on}}
+use Rattle.ahci_controller.specs.{Next.{is_fed, turn_to}, Own.list_of, Rules.IsOffered, States.{ControllerState, fetch_at, kept}, Taking.brought}
+use Rattle.ahci_controller.specs.{Wide.WritesFitting, declared.{access.Width.Width, feeding.Fed.Fed, issuing.{NotTaken.NotTaken, Supply.Supply}}}
 use Rattle.ahci_controller.specs.declared.wide.WideWritten.{WideWritten}
+use Rattle.ahci_controller.specs.declared.issuing.Supply.TheVariants as supply_answer
 use Rattle.controller_laws.specs.Events as event
-use Rattle.controller_laws.specs.Events.{Does, Event, IsController, Runs}
-use Rattle.controller_laws.specs.Sources.{AreSources, ComesOn, ComesTo, CommandsAreSupplied, CoreHasSupplied, IsComing, IsIssuedFrom, IsReadFrom, Source, Sources, StartsUnread, after_supply, after_wide, command_in, command_of, command_with, sources_by, unmoved, while_pending, with_part}
-use Rattle.controller_laws.proofs.TouchLemmas.{IsCalm, Touches, no_fetch, part_touches, turn_calm, write_touches}
-use Rattle.controller_laws.proofs.TouchLemmas.Touches.{Drops, Keeps}
+use Rattle.controller_laws.specs.{Events.{Does, Event, IsController, Runs}, Sources.{AreSources, ComesOn, ComesTo, CommandsAreSupplied}}
+use Rattle.controller_laws.specs.Sources.{CoreHasSupplied, IsComing, IsIssuedFrom, IsReadFrom, Source, Sources, StartsUnread, after_supply}
+use Rattle.controller_laws.specs.Sources.{after_wide, command_in, command_of, command_with, sources_by, unmoved, while_pending, with_part}
+use Rattle.controller_laws.proofs.TouchLemmas.{IsCalm, Touches, no_fetch, part_touches, turn_calm, write_touches, Touches.{Drops, Keeps}}
 
 -- ---- parts, one after another
 

@@ -1,31 +1,20 @@
 -- What each call leaves of what is read of the guest, and of what is to be written to it.
 use Rattle.std.proofs.Common.{◌≡◌, ℕ, ◌&&◌, ◌||◌, Bool, true, false, not, replicate, refl, sym, ap, ◌∙◌, Option, Some, None, bit_or}
+use Rattle.std.proofs.lemmas.{Bool.{false≢true}, Nat.Bits.{bit_at-zero}}
 use Rattle.std.specs.Prelude.{◌==◌, MatchOption, if◌then◌else◌}
-use Rattle.std.proofs.lemmas.Bool.{false≢true}
-use Rattle.std.proofs.lemmas.Nat.Bits.{bit_at-zero}
 use Rattle.slots.specs.Slots.{has_bit}
 use Rattle.ahci_registers.specs.Bits as line_bits
-use Rattle.ahci_registers.specs.Offsets.{register_at}
-use Rattle.ahci_registers.specs.declared.link.Effect.{Effect}
+use Rattle.ahci_registers.specs.{Offsets.register_at, declared.{link.Effect.Effect, register.Register.Register}}
 use Rattle.ahci_registers.specs.declared.link.Effect.TheVariants as effect
-use Rattle.ahci_registers.specs.declared.register.Register.{Register}
 use Rattle.ahci_registers.specs.declared.register.Register.TheVariants as ahci
 use Rattle.guest_fetch.specs.Fetch.{Fetching}
-use Rattle.hba_fbs.specs.declared.error.WriteError.{WriteError}
-use Rattle.hba_fbs.specs.declared.registers.Registers.{Registers}
-use Rattle.ahci_controller.specs.Access.{merged}
-use Rattle.ahci_controller.specs.Next.{Frames, FramesFor, GoesIf, Reads as ReadsSlot, RestsNow, StartsUp, Turns, TurnsIf, is_halted, next_device, next_read, next_slot, next_write, writes_next, written}
-use Rattle.ahci_controller.specs.Outbox.{no_writes}
+use Rattle.hba_fbs.specs.declared.{error.WriteError.WriteError, registers.Registers.Registers}
+use Rattle.ahci_controller.specs.{Access.merged, Next.{Frames, FramesFor, GoesIf, Reads as ReadsSlot, RestsNow, StartsUp, Turns, TurnsIf, is_halted}}
+use Rattle.ahci_controller.specs.{Next.{next_device, next_read, next_slot, next_write, writes_next, written}, Outbox.no_writes, Reading.shown}
+use Rattle.ahci_controller.specs.{States.ControllerState, Wants.dropped, Wide.{WritesAt, WritesIf}, Writing.{Commands, Leaves, ResetsBy, Restarts}}
+use Rattle.ahci_controller.specs.{Writing.{WritesGlobal, WritesRegister, fresh_slots, link_effect, link_moved, plain}, declared.next.Next.Next}
+use Rattle.ahci_controller.specs.declared.{own.OwnRegisters.OwnRegisters, wants.Wants.Wants, writing.Written.Written}
 use Rattle.ahci_controller.specs.Own as own_words
-use Rattle.ahci_controller.specs.Reading.{shown}
-use Rattle.ahci_controller.specs.States.{ControllerState}
-use Rattle.ahci_controller.specs.Wants.{dropped}
-use Rattle.ahci_controller.specs.Wide.{WritesAt, WritesIf}
-use Rattle.ahci_controller.specs.Writing.{Commands, Leaves, ResetsBy, Restarts, WritesGlobal, WritesRegister, fresh_slots, link_effect, link_moved, plain}
-use Rattle.ahci_controller.specs.declared.next.Next.{Next}
-use Rattle.ahci_controller.specs.declared.own.OwnRegisters.{OwnRegisters}
-use Rattle.ahci_controller.specs.declared.wants.Wants.{Wants}
-use Rattle.ahci_controller.specs.declared.writing.Written.{Written}
 use Rattle.ahci_controller.proofs.Door.{or_left}
 
 abbrev pub no_fetch : Option Fetching

@@ -4,16 +4,10 @@ use Rattle.std.specs.Prelude.{◌≡◌, ◌<◌, ℕ, ◌⊎◌, Bool, true, fa
 use Rattle.slots.specs.Slots.{Issue, has_bit, is_queued_issue, issue_at}
 use Rattle.ahci_registers.specs.declared.register.Register.TheVariants.{PxSact}
 use Rattle.hba_fbs.specs.Taking.{port_of}
-use Rattle.hba_laws.specs.CoreHistories.{event_by}
-use Rattle.hba_laws.specs.Cores.{RunsBy}
-use Rattle.hba_laws.specs.History.{History, Named, filled, is_all_filled}
-use Rattle.ahci_controller.specs.Access.{fits}
-use Rattle.ahci_controller.specs.Reading.{shown}
-use Rattle.ahci_controller.specs.States.{ControllerState}
-use Rattle.ahci_controller.specs.Taking.{room_for}
-use Rattle.controller_laws.specs.CoreEvents.{AreCoreEvents, of_event}
-use Rattle.controller_laws.specs.Ends.{AreTold, IsFreed, Stops}
-use Rattle.controller_laws.specs.Events.{Does, Event, IsController, Took, Wrote, WroteWide}
+use Rattle.hba_laws.specs.{CoreHistories.event_by, Cores.RunsBy, History.{History, Named, filled, is_all_filled}}
+use Rattle.ahci_controller.specs.{Access.fits, Reading.shown, States.ControllerState, Taking.room_for}
+use Rattle.controller_laws.specs.{CoreEvents.{AreCoreEvents, of_event}, Ends.{AreTold, IsFreed, Stops}, Events.{Does, Event, IsController, Took}}
+use Rattle.controller_laws.specs.Events.{Wrote, WroteWide}
 
 -- A Set Device Bits FIS of the slot's own device names it, and all bytes of its command were moved.
 pub record IsNamed (s : ℕ) (past : ℕ → History) (c : ControllerState) (frame : List ℕ) : Type 0 where

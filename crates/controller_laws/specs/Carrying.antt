@@ -1,26 +1,16 @@
 -- Where the bytes of Data FISes go, over a run: AHCI 1.3.1, sections 4.2.3.3 (Physical Region Descriptor Table) and 5.3.13 (a
 -- port takes a FIS, and writes its bytes to the guest); Serial ATA 3.x, 10.5 (Data).
-use Rattle.std.specs.Prelude.{◌≡◌, ◌≤◌, ℕ, ◌+◌, ◌-◌, ◌||◌, Bool, true, false, not, List, [], ◌∷◌, ◌++◌, drop, length, take}
-use Rattle.std.specs.Prelude.{Option, Some, None, MatchOption, IfSome, is_some}
+use Rattle.std.specs.Prelude.{◌≡◌, ◌≤◌, ℕ, ◌+◌, ◌-◌, ◌||◌, Bool, true, false, not, List, [], ◌∷◌, ◌++◌, drop, length, take, Option, Some, None}
+use Rattle.std.specs.Prelude.{MatchOption, IfSome, is_some}
 use Rattle.slots.specs.Slots.{Issue, issue_at, match_some}
-use Rattle.guest_fetch.specs.Commands.{Fetched}
-use Rattle.guest_fetch.specs.Places.{Places, Single, named, room_at, singles}
-use Rattle.guest_fetch.specs.declared.moves.Move.{Move}
-use Rattle.hba_fbs.specs.Taking.{port_of}
-use Rattle.hba_fbs.specs.declared.report.Wrote.{Wrote}
-use Rattle.ahci_controller.specs.Access.{fits}
-use Rattle.ahci_controller.specs.Next.{Turns}
-use Rattle.ahci_controller.specs.States.{ControllerState, kept}
-use Rattle.ahci_controller.specs.Taking.{hindrance, is_overflow}
-use Rattle.ahci_controller.specs.Wide.{WritesFitting}
-use Rattle.ahci_controller.specs.declared.access.Width.{Width}
-use Rattle.ahci_controller.specs.declared.next.Next.{Next}
+use Rattle.guest_fetch.specs.{Commands.Fetched, Places.{Places, Single, named, room_at, singles}, declared.moves.Move.Move}
+use Rattle.hba_fbs.specs.{Taking.port_of, declared.report.Wrote.Wrote}
+use Rattle.ahci_controller.specs.{Access.fits, Next.Turns, States.{ControllerState, kept}, Taking.{hindrance, is_overflow}, Wide.WritesFitting}
+use Rattle.ahci_controller.specs.declared.{access.Width.Width, next.Next.Next, wants.Carried.Carried, wide.WideWritten.WideWritten}
 use Rattle.ahci_controller.specs.declared.next.Next.TheVariants as next_step
 use Rattle.ahci_controller.specs.declared.taking.Took as taking
-use Rattle.ahci_controller.specs.declared.wants.Carried.{Carried}
-use Rattle.ahci_controller.specs.declared.wide.WideWritten.{WideWritten}
-use Rattle.controller_laws.specs.Events.{Does, Event, Gathered, IsController, Left, Missed, NotThere, Runs, Said, Supplied, Takes}
-use Rattle.controller_laws.specs.Events.{Took, Turned, Wrote as WroteRegister, WroteWide}
+use Rattle.controller_laws.specs.Events.{Does, Event, Gathered, IsController, Left, Missed, NotThere, Runs, Said, Supplied, Takes, Took, Turned}
+use Rattle.controller_laws.specs.Events.{Wrote as WroteRegister, WroteWide}
 
 -- The Data FIS that was taken last: which bytes of a slot's command it brought, the table that was supplied for that command,
 -- and which writes of them were said since. It is cut where the port was stopped meanwhile.

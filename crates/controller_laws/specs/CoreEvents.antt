@@ -3,44 +3,25 @@
 use Rattle.std.specs.Prelude.{ℕ, ◌+◌, ◌^◌, ◌==◌, ◌%◌, Bool, true, false, if◌then◌else◌, List, [], ◌∷◌, ◌++◌}
 use Rattle.slots.specs.Slots.{match_some}
 use Rattle.ahci_registers.specs.Bits as line_bits
-use Rattle.ahci_registers.specs.Link.{action_of}
-use Rattle.ahci_registers.specs.Offsets.{register_at}
-use Rattle.ahci_registers.specs.declared.link.Effect.{Effect}
+use Rattle.ahci_registers.specs.{Link.action_of, Offsets.register_at, declared.{link.Effect.Effect, register.Register.Register}}
 use Rattle.ahci_registers.specs.declared.link.Effect.TheVariants as effect
-use Rattle.ahci_registers.specs.declared.register.Register.{Register}
 use Rattle.ahci_registers.specs.declared.register.Register.TheVariants as ahci
 use Rattle.host_memory.specs.declared.table.Prd.{Prd}
-use Rattle.hba_fbs.specs.Reading.{shown_device}
-use Rattle.hba_fbs.specs.Registers.{own_refusal_by}
-use Rattle.hba_fbs.specs.Taking.{port_of}
-use Rattle.hba_fbs.specs.Turning.{orders}
-use Rattle.hba_fbs.specs.Views.{Port}
+use Rattle.hba_fbs.specs.{Reading.shown_device, Registers.own_refusal_by, Taking.port_of, Turning.orders, Views.Port}
+use Rattle.hba_fbs.specs.declared.{registers.Registers.Registers, report.TakeReport.TakeReport}
 use Rattle.hba_fbs.specs.declared.greeting.Line.TheVariants as on_line
 use Rattle.hba_fbs.specs.declared.register.Register as port_register
 use Rattle.hba_fbs.specs.declared.register.Register.TheVariants as on_port
-use Rattle.hba_fbs.specs.declared.registers.Registers.{Registers}
-use Rattle.hba_fbs.specs.declared.report.TakeReport.{TakeReport}
 use Rattle.hba_laws.specs.Cores as core
-use Rattle.hba_laws.specs.Cores.{CoreEvent, RunsBy}
-use Rattle.hba_laws.specs.CoreHistories.{AreSoundBy}
-use Rattle.ahci_controller.specs.Access.{fits, high_of, low_of, merged, ones_of, spread_of}
-use Rattle.ahci_controller.specs.Issuing.{device_of, offered_command}
-use Rattle.ahci_controller.specs.Next.{is_halted, next_write, turn_to, written}
-use Rattle.ahci_controller.specs.Offers.{offer_in, offers_nothing}
-use Rattle.ahci_controller.specs.Own.{engine_of}
-use Rattle.ahci_controller.specs.Reading.{is_idle, shown}
-use Rattle.ahci_controller.specs.States.{ControllerState, kept}
-use Rattle.ahci_controller.specs.Taking.{room_for}
-use Rattle.ahci_controller.specs.Wide.{WritesFitting, block_of}
-use Rattle.ahci_controller.specs.Writing.{armed_by, clears_busy, control_after, engine, idle_for, line_of, link_effect, switched_by, told_refusal}
-use Rattle.ahci_controller.specs.declared.access.Width.{Width}
-use Rattle.ahci_controller.specs.declared.feeding.Fed.{Fed}
+use Rattle.hba_laws.specs.{Cores.{CoreEvent, RunsBy}, CoreHistories.AreSoundBy}
+use Rattle.ahci_controller.specs.{Access.{fits, high_of, low_of, merged, ones_of, spread_of}, Issuing.{device_of, offered_command}, Next.is_halted}
+use Rattle.ahci_controller.specs.{Next.{next_write, turn_to, written}, Offers.{offer_in, offers_nothing}, Own.engine_of, Reading.{is_idle, shown}}
+use Rattle.ahci_controller.specs.{States.{ControllerState, kept}, Taking.room_for, Wide.{WritesFitting, block_of}, Writing.{armed_by, clears_busy}}
+use Rattle.ahci_controller.specs.Writing.{control_after, engine, idle_for, line_of, link_effect, switched_by, told_refusal}
+use Rattle.ahci_controller.specs.declared.{access.Width.Width, feeding.Fed.Fed, issuing.Supply.Supply, next.Next.Next, wide.WideWritten.WideWritten}
 use Rattle.ahci_controller.specs.declared.feeding.Fed.TheVariants as fed_answer
-use Rattle.ahci_controller.specs.declared.issuing.Supply.{Supply}
 use Rattle.ahci_controller.specs.declared.issuing.Supply.TheVariants as supply_answer
-use Rattle.ahci_controller.specs.declared.next.Next.{Next}
 use Rattle.ahci_controller.specs.declared.next.Next.TheVariants as next_step
-use Rattle.ahci_controller.specs.declared.wide.WideWritten.{WideWritten}
 use Rattle.controller_laws.specs.Events.{Does, Event, Gathered, Left, Missed, NotThere, Runs, Said, Supplied, Took, Turned, Wrote, WroteWide}
 
 -- A controller keeps the tables of its commands itself, so histories of its devices have none.

@@ -4,19 +4,10 @@ use Rattle.std.specs.Prelude.{◌≡◌, ◌<◌, ℕ, ◌⊎◌, Bool, true, fa
 use Rattle.slots.specs.Slots.{Issue, has_bit, holds, is_queued_issue, issue_at}
 use Rattle.ahci_registers.specs.declared.register.Register.TheVariants.{PxCi}
 use Rattle.hba_fbs.specs.Views.{Port, view_of}
-use Rattle.hba_laws.specs.Agreement.{IsTold}
-use Rattle.hba_laws.specs.CoreHistories.{history_through, is_freed_in}
-use Rattle.hba_laws.specs.Cores.{CoreEvent, RunsBy}
-use Rattle.hba_laws.specs.History.{History}
-use Rattle.ahci_controller.specs.Opening.{IsOpening}
-use Rattle.ahci_controller.specs.Reading.{shown}
-use Rattle.ahci_controller.specs.States.{ControllerState}
-use Rattle.ahci_controller.specs.Access.{fits}
-use Rattle.ahci_controller.specs.Wide.{WritesFitting}
-use Rattle.ahci_controller.specs.declared.access.Width.{Width}
-use Rattle.ahci_controller.specs.declared.wide.WideWritten.{WideWritten}
-use Rattle.controller_laws.specs.CoreEvents.{AreCoreEvents, of_event}
-use Rattle.controller_laws.specs.Events.{Does, Event, IsController, Wrote, WroteWide}
+use Rattle.hba_laws.specs.{Agreement.IsTold, CoreHistories.{history_through, is_freed_in}, Cores.{CoreEvent, RunsBy}, History.History}
+use Rattle.ahci_controller.specs.{Opening.IsOpening, Reading.shown, States.ControllerState, Access.fits, Wide.WritesFitting}
+use Rattle.ahci_controller.specs.declared.{access.Width.Width, wide.WideWritten.WideWritten}
+use Rattle.controller_laws.specs.{CoreEvents.{AreCoreEvents, of_event}, Events.{Does, Event, IsController, Wrote, WroteWide}}
 
 -- The port is stopped behind a write, of eight bytes behind its lower dword or behind both: ST falls, or the link or the
 -- controller is reset.

@@ -5,22 +5,12 @@ use Rattle.fis_view.specs.Frames.{IsFrame}
 use Rattle.slots.specs.Table.{IsTable}
 use Rattle.hba_fbs.specs.Views.{IsCorePort}
 use Rattle.hba_laws.specs.Cores.{HasBytes}
-use Rattle.ahci_controller.specs.Feeding.{Gathers, MissesData}
-use Rattle.ahci_controller.specs.Fetching.{AnswersTo, Misses}
-use Rattle.ahci_controller.specs.Next.{Turns, next_write, turn_to, written}
-use Rattle.ahci_controller.specs.Rules.{IsRuled}
-use Rattle.ahci_controller.specs.States.{ControllerState}
-use Rattle.ahci_controller.specs.Taking.{Hears, hindrance}
-use Rattle.ahci_controller.specs.Wide.{WritesAt, WritesWide}
-use Rattle.ahci_controller.specs.declared.access.Width.{Width}
-use Rattle.ahci_controller.specs.declared.feeding.Fed.{Fed}
+use Rattle.ahci_controller.specs.{Feeding.{Gathers, MissesData}, Fetching.{AnswersTo, Misses}, Next.{Turns, next_write, turn_to, written}}
+use Rattle.ahci_controller.specs.{Rules.IsRuled, States.ControllerState, Taking.{Hears, hindrance}, Wide.{WritesAt, WritesWide}}
+use Rattle.ahci_controller.specs.declared.{access.Width.Width, feeding.Fed.Fed, issuing.Supply.Supply, next.Next.Next, taking.Hindrance.Hindrance}
+use Rattle.ahci_controller.specs.declared.{wide.WideWritten.WideWritten, writing.Written.Written}
 use Rattle.ahci_controller.specs.declared.feeding.Fed.TheVariants as fed_answer
-use Rattle.ahci_controller.specs.declared.issuing.Supply.{Supply}
-use Rattle.ahci_controller.specs.declared.next.Next.{Next}
-use Rattle.ahci_controller.specs.declared.taking.Hindrance.{Hindrance}
 use Rattle.ahci_controller.specs.declared.taking.Took as taking
-use Rattle.ahci_controller.specs.declared.wide.WideWritten.{WideWritten}
-use Rattle.ahci_controller.specs.declared.writing.Written.{Written}
 
 pub data Event : Type 0 where
   -- a value is written to all bits of the register at an offset

@@ -3,24 +3,14 @@
 use Rattle.std.specs.Prelude.{◌≡◌, ℕ, ◌+◌, ◌%◌, ◌&&◌, ◌==◌, ◌⊎◌, Bool, true, false, if◌then◌else◌, bit_and, List, [], ◌∷◌, ◌++◌}
 use Rattle.slots.specs.Slots.{has_bit, match_some}
 use Rattle.ahci_registers.specs.Bits as line_bits
-use Rattle.ahci_registers.specs.Offsets.{register_at}
-use Rattle.ahci_registers.specs.declared.register.Register.{Register}
-use Rattle.ahci_registers.specs.declared.register.Register.TheVariants.{Ghc, Is, PxIe, PxIs}
-use Rattle.ahci_controller.specs.Access.{fits, high_of, low_of, merged, ones_of, spread_of}
-use Rattle.ahci_controller.specs.Opening.{IsOpening}
-use Rattle.ahci_controller.specs.Reading.{shown}
-use Rattle.ahci_controller.specs.States.{ControllerState}
-use Rattle.ahci_controller.specs.Wide.{WritesFitting, block_of}
-use Rattle.ahci_controller.specs.declared.access.Width.{Width}
-use Rattle.ahci_controller.specs.declared.feeding.Fed.{Fed}
-use Rattle.ahci_controller.specs.declared.feeding.Fed.TheVariants as fed_answer
-use Rattle.ahci_controller.specs.declared.issuing.Supply.{Supply}
-use Rattle.ahci_controller.specs.declared.issuing.Supply.TheVariants as supply_answer
-use Rattle.ahci_controller.specs.declared.latch.Edge.{Edge}
-use Rattle.ahci_controller.specs.declared.latch.Edge.TheVariants.{Steady, Rising, Falling}
+use Rattle.ahci_registers.specs.{Offsets.register_at, declared.register.Register.{Register, TheVariants.{Ghc, Is, PxIe, PxIs}}}
+use Rattle.ahci_controller.specs.{Access.{fits, high_of, low_of, merged, ones_of, spread_of}, Opening.IsOpening, Reading.shown}
+use Rattle.ahci_controller.specs.{States.ControllerState, Wide.{WritesFitting, block_of}, declared.{access.Width.Width, feeding.Fed.Fed}}
+use Rattle.ahci_controller.specs.declared.{issuing.Supply.Supply, latch.Edge.{Edge, TheVariants.{Steady, Rising, Falling}}}
 use Rattle.ahci_controller.specs.declared.wide.WideWritten.{WideWritten}
-use Rattle.controller_laws.specs.Events.{Does, Event, Gathered, Left, Missed, NotThere, Runs, Said, Supplied, Took, Turned, Wrote}
-use Rattle.controller_laws.specs.Events.{WroteWide}
+use Rattle.ahci_controller.specs.declared.feeding.Fed.TheVariants as fed_answer
+use Rattle.ahci_controller.specs.declared.issuing.Supply.TheVariants as supply_answer
+use Rattle.controller_laws.specs.Events.{Does, Event, Gathered, Left, Missed, NotThere, Runs, Said, Supplied, Took, Turned, Wrote, WroteWide}
 
 -- ---- what registers show
 

@@ -1,15 +1,9 @@
 -- What is written to the guest, and where: AHCI 1.3.1, sections 4.2.1 (Received FIS Structure), 4.2.2 (PRDBC) and 4.2.3.3
 -- (Physical Region Descriptor Table).
 use Rattle.std.specs.Prelude.{◌≡◌, ◌<◌, ◌≤◌, ℕ, ◌+◌, Some}
-use Rattle.guest_fetch.specs.Commands.{Fetched}
-use Rattle.guest_fetch.specs.Places.{place, room_at}
-use Rattle.guest_fetch.specs.declared.command.ByteCount.{ByteCount}
-use Rattle.guest_fetch.specs.declared.moves.Move.{Move}
-use Rattle.ahci_controller.specs.Next.{Turns, counted_slot}
-use Rattle.ahci_controller.specs.States.{ControllerState, kept}
-use Rattle.ahci_controller.specs.declared.next.Next.{Next}
+use Rattle.guest_fetch.specs.{Commands.Fetched, Places.{place, room_at}, declared.{command.ByteCount.ByteCount, moves.Move.Move}}
+use Rattle.ahci_controller.specs.{Next.{Turns, counted_slot}, States.{ControllerState, kept}, declared.{next.Next.Next, wants.Carried.Carried}}
 use Rattle.ahci_controller.specs.declared.next.Next.TheVariants as next_step
-use Rattle.ahci_controller.specs.declared.wants.Carried.{Carried}
 
 -- ---- one write
 

@@ -2,8 +2,7 @@
 use Rattle.std.specs.Prelude.{◌≡◌, ◌≢◌, ◌<◌, ◌≤◌, ℕ, ◌+◌, true, List, [], ◌∷◌}
 use Rattle.slots.specs.Slots.{has_bit}
 use Rattle.hba_fbs.specs.Choosing.{due_slots}
-use Rattle.ahci_controller.specs.States.{ControllerState}
-use Rattle.ahci_controller.specs.declared.next.Next.{Next}
+use Rattle.ahci_controller.specs.{States.ControllerState, declared.next.Next.Next}
 use Rattle.ahci_controller.specs.declared.next.Next.TheVariants as next_step
 use Rattle.controller_laws.specs.Events.{Event, Runs, Turned}
 

@@ -1,31 +1,18 @@
 -- What the command of a slot is: what was supplied for it since its bit of PxCI was written, header, FIS and entries, and
 -- nothing else. AHCI 1.3.1, sections 3.3.14 (PxCI), 4.2.2, 4.2.3, 5.3.6 and 5.4 (a port fetches a command).
-use Rattle.std.specs.Prelude.{◌≡◌, ◌<◌, ℕ, ◌==◌, Bool, true, false, if◌then◌else◌, List, [], ◌∷◌, ◌++◌, length}
-use Rattle.std.specs.Prelude.{Option, Some, None, MatchOption}
+use Rattle.std.specs.Prelude.{◌≡◌, ◌<◌, ℕ, ◌==◌, Bool, true, false, if◌then◌else◌, List, [], ◌∷◌, ◌++◌, length, Option, Some, None, MatchOption}
 use Rattle.slots.specs.Slots.{has_bit}
-use Rattle.guest_fetch.specs.Commands.{Fetched}
-use Rattle.guest_fetch.specs.Entries.{reached}
-use Rattle.guest_fetch.specs.Fetch.{Fetching}
-use Rattle.guest_fetch.specs.Fetching.{supplied, want_of}
-use Rattle.guest_fetch.specs.Headers.{header_in, header_place}
-use Rattle.guest_fetch.specs.Heads.{head_of}
-use Rattle.guest_fetch.specs.Runs.{entries_of}
-use Rattle.guest_fetch.specs.declared.fetch.Step.TheVariants.{AtHeader}
+use Rattle.guest_fetch.specs.{Commands.Fetched, Entries.reached, Fetch.Fetching, Fetching.{supplied, want_of}, Headers.{header_in, header_place}}
+use Rattle.guest_fetch.specs.{Heads.head_of, Runs.entries_of, declared.{fetch.Step.TheVariants.AtHeader, head.Head.Head}}
 use Rattle.guest_fetch.specs.declared.fetch.Supplied as came
 use Rattle.guest_fetch.specs.declared.fetch.Supplied.TheVariants as came_as
-use Rattle.guest_fetch.specs.declared.head.Head.{Head}
 use Rattle.hba_commands.specs.declared.command.Command as core_command
 use Rattle.hba_fbs.specs.Views.{last_command}
-use Rattle.ahci_controller.specs.Access.{fits}
-use Rattle.ahci_controller.specs.Own.{list_of}
-use Rattle.ahci_controller.specs.States.{ControllerState, fetch_at, kept}
-use Rattle.ahci_controller.specs.Wide.{WritesFitting}
-use Rattle.ahci_controller.specs.declared.access.Width.{Width}
-use Rattle.ahci_controller.specs.declared.issuing.Supply.{Supply}
-use Rattle.ahci_controller.specs.declared.issuing.Supply.TheVariants.{Issued, More, NotTaken, OutOfMemory, Stale}
+use Rattle.ahci_controller.specs.{Access.fits, Own.list_of, States.{ControllerState, fetch_at, kept}, Wide.WritesFitting, declared.access.Width.Width}
+use Rattle.ahci_controller.specs.declared.issuing.Supply.{Supply, TheVariants.{Issued, More, NotTaken, OutOfMemory, Stale}}
 use Rattle.ahci_controller.specs.declared.wide.WideWritten.{WideWritten}
-use Rattle.controller_laws.specs.Events.{Does, Event, Gathered, IsController, Left, Missed, NotThere, Runs, Said, Supplied, Took}
-use Rattle.controller_laws.specs.Events.{Turned, Wrote, WroteWide}
+use Rattle.controller_laws.specs.Events.{Does, Event, Gathered, IsController, Left, Missed, NotThere, Runs, Said, Supplied, Took, Turned, Wrote}
+use Rattle.controller_laws.specs.Events.{WroteWide}
 
 -- where a slot's header lies, by the command list in use, and what was supplied, one part after another
 pub record Source : Type 0 where

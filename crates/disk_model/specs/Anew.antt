@@ -4,19 +4,12 @@
 -- then, and the host's end tells what the disk's end told. What the disk sent before still comes up, ahead of
 -- all that it sends from then on, and the host throws it away.
 use Rattle.std.specs.Prelude.{ℕ, ◌≡◌, true, false, List, [], ◌∷◌, ◌++◌, None, Result, Ok}
-use Rattle.fis_view.specs.Seen.{seen}
-use Rattle.fis_view.specs.declared.view.Fis.{Fis}
+use Rattle.fis_view.specs.{Seen.seen, declared.view.{Fis.Fis, FisFault.FisFault}}
 use Rattle.fis_view.specs.declared.view.Fis.TheVariants as view
-use Rattle.fis_view.specs.declared.view.FisFault.{FisFault}
-use Rattle.disk_model.specs.declared.plan.DiskPlan.{DiskPlan}
-use Rattle.disk_model.specs.declared.request.Request.{Request}
+use Rattle.disk_model.specs.{declared.{plan.DiskPlan.DiskPlan, request.Request.Request}, Ends.{EndsAgree, FitsAll, IsLinked, Rests, reports}}
+use Rattle.disk_model.specs.{Histories.{Happening, Received, Sent, Plugged, Loaded}, Requests.request_of, Runs.IsDiskRun, Ledger.{IsSize, Ledger}}
+use Rattle.disk_model.specs.Ledger.{LogOf, Reply, ShowsPage, Signs, Wanted, Written, ledger}
 use Rattle.disk_model.specs.declared.request.Request.TheVariants as asked
-use Rattle.disk_model.specs.Ends.{EndsAgree, FitsAll, IsLinked, Rests, reports}
-use Rattle.disk_model.specs.Histories.{Happening, Received, Sent, Plugged, Loaded}
-use Rattle.disk_model.specs.Requests.{request_of}
-use Rattle.disk_model.specs.Runs.{IsDiskRun}
-use Rattle.disk_model.specs.Ledger.{IsSize, Ledger, LogOf, Reply, ShowsPage, Signs, Wanted, Written}
-use Rattle.disk_model.specs.Ledger.{ledger}
 
 -- ## Where both ends may begin anew
 

@@ -1,37 +1,19 @@
 -- The words in which lemmas are stated that proofs of other crates use (`proofs/Door.antt`), and the words that these need.
 -- No clause says them.
-use Rattle.std.specs.Prelude.{All, Bool, List, None, Ok, Option, Result, Some, drop, false, filter, filter_map, find}
-use Rattle.std.specs.Prelude.{is_some, length, min, not, replicate, take, true, ℕ, ◌*◌, ◌++◌, ◌+◌, ◌-◌, ◌/◌, ◌<◌, ◌==◌, ◌∷◌}
-use Rattle.std.specs.Prelude.{◌≡◌, ◌≤◌, []}
-use Rattle.std.specs.List.{list_any}
-use Rattle.std.specs.Int.{from_bool}
-use Rattle.fis_view.specs.declared.view.Fis.{Fis}
+use Rattle.std.specs.Prelude.{All, Bool, List, None, Ok, Option, Result, Some, drop, false, filter, filter_map, find, is_some, length, min, not}
+use Rattle.std.specs.{Prelude.{replicate, take, true, ℕ, ◌*◌, ◌++◌, ◌+◌, ◌-◌, ◌/◌, ◌<◌, ◌==◌, ◌∷◌, ◌≡◌, ◌≤◌, []}, List.list_any, Int.from_bool}
+use Rattle.fis_view.specs.{declared.view.{Fis.Fis, FisFault.FisFault}, Seen.seen, Table.{BufferId, Count, D, Offset, Setup, field}}
 use Rattle.fis_view.specs.declared.view.Fis.TheVariants as view
-use Rattle.fis_view.specs.declared.view.FisFault.{FisFault}
-use Rattle.fis_view.specs.Seen.{seen}
-use Rattle.fis_view.specs.Table.{BufferId, Count, D, Offset, Setup, field}
-use Rattle.disk_model.specs.declared.answer.Answer.{Answer}
-use Rattle.disk_model.specs.declared.answer.Answer.TheVariants.{Accepted, Ended, Finished, PageData, PageFollows, Refused}
-use Rattle.disk_model.specs.declared.answer.Answer.TheVariants.{Signature}
-use Rattle.disk_model.specs.declared.answer.Fault.{Fault}
-use Rattle.disk_model.specs.declared.answer.Fault.TheVariants.{Failed, Held, Mixed}
-use Rattle.disk_model.specs.declared.answer.Page.{Page}
-use Rattle.disk_model.specs.declared.answer.Page.TheVariants.{ErrorLog, Identity}
-use Rattle.disk_model.specs.declared.plan.DiskPlan.{DiskPlan}
-use Rattle.disk_model.specs.declared.request.Command.{Command}
-use Rattle.disk_model.specs.declared.request.Request.{Request}
-use Rattle.disk_model.specs.declared.request.Request.TheVariants.{Flush, Identify, Other, Queue, ReadErrorLog, Reset}
-use Rattle.disk_model.specs.Chunks.{asks_for, chunk_count, chunk_from, chunk_setup, chunks, fault_of, put, report}
-use Rattle.disk_model.specs.Chunks.{sectors_at, sends_left}
-use Rattle.disk_model.specs.Disks.{Moment, Started, Turn, Writing, begun, is_held, picked, starts}
-use Rattle.disk_model.specs.Ends.{AreRight, Fits, IsFree, MovesOther, has, with_down, with_up}
-use Rattle.disk_model.specs.Histories.{Happening, Plugged, Loaded, Received, Sent}
-use Rattle.disk_model.specs.Laws.{Fails, bytes_named}
-use Rattle.disk_model.specs.Ledger.{Accepts, Failure, Finishes, IdentifyData, IsRead, Ledger, LogOf, Moving, Refuses, Reply}
-use Rattle.disk_model.specs.Ledger.{ShowsPage, Signs, Stretch, Wanted, awaits, awaits_page, ends, ledger, listens}
-use Rattle.disk_model.specs.Ledger.{listens_up, medium_with}
-use Rattle.disk_model.specs.Requests.{IsCounted}
-use Rattle.disk_model.specs.Sendings.{Activates, Carries, Sending, SetsUp, Shows, answer_sent}
+use Rattle.disk_model.specs.declared.answer.Answer.{Answer, TheVariants.{Accepted, Ended, Finished, PageData, PageFollows, Refused, Signature}}
+use Rattle.disk_model.specs.declared.answer.{Fault.{Fault, TheVariants.{Failed, Held, Mixed}}, Page.{Page, TheVariants.{ErrorLog, Identity}}}
+use Rattle.disk_model.specs.declared.{plan.DiskPlan.DiskPlan, request.{Command.Command, Request.{Request, TheVariants.{Flush, Identify, Other}}}}
+use Rattle.disk_model.specs.{declared.request.Request.TheVariants.{Queue, ReadErrorLog, Reset}, Chunks.{asks_for, chunk_count, chunk_from}}
+use Rattle.disk_model.specs.{Chunks.{chunk_setup, chunks, fault_of, put, report, sectors_at, sends_left}, Disks.{Moment, Started, Turn, Writing}}
+use Rattle.disk_model.specs.{Disks.{begun, is_held, picked, starts}, Ends.{AreRight, Fits, IsFree, MovesOther, has, with_down, with_up}}
+use Rattle.disk_model.specs.{Histories.{Happening, Plugged, Loaded, Received, Sent}, Laws.{Fails, bytes_named}, Ledger.{Accepts, Failure, Finishes}}
+use Rattle.disk_model.specs.Ledger.{IdentifyData, IsRead, Ledger, LogOf, Moving, Refuses, Reply, ShowsPage, Signs, Stretch, Wanted, awaits}
+use Rattle.disk_model.specs.{Ledger.{awaits_page, ends, ledger, listens, listens_up, medium_with}, Requests.IsCounted, Sendings.{Activates, Carries}}
+use Rattle.disk_model.specs.Sendings.{Sending, SetsUp, Shows, answer_sent}
 
 -- a DMA Setup FIS of these fields
 pub record TellsSetup (tag offset count : ℕ) (d : Bool) (b : List ℕ) : Type 0 where

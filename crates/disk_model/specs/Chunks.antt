@@ -1,15 +1,10 @@
 -- The chunks in which a disk moves the data of a queued command (Serial ATA 3.x, 10.5.9, DMA Setup FIS, and
 -- 13.6, native command queuing), and what keeps it from moving them (ACS-3, READ and WRITE FPDMA QUEUED,
 -- errors).
-use Rattle.std.specs.Prelude.{ℕ, zero, suc, ◌+◌, ◌-◌, ◌*◌, ◌/◌, ◌==◌, min, not, nat_lt, Bool, true, false}
-use Rattle.std.specs.Prelude.{List, [], ◌∷◌, ◌++◌, drop, take, length, if◌then◌else◌, Option, Some, None}
-use Rattle.std.specs.Prelude.{option_map}
-use Rattle.std.specs.List.{find, list_any, range_with_len}
-use Rattle.disk_model.specs.declared.request.Command.{Command}
-use Rattle.disk_model.specs.declared.answer.Fault.{Fault}
-use Rattle.disk_model.specs.declared.answer.Fault.TheVariants.{Failed}
-use Rattle.disk_model.specs.declared.plan.DiskPlan.{DiskPlan}
-use Rattle.disk_model.specs.Sendings.{Sending, Activates, Carries, setup, bits}
+use Rattle.std.specs.Prelude.{ℕ, zero, suc, ◌+◌, ◌-◌, ◌*◌, ◌/◌, ◌==◌, min, not, nat_lt, Bool, true, false, List, [], ◌∷◌, ◌++◌, drop, take, length}
+use Rattle.std.specs.{Prelude.{if◌then◌else◌, Option, Some, None, option_map}, List.{find, list_any, range_with_len}}
+use Rattle.disk_model.specs.{declared.{request.Command.Command, answer.Fault.{Fault, TheVariants.Failed}, plan.DiskPlan.DiskPlan}, Sendings.Sending}
+use Rattle.disk_model.specs.Sendings.{Activates, Carries, setup, bits}
 
 -- how many chunks a command has
 abbrev pub chunks : DiskPlan → Command → ℕ

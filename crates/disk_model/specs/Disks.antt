@@ -1,33 +1,16 @@
 -- What a disk is at one moment, what it sends next, and what it makes of what it receives (Serial ATA 3.x,
 -- 10.5, FIS types, and 13.6, native command queuing; ACS-3, READ and WRITE FPDMA QUEUED, NCQ Command Error
 -- log).
-use Rattle.std.specs.Prelude.{ℕ, ◌+◌, ◌-◌, ◌*◌, ◌/◌, ◌%◌, ◌==◌, ◌&&◌, Bool, true, false, not, List, [], ◌∷◌}
-use Rattle.std.specs.Prelude.{◌++◌, length, replicate, filter, map, slice_get, if◌then◌else◌, Option, Some}
-use Rattle.std.specs.Prelude.{None, Result, Ok, drop}
-use Rattle.std.specs.List.{list_any, range_with_len}
-use Rattle.fis_view.specs.declared.view.Fis.{Fis}
+use Rattle.std.specs.Prelude.{ℕ, ◌+◌, ◌-◌, ◌*◌, ◌/◌, ◌%◌, ◌==◌, ◌&&◌, Bool, true, false, not, List, [], ◌∷◌, ◌++◌, length, replicate, filter, map}
+use Rattle.std.specs.{Prelude.{slice_get, if◌then◌else◌, Option, Some, None, Result, Ok, drop}, List.{list_any, range_with_len}}
+use Rattle.fis_view.specs.{declared.view.{Fis.Fis, FisFault.FisFault}, Seen.seen}
 use Rattle.fis_view.specs.declared.view.Fis.TheVariants as view
-use Rattle.fis_view.specs.declared.view.FisFault.{FisFault}
-use Rattle.fis_view.specs.Seen.{seen}
-use Rattle.disk_model.specs.declared.request.Command.{Command}
-use Rattle.disk_model.specs.declared.request.Request.{Request}
-use Rattle.disk_model.specs.declared.request.Request.TheVariants.{Reset, Queue, ReadErrorLog, Identify, Flush}
-use Rattle.disk_model.specs.declared.request.Request.TheVariants.{Other}
-use Rattle.disk_model.specs.declared.answer.Answer.{Answer}
-use Rattle.disk_model.specs.declared.answer.Answer.TheVariants.{Signature, Accepted, Finished, Refused, Ended}
-use Rattle.disk_model.specs.declared.answer.Answer.TheVariants.{PageFollows, PageData}
-use Rattle.disk_model.specs.declared.answer.Page.{Page}
-use Rattle.disk_model.specs.declared.answer.Page.TheVariants.{ErrorLog, Identity}
-use Rattle.disk_model.specs.declared.answer.Fault.{Fault}
-use Rattle.disk_model.specs.declared.answer.Fault.TheVariants.{Held, Mixed}
-use Rattle.disk_model.specs.declared.plan.DiskPlan.{DiskPlan}
-use Rattle.disk_model.specs.declared.plan.Order.{Order}
-use Rattle.disk_model.specs.declared.plan.Order.TheVariants.{Oldest, Newest}
-use Rattle.disk_model.specs.Histories.{Happening, Received, Sent, Plugged, Loaded}
-use Rattle.disk_model.specs.Requests.{request_of}
-use Rattle.disk_model.specs.Sendings.{Sending, answer_sent}
-use Rattle.disk_model.specs.Chunks.{chunks, chunk_from, chunk_count, sends_left, asks_for, put, fault_of}
-use Rattle.disk_model.specs.Chunks.{report}
+use Rattle.disk_model.specs.declared.request.{Command.Command, Request.{Request, TheVariants.{Reset, Queue, ReadErrorLog, Identify, Flush, Other}}}
+use Rattle.disk_model.specs.declared.answer.Answer.{Answer, TheVariants.{Signature, Accepted, Finished, Refused, Ended, PageFollows, PageData}}
+use Rattle.disk_model.specs.declared.answer.{Page.{Page, TheVariants.{ErrorLog, Identity}}, Fault.{Fault, TheVariants.{Held, Mixed}}}
+use Rattle.disk_model.specs.{declared.plan.{DiskPlan.DiskPlan, Order.{Order, TheVariants.{Oldest, Newest}}}, Histories.{Happening, Received, Sent}}
+use Rattle.disk_model.specs.{Histories.{Plugged, Loaded}, Requests.request_of, Sendings.{Sending, answer_sent}, Chunks.{chunks, chunk_from}}
+use Rattle.disk_model.specs.Chunks.{chunk_count, sends_left, asks_for, put, fault_of, report}
 
 -- a started read, and what it still has to send
 pub record Started : Type 0 where

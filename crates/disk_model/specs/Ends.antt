@@ -1,22 +1,13 @@
 -- The two ends of a disk's link while FISes are on their way in both directions (Serial ATA 3.x, 10.5, FIS
 -- types, and 13.6, native command queuing; AHCI 1.3.1, 5.3). What the host gave and took is told in the words
 -- of a disk's history. Both ends tell the same ledger, except for what is still on its way.
-use Rattle.std.specs.Prelude.{ℕ, ◌≡◌, ◌≢◌, ◌==◌, Bool, true, false, List, [], ◌∷◌, ◌++◌, drop, length, All}
-use Rattle.std.specs.Prelude.{Option, Some, None, Result, Ok}
+use Rattle.std.specs.Prelude.{ℕ, ◌≡◌, ◌≢◌, ◌==◌, Bool, true, false, List, [], ◌∷◌, ◌++◌, drop, length, All, Option, Some, None, Result, Ok}
 use Rattle.std.specs.List.{list_any}
-use Rattle.fis_view.specs.Seen.{seen}
-use Rattle.fis_view.specs.declared.view.Fis.{Fis}
+use Rattle.fis_view.specs.{Seen.seen, declared.view.{Fis.Fis, FisFault.FisFault}}
 use Rattle.fis_view.specs.declared.view.Fis.TheVariants as view
-use Rattle.fis_view.specs.declared.view.FisFault.{FisFault}
-use Rattle.disk_model.specs.declared.plan.DiskPlan.{DiskPlan}
-use Rattle.disk_model.specs.declared.request.Request.{Request}
-use Rattle.disk_model.specs.declared.request.Request.TheVariants.{Reset, Queue}
-use Rattle.disk_model.specs.Histories.{Happening, Received, Sent, Plugged, Loaded}
-use Rattle.disk_model.specs.Requests.{request_of}
-use Rattle.disk_model.specs.Runs.{IsDiskRun}
-use Rattle.disk_model.specs.Ledger.{AnswersOne, IsRead, IsSize, Ledger, Moving, Written, empty, has_error}
-use Rattle.disk_model.specs.Ledger.{ledger, listens}
-use Rattle.disk_model.specs.Laws.{AnswersRight, MovesRight}
+use Rattle.disk_model.specs.{declared.{plan.DiskPlan.DiskPlan, request.Request.{Request, TheVariants.{Reset, Queue}}}, Histories.Happening}
+use Rattle.disk_model.specs.{Histories.{Received, Sent, Plugged, Loaded}, Requests.request_of, Runs.IsDiskRun, Ledger.{AnswersOne, IsRead, IsSize}}
+use Rattle.disk_model.specs.{Ledger.{Ledger, Moving, Written, empty, has_error, ledger, listens}, Laws.{AnswersRight, MovesRight}}
 
 -- ## What happened at the two ends
 

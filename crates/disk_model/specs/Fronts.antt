@@ -1,9 +1,7 @@
 -- The writes before a read (Serial ATA 3.x, 13.6, native command queuing). When a disk starts a read, some
 -- writes have ended. They are the first ones of all writes that end, whatever comes later.
 use Rattle.std.specs.Prelude.{ℕ, ◌≡◌, ◌++◌, List, Some, slice_get}
-use Rattle.disk_model.specs.Ends.{EndsAgree}
-use Rattle.disk_model.specs.Histories.{Happening}
-use Rattle.disk_model.specs.Ledger.{ReadOut, Written, ledger}
+use Rattle.disk_model.specs.{Ends.EndsAgree, Histories.Happening, Ledger.{ReadOut, Written, ledger}}
 
 -- the writes of one list come first in the other, in the same order
 pub record IsFront (front whole : List Written) : Type 0 where

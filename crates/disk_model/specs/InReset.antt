@@ -1,18 +1,11 @@
 -- A disk in software reset takes no command, from the FIS that sets SRST until a FIS clears it or the disk is
 -- plugged in (Serial ATA 3.x, software reset protocol; ACS-3, Device Control, SRST).
 use Rattle.std.specs.Prelude.{ℕ, ◌≡◌, true, false, List, [], ◌∷◌, ◌++◌, Result, Ok}
-use Rattle.fis_view.specs.Seen.{seen}
-use Rattle.fis_view.specs.declared.view.Fis.{Fis}
+use Rattle.fis_view.specs.{Seen.seen, declared.view.{Fis.Fis, FisFault.FisFault}}
 use Rattle.fis_view.specs.declared.view.Fis.TheVariants as view
-use Rattle.fis_view.specs.declared.view.FisFault.{FisFault}
-use Rattle.disk_model.specs.declared.plan.DiskPlan.{DiskPlan}
-use Rattle.disk_model.specs.declared.request.Request.{Request}
+use Rattle.disk_model.specs.{declared.{plan.DiskPlan.DiskPlan, request.Request.Request}, Anew.{IsRequest, OwesOnly}, Histories.{Happening, Received}}
+use Rattle.disk_model.specs.{Histories.{Sent, Plugged, Loaded, sent_in}, Ledger.{Signs, ledger}, Requests.request_of, Runs.{IsDiskRun, moment}}
 use Rattle.disk_model.specs.declared.request.Request.TheVariants as asked
-use Rattle.disk_model.specs.Anew.{IsRequest, OwesOnly}
-use Rattle.disk_model.specs.Histories.{Happening, Received, Sent, Plugged, Loaded, sent_in}
-use Rattle.disk_model.specs.Ledger.{Signs, ledger}
-use Rattle.disk_model.specs.Requests.{request_of}
-use Rattle.disk_model.specs.Runs.{IsDiskRun, moment}
 
 -- it does not clear SRST: it is a command, or sets SRST once more
 abbrev pub LeavesSet : Request → Type 0

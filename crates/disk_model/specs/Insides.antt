@@ -1,20 +1,10 @@
 -- How the fields of a disk are seen.
-use Rattle.std.specs.Prelude.{ℕ, ◌≡◌, ◌≢◌, ◌+◌, ◌-◌, ◌*◌, ◌<◌, ◌≤◌, ◌&&◌, min, nat_le, nat_lt, Bool, true}
-use Rattle.std.specs.Prelude.{false, if◌then◌else◌, List, [], ◌∷◌, length, drop, Option, Some, None, All}
-use Rattle.std.specs.Prelude.{vec_capacity, ◌⊎◌}
-use Rattle.std.specs.Option.{option_map_or}
-use Rattle.disk_model.specs.declared.request.Command.{Command}
-use Rattle.disk_model.specs.declared.disk.Disk.TheInside.{Inside}
-use Rattle.disk_model.specs.declared.disk.Transfer.{Transfer}
-use Rattle.disk_model.specs.declared.disk.Transfer.TheVariants.{Idle, Read, Write}
-use Rattle.disk_model.specs.declared.disk.Reading.{Reading}
-use Rattle.disk_model.specs.declared.plan.DiskPlan.{DiskPlan}
+use Rattle.std.specs.Prelude.{ℕ, ◌≡◌, ◌≢◌, ◌+◌, ◌-◌, ◌*◌, ◌<◌, ◌≤◌, ◌&&◌, min, nat_le, nat_lt, Bool, true, false, if◌then◌else◌, List, [], ◌∷◌}
+use Rattle.std.specs.{Prelude.{length, drop, Option, Some, None, All, vec_capacity, ◌⊎◌}, Option.option_map_or}
+use Rattle.disk_model.specs.declared.{request.Command.Command, disk.{Disk.TheInside.Inside, Transfer.{Transfer, TheVariants.{Idle, Read, Write}}}}
+use Rattle.disk_model.specs.{declared.{disk.Reading.Reading, plan.DiskPlan.DiskPlan}, Sendings.{Sending, Shows}, Chunks.{sends_left, asks_for}}
+use Rattle.disk_model.specs.{Chunks.chunks, Requests.IsCounted, Disks.{Moment, Started, Writing, DiskValue, turn}, Runs.Gave}
 use Rattle.fis_view.specs.Frames.{Stamped}
-use Rattle.disk_model.specs.Sendings.{Sending, Shows}
-use Rattle.disk_model.specs.Chunks.{sends_left, asks_for, chunks}
-use Rattle.disk_model.specs.Requests.{IsCounted}
-use Rattle.disk_model.specs.Disks.{Moment, Started, Writing, DiskValue, turn}
-use Rattle.disk_model.specs.Runs.{Gave}
 
 -- what a read still sends, with its bytes read from the medium
 abbrev pub sends_of : DiskPlan → List ℕ → Reading → Bool → List Sending

@@ -2,12 +2,9 @@
 -- of the later connection is what they tell of the first connection of a new disk, except for the reads and
 -- writes that ended before (Serial ATA 3.x, 13.6, native command queuing).
 use Rattle.std.specs.Prelude.{ℕ, ◌≡◌, ◌+◌, List, [], ◌∷◌, ◌++◌, length, Some, Result, slice_get}
-use Rattle.fis_view.specs.declared.view.Fis.{Fis}
-use Rattle.fis_view.specs.declared.view.FisFault.{FisFault}
-use Rattle.disk_model.specs.Anew.{IsCarefulSince, IsLinkedOn}
-use Rattle.disk_model.specs.Ends.{IsCareful, IsLinked, IsRight}
-use Rattle.disk_model.specs.Histories.{Happening, Plugged}
-use Rattle.disk_model.specs.Ledger.{ReadOut, Written, ledger}
+use Rattle.fis_view.specs.declared.view.{Fis.Fis, FisFault.FisFault}
+use Rattle.disk_model.specs.{Anew.{IsCarefulSince, IsLinkedOn}, Ends.{IsCareful, IsLinked, IsRight}, Histories.{Happening, Plugged}, Ledger.ReadOut}
+use Rattle.disk_model.specs.Ledger.{Written, ledger}
 
 -- two ends that are linked since a plugging are still linked with what happened before put in front
 abbrev pub LaterIsLinked : Type 0

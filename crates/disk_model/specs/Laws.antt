@@ -2,26 +2,16 @@
 -- types, and 13.6, native command queuing; ACS-3, READ and WRITE FPDMA QUEUED, NCQ Command Error log). Of the
 -- disk's plan, only what no FIS tells is named: which sectors are bad, how many sectors there are, and whose
 -- turn it is.
-use Rattle.std.specs.Prelude.{ℕ, ◌≡◌, ◌+◌, ◌*◌, ◌<◌, ◌≤◌, ◌==◌, ◌⊎◌, true, false, not, List, [], ◌∷◌, ◌++◌}
-use Rattle.std.specs.Prelude.{drop, length, sum_by, find, All, Option, Some, None, Result, Ok}
-use Rattle.std.specs.Int.{from_bool}
-use Rattle.fis_view.specs.Table.{Kind, D2h, Bits, Setup, Pio, BufferId, Offset, D, I, Status, Lba, Transfer}
-use Rattle.fis_view.specs.Table.{field}
+use Rattle.std.specs.Prelude.{ℕ, ◌≡◌, ◌+◌, ◌*◌, ◌<◌, ◌≤◌, ◌==◌, ◌⊎◌, true, false, not, List, [], ◌∷◌, ◌++◌, drop, length, sum_by, find, All, Option}
+use Rattle.std.specs.{Prelude.{Some, None, Result, Ok}, Int.from_bool}
+use Rattle.fis_view.specs.{Table.{Kind, D2h, Bits, Setup, Pio, BufferId, Offset, D, I, Status, Lba, Transfer, field}, declared.view.Fis.Fis}
+use Rattle.fis_view.specs.{declared.view.FisFault.FisFault, Seen.seen}
 use Rattle.fis_view.specs.Table as table
-use Rattle.fis_view.specs.declared.view.Fis.{Fis}
 use Rattle.fis_view.specs.declared.view.Fis.TheVariants as view
-use Rattle.fis_view.specs.declared.view.FisFault.{FisFault}
-use Rattle.disk_model.specs.declared.request.Command.{Command}
-use Rattle.disk_model.specs.declared.plan.DiskPlan.{DiskPlan}
-use Rattle.disk_model.specs.Histories.{Happening, Sent}
-use Rattle.disk_model.specs.Runs.{IsDiskRun, moment}
-use Rattle.disk_model.specs.declared.answer.Fault.TheVariants.{Failed}
-use Rattle.disk_model.specs.Pages.{error_log, identify_data}
-use Rattle.disk_model.specs.Chunks.{first_bad}
-use Rattle.disk_model.specs.Disks.{picked, turn}
-use Rattle.disk_model.specs.Ledger.{Ledger, Moving, Stretch, Reply, Signs, Accepts, Finishes, Refuses}
-use Rattle.disk_model.specs.Ledger.{ShowsPage, Wanted, LogOf, IdentifyData, has_error, IsSize, ledger}
-use Rattle.fis_view.specs.Seen.{seen}
+use Rattle.disk_model.specs.{declared.{request.Command.Command, plan.DiskPlan.DiskPlan}, Histories.{Happening, Sent}, Runs.{IsDiskRun, moment}}
+use Rattle.disk_model.specs.{declared.answer.Fault.TheVariants.Failed, Pages.{error_log, identify_data}, Chunks.first_bad, Disks.{picked, turn}}
+use Rattle.disk_model.specs.Ledger.{Ledger, Moving, Stretch, Reply, Signs, Accepts, Finishes, Refuses, ShowsPage, Wanted, LogOf, IdentifyData}
+use Rattle.disk_model.specs.Ledger.{has_error, IsSize, ledger}
 
 -- ## How data moves
 

@@ -3,26 +3,15 @@
 -- (Serial ATA 3.x, 10.5, FIS types, and 13.6, native command queuing; ACS-3, READ and WRITE FPDMA QUEUED).
 -- The ledger does not know how the disk goes about its commands: it has no plan and no chunk. Places come
 -- from the DMA Setups, bytes from the Data FISes, lengths from the commands.
-use Rattle.std.specs.Prelude.{ℕ, ◌≡◌, ◌+◌, ◌*◌, ◌%◌, ◌^◌, ◌==◌, ◌&&◌, Bool, true, false, not, List, [], ◌∷◌}
-use Rattle.std.specs.Prelude.{◌++◌, drop, length, replicate, filter, find, if◌then◌else◌, Option, Some, None}
-use Rattle.std.specs.Prelude.{Result, Ok}
-use Rattle.std.specs.List.{list_any}
-use Rattle.fis_view.specs.Table.{A, Bits, D, Setup, BufferId, Offset, SActive, Status, Error, field}
-use Rattle.fis_view.specs.Table as table
-use Rattle.fis_view.specs.Seen.{seen}
-use Rattle.fis_view.specs.declared.view.Fis.{Fis}
-use Rattle.fis_view.specs.declared.view.Fis.TheVariants as view
+use Rattle.std.specs.Prelude.{ℕ, ◌≡◌, ◌+◌, ◌*◌, ◌%◌, ◌^◌, ◌==◌, ◌&&◌, Bool, true, false, not, List, [], ◌∷◌, ◌++◌, drop, length, replicate, filter}
+use Rattle.std.specs.{Prelude.{find, if◌then◌else◌, Option, Some, None, Result, Ok}, List.list_any}
+use Rattle.fis_view.specs.{Table.{A, Bits, D, Setup, BufferId, Offset, SActive, Status, Error, field}, Seen.seen, declared.view.Fis.Fis}
 use Rattle.fis_view.specs.declared.view.FisFault.{FisFault}
-use Rattle.disk_model.specs.declared.plan.DiskPlan.{DiskPlan}
-use Rattle.disk_model.specs.declared.request.Command.{Command}
-use Rattle.disk_model.specs.declared.request.Request.{Request}
-use Rattle.disk_model.specs.declared.request.Request.TheVariants.{Reset, Queue, ReadErrorLog, Identify, Flush}
-use Rattle.disk_model.specs.declared.request.Request.TheVariants.{Other}
-use Rattle.disk_model.specs.Histories.{Happening, Received, Sent, Plugged, Loaded}
-use Rattle.disk_model.specs.Requests.{request_of}
-use Rattle.disk_model.specs.Chunks.{put, sectors_at}
-use Rattle.disk_model.specs.Disks.{opening_medium}
-use Rattle.disk_model.specs.Runs.{is_size}
+use Rattle.fis_view.specs.Table as table
+use Rattle.fis_view.specs.declared.view.Fis.TheVariants as view
+use Rattle.disk_model.specs.declared.{plan.DiskPlan.DiskPlan, request.{Command.Command, Request.{Request, TheVariants.{Reset, Queue, ReadErrorLog}}}}
+use Rattle.disk_model.specs.{declared.request.Request.TheVariants.{Identify, Flush, Other}, Histories.{Happening, Received, Sent, Plugged, Loaded}}
+use Rattle.disk_model.specs.{Requests.request_of, Chunks.{put, sectors_at}, Disks.opening_medium, Runs.is_size}
 
 -- a write that ended: its tag, where its bytes begin on the medium, and its bytes
 pub record Written : Type 0 where

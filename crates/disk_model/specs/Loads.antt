@@ -1,8 +1,6 @@
 -- A disk that has its first sectors from its maker. They are its opening medium, in place of the pattern.
 use Rattle.std.specs.Prelude.{ℕ, ◌≡◌, ◌*◌, List, [], ◌∷◌, length}
-use Rattle.disk_model.specs.Fronts.{IsFront}
-use Rattle.disk_model.specs.Histories.{Happening, Loaded}
-use Rattle.disk_model.specs.Ledger.{Written, ledger, loaded, medium_with, with_writes}
+use Rattle.disk_model.specs.{Fronts.IsFront, Histories.{Happening, Loaded}, Ledger.{Written, ledger, loaded, medium_with, with_writes}}
 
 -- Whatever happens to it, its sectors come first among all writes.
 abbrev pub LoadedIsFirst : Type 0

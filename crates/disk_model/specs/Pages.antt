@@ -1,14 +1,9 @@
 -- The 512 bytes that READ LOG EXT and IDENTIFY DEVICE return (ACS-3, NCQ Command Error log and 7.12).
-use Rattle.std.specs.Prelude.{ℕ, ◌+◌, ◌-◌, ◌/◌, ◌%◌, nat_lt, Bool, if◌then◌else◌, List, [], ◌∷◌, ◌++◌, length, replicate}
-use Rattle.std.specs.Prelude.{sum, Option, Some, None}
+use Rattle.std.specs.Prelude.{ℕ, ◌+◌, ◌-◌, ◌/◌, ◌%◌, nat_lt, Bool, if◌then◌else◌, List, [], ◌∷◌, ◌++◌, length, replicate, sum, Option, Some, None}
 use Rattle.std.specs.Int.{to_le_bytes, w32, w64}
-use Rattle.disk_model.specs.declared.answer.Fault.{Fault}
-use Rattle.disk_model.specs.declared.answer.Fault.TheVariants.{Held, Mixed, Failed}
-use Rattle.disk_model.specs.declared.answer.Page.{Page}
-use Rattle.disk_model.specs.declared.answer.Page.TheVariants as page
-use Rattle.disk_model.specs.declared.plan.DiskPlan.{DiskPlan}
-use Rattle.disk_model.specs.declared.plan.Profile.{Profile}
+use Rattle.disk_model.specs.declared.{answer.{Fault.{Fault, TheVariants.{Held, Mixed, Failed}}, Page.Page}, plan.{DiskPlan.DiskPlan, Profile.Profile}}
 use Rattle.disk_model.specs.declared.plan.Profile.TheVariants.{Bare, Stock}
+use Rattle.disk_model.specs.declared.answer.Page.TheVariants as page
 
 -- bytes, followed by zeros up to a length
 unfoldable pub filled_to : ℕ → List ℕ → List ℕ

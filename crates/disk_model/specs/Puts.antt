@@ -1,7 +1,6 @@
 -- What putting bytes over others leaves: each of them is at its place, and each other byte is as it was
 -- (Serial ATA 3.x, 10.5.9, DMA Setup FIS: the buffer offset is the place of the first byte of Data).
-use Rattle.std.specs.Prelude.{ℕ, ◌≡◌, ◌+◌, ◌-◌, ◌≤◌, ◌&&◌, nat_le, nat_lt, if◌then◌else◌, List, length}
-use Rattle.std.specs.Prelude.{slice_get}
+use Rattle.std.specs.Prelude.{ℕ, ◌≡◌, ◌+◌, ◌-◌, ◌≤◌, ◌&&◌, nat_le, nat_lt, if◌then◌else◌, List, length, slice_get}
 use Rattle.disk_model.specs.Chunks.{put}
 
 -- the byte at a place, after bytes were put over others within a list

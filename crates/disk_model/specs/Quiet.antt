@@ -1,13 +1,9 @@
 -- What a disk sends next, by its kind, and what it is once that was sent to nobody (Serial ATA 3.x, 10.5, FIS
 -- types, and 13.6, native command queuing).
-use Rattle.std.specs.Prelude.{◌%◌, ◌==◌, ◌&&◌, Bool, if◌then◌else◌, [], ◌∷◌, length, Option}
-use Rattle.std.specs.Prelude.{not}
-use Rattle.std.specs.Prelude.{Some, None, is_some, is_none}
-use Rattle.disk_model.specs.declared.disk.quiet.Due.{Due}
-use Rattle.disk_model.specs.declared.disk.quiet.Due.TheVariants as due
-use Rattle.disk_model.specs.declared.request.Command.{Command}
-use Rattle.disk_model.specs.Disks.{DiskValue, Moment, Turn, after_turn, turn, with_now}
+use Rattle.std.specs.Prelude.{◌%◌, ◌==◌, ◌&&◌, Bool, if◌then◌else◌, [], ◌∷◌, length, Option, not, Some, None, is_some, is_none}
+use Rattle.disk_model.specs.{declared.{disk.quiet.Due.Due, request.Command.Command}, Disks.{DiskValue, Moment, Turn, after_turn, turn, with_now}}
 use Rattle.disk_model.specs.Sendings.{Sending, Register, SetsBits, SetsUp, Activates, SetsUpPio, Carries}
+use Rattle.disk_model.specs.declared.disk.quiet.Due.TheVariants as due
 
 -- the disk was and is this, and a write starts in between
 abbrev pub starts_write : (old new : Moment) → Bool

@@ -2,9 +2,7 @@
 use Rattle.std.specs.Prelude.{ℕ, ◌/◌, ◌%◌, ◌==◌, ◌&&◌, ◌<◌, ◌≤◌, Bool, true, false, List, if◌then◌else◌}
 use Rattle.fis_view.specs.Table.{H2d, C, Command, Features, Lba, Count, Control, field}
 use Rattle.disk_model.specs.declared.request.Command as queued
-use Rattle.disk_model.specs.declared.request.Request.{Request}
-use Rattle.disk_model.specs.declared.request.Request.TheVariants.{Reset, Queue, ReadErrorLog, Identify, Flush}
-use Rattle.disk_model.specs.declared.request.Request.TheVariants.{Other}
+use Rattle.disk_model.specs.declared.request.Request.{Request, TheVariants.{Reset, Queue, ReadErrorLog, Identify, Flush, Other}}
 
 -- how many sectors a queued command asks for: 0 in its Features stands for 65,536
 abbrev pub sectors_asked : ℕ → ℕ

@@ -1,12 +1,9 @@
 -- The runs of a disk: what its plan and a history allow it to send (Serial ATA 3.x, 13.6, native command
 -- queuing).
 use Rattle.std.specs.Prelude.{ℕ, ◌≡◌, ◌*◌, ◌/◌, ◌%◌, ◌==◌, ◌&&◌, Bool, nat_le, length, List, [], ◌∷◌, Some, None}
-use Rattle.disk_model.specs.declared.plan.DiskPlan.{DiskPlan}
-use Rattle.disk_model.specs.declared.plan.Profile.{Profile}
-use Rattle.disk_model.specs.declared.plan.Profile.TheVariants.{Bare, Stock}
-use Rattle.disk_model.specs.Histories.{Happening, Received, Sent, Plugged, Loaded, Plan, Script, DiskOf}
-use Rattle.disk_model.specs.Sendings.{Shows}
-use Rattle.disk_model.specs.Disks.{Moment, DiskValue, Turn, turn, after, new_with, opening, moment_after}
+use Rattle.disk_model.specs.{declared.plan.{DiskPlan.DiskPlan, Profile.{Profile, TheVariants.{Bare, Stock}}}, Histories.{Happening, Received, Sent}}
+use Rattle.disk_model.specs.{Histories.{Plugged, Loaded, Plan, Script, DiskOf}, Sendings.Shows, Disks.{Moment, DiskValue, Turn, turn, after}}
+use Rattle.disk_model.specs.Disks.{new_with, opening, moment_after}
 
 -- the most sectors that a disk can have: the number of those of a stock disk fits into 28 bits, as words 60 and 61
 -- of IDENTIFY DEVICE and the LBA of READ DMA say it (ACS-3)

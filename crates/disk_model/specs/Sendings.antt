@@ -1,19 +1,11 @@
 -- The FISes that a disk sends, by their fields (Serial ATA 3.x, 10.5). All have PM Port 0.
 use Rattle.std.specs.Prelude.{ℕ, ◌≡◌, ◌%◌, ◌^◌, ◌&&◌, Bool, true, false, not, List, ◌∷◌, Ok}
-use Rattle.fis_view.specs.Table.{D2h, Bits, Setup, Activate, Pio}
-use Rattle.fis_view.specs.Built.{IsBuilt, d2h_given, set_bits_given, dma_setup_given, dma_activate_given}
-use Rattle.fis_view.specs.Built.{pio_setup_given}
-use Rattle.fis_view.specs.Seen.{seen}
+use Rattle.fis_view.specs.{Table.{D2h, Bits, Setup, Activate, Pio}, Built.{IsBuilt, d2h_given, set_bits_given, dma_setup_given, dma_activate_given}}
+use Rattle.fis_view.specs.{Built.pio_setup_given, Seen.seen, declared.build.{D2hFields.D2hFields, SetBitsFields.SetBitsFields}}
+use Rattle.fis_view.specs.declared.build.{DmaSetupFields.DmaSetupFields, PioSetupFields.PioSetupFields}
 use Rattle.fis_view.specs.declared.view.Fis.TheVariants as view
-use Rattle.fis_view.specs.declared.build.D2hFields.{D2hFields}
-use Rattle.fis_view.specs.declared.build.SetBitsFields.{SetBitsFields}
-use Rattle.fis_view.specs.declared.build.DmaSetupFields.{DmaSetupFields}
-use Rattle.fis_view.specs.declared.build.PioSetupFields.{PioSetupFields}
-use Rattle.disk_model.specs.declared.answer.Answer.{Answer}
-use Rattle.disk_model.specs.declared.answer.Answer.TheVariants.{Signature, Accepted, Finished, Refused, Ended}
-use Rattle.disk_model.specs.declared.answer.Answer.TheVariants.{PageFollows, PageData}
-use Rattle.disk_model.specs.Pages.{page_bytes}
-use Rattle.disk_model.specs.declared.plan.DiskPlan.{DiskPlan}
+use Rattle.disk_model.specs.declared.answer.Answer.{Answer, TheVariants.{Signature, Accepted, Finished, Refused, Ended, PageFollows, PageData}}
+use Rattle.disk_model.specs.{Pages.page_bytes, declared.plan.DiskPlan.DiskPlan}
 
 -- a FIS, by its type and its fields
 pub data Sending : Type 0 where

@@ -1,11 +1,7 @@
 -- What is at a fan-out port.
 use Rattle.std.specs.Prelude.{ℕ, ◌≢◌, List, []}
-use Rattle.disk_model.specs.Histories.{Happening, Plan, Script, DiskOf, GoesOn, SendsNext, IsSilent}
-use Rattle.disk_model.specs.Runs.{disk_plan, DiskStandsFor, DiskMaySend}
-use Rattle.disk_model.specs.Disks.{after}
-use Rattle.disk_model.specs.Insides.{HasTurn, WantsRoom}
-use Rattle.disk_model.specs.Scripts.{script_of, ScriptStandsFor, ScriptMaySend}
-use Rattle.disk_model.specs.declared.unit.Unit.{Unit}
+use Rattle.disk_model.specs.{Histories.{Happening, Plan, Script, DiskOf, GoesOn, SendsNext, IsSilent}, Runs.{disk_plan, DiskStandsFor, DiskMaySend}}
+use Rattle.disk_model.specs.{Disks.after, Insides.{HasTurn, WantsRoom}, Scripts.{script_of, ScriptStandsFor, ScriptMaySend}, declared.unit.Unit.Unit}
 use Rattle.disk_model.specs.declared.unit.Unit.TheVariants.{Disk, Scripted}
 
 abbrev pub plan_of : Unit → Plan

@@ -1,7 +1,5 @@
-use Rattle.std.proofs.Common.{◌≡◌, ℕ, ◌+◌, ◌<◌, ◌≤◌, List, [], ◌∷◌, ◌++◌, length, take, drop, refl, sym, ◌∙◌, ap, subst, arith, suc}
-use Rattle.std.proofs.Math.ListN.{set, drop_of_length-le}
-use Rattle.std.proofs.lemmas.List.{take_more_set, set_split}
-use Rattle.std.proofs.lemmas.List.FromFn.{map-range_with_len_more}
+use Rattle.std.proofs.{Common.{◌≡◌, ℕ, ◌+◌, ◌<◌, ◌≤◌, List, [], ◌∷◌, ◌++◌, length, take, drop, refl, sym, ◌∙◌, ap, subst, arith, suc}, Math.ListN.set}
+use Rattle.std.proofs.{Math.ListN.{drop_of_length-le}, lemmas.List.{take_more_set, set_split, FromFn.{map-range_with_len_more}}}
 use Rattle.disk_pages.specs.Bytes.{byte_of, bytes_of, closed}
 
 -- one more byte of a page

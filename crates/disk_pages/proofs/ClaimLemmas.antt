@@ -1,12 +1,8 @@
 use Rattle.std.proofs.Common.{ℕ, ◌+◌, Bool, true, false, IsTrue, refl, Option, Some, None}
-use Rattle.ata_command.specs.declared.settings.TransferMode.{TransferMode}
-use Rattle.ata_command.specs.declared.settings.TransferMode.TheVariants.{Multiword0, Multiword1, Multiword2}
-use Rattle.ata_command.specs.declared.settings.TransferMode.TheVariants.{Ultra0, Ultra1, Ultra2, Ultra3, Ultra4, Ultra5, Ultra6}
-use Rattle.disk_pages.specs.Claims.{AreWhole, is_covered, is_settable}
-use Rattle.disk_pages.specs.Identity.{bits_if, feature_word, identity_word, name_bit, place_word, transfer_word}
-use Rattle.disk_pages.specs.Modes.{multiword_bits, ultra_bits}
-use Rattle.disk_pages.specs.declared.profile.Profile.{Profile}
-use Rattle.ata_command.specs.declared.settings.Settings.{Settings}
+use Rattle.ata_command.specs.declared.settings.TransferMode.{TransferMode, TheVariants.{Multiword0, Multiword1, Multiword2, Ultra0, Ultra1, Ultra2}}
+use Rattle.ata_command.specs.declared.settings.{TransferMode.TheVariants.{Ultra3, Ultra4, Ultra5, Ultra6}, Settings.Settings}
+use Rattle.disk_pages.specs.{Claims.{AreWhole, is_covered, is_settable}, Identity.{bits_if, feature_word, identity_word, name_bit, place_word}}
+use Rattle.disk_pages.specs.{Identity.transfer_word, Modes.{multiword_bits, ultra_bits}, declared.profile.Profile.Profile}
 
 named : (wwn : Option ℕ) → IsTrue (is_covered 84 (0x4060 + name_bit wwn))
 named None = refl

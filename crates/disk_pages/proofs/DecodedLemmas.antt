@@ -1,17 +1,10 @@
 -- The decoder serves what the IDENTIFY DEVICE data claim.
-use Rattle.std.proofs.Common.{◌≡◌, ℕ, ◌+◌, ◌≤◌, Bool, true, false, IsTrue, refl, arith, sym, ap, ◌∙◌}
-use Rattle.std.specs.Prelude.{List, ◌∷◌, [], not, ◌&&◌, ◌||◌, nat_le, if◌then◌else◌}
-use Rattle.std.specs.List.{list_all}
-use Rattle.std.proofs.lemmas.Bool.{le-leb, lt-leb}
-use Rattle.fis_view.specs.Bits.{bits}
-use Rattle.fis_view.specs.Table.{field, places, spelled}
-use Rattle.ata_command.specs.Asks.{DiskFacts, asked, setting_of}
-use Rattle.ata_command.specs.declared.asked.Asked.{Asked}
-use Rattle.ata_command.specs.declared.settings.Settings.{Settings}
-use Rattle.disk_pages.specs.Claims.{AreDecoded, AreServed, bit_of, general, is_refused, is_served, is_set, subcommands}
-use Rattle.disk_pages.specs.Identity.{bits_if, identity_word, place_word}
-use Rattle.disk_pages.specs.Profiles.{facts_of, trim_blocks}
-use Rattle.disk_pages.specs.declared.profile.Profile.{Profile}
+use Rattle.std.proofs.{Common.{◌≡◌, ℕ, ◌+◌, ◌≤◌, Bool, true, false, IsTrue, refl, arith, sym, ap, ◌∙◌}, lemmas.Bool.{le-leb, lt-leb}}
+use Rattle.std.specs.{Prelude.{List, ◌∷◌, [], not, ◌&&◌, ◌||◌, nat_le, if◌then◌else◌}, List.list_all}
+use Rattle.fis_view.specs.{Bits.bits, Table.{field, places, spelled}}
+use Rattle.ata_command.specs.{Asks.{DiskFacts, asked, setting_of}, declared.{asked.Asked.Asked, settings.Settings.Settings}}
+use Rattle.disk_pages.specs.{Claims.{AreDecoded, AreServed, bit_of, general, is_refused, is_served, is_set, subcommands}, Identity.bits_if}
+use Rattle.disk_pages.specs.{Identity.{identity_word, place_word}, Profiles.{facts_of, trim_blocks}, declared.profile.Profile.Profile}
 
 abbrev disk : ℕ → ℕ → ℕ → DiskFacts
 disk n d t = record { sectors = n; depth = d; trim_blocks = t }

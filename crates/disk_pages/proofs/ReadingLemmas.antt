@@ -1,21 +1,12 @@
-use Rattle.std.proofs.Common.{◌≡◌, ℕ, ◌+◌, ◌-◌, ◌*◌, ◌/◌, ◌%◌, ◌<◌, ◌≤◌, List, [], ◌∷◌, ◌++◌, length, refl, ◌∙◌, ap, arith}
-use Rattle.std.proofs.Common.{Bool, true, false, nat_eq}
-use Rattle.std.specs.Prelude.{slice_index, sum}
-use Rattle.std.proofs.Math.ListN.{get_or-append}
-use Rattle.std.proofs.lemmas.List.{get_or-append_right}
-use Rattle.std.proofs.lemmas.List.FromFn.{get_or-map-range_with_len, length-map-range_with_len}
-use Rattle.std.proofs.Common.{lit<, lit≤, length-append, zero, suc, nat_lt, ◌&&◌}
-use Rattle.std.specs.Prelude.{min}
-use Rattle.disk_pages.specs.Bytes.{byte_of, bytes_of, checksum, closed}
-use Rattle.std.proofs.lemmas.List.Sums.{sum_by-append}
-use Rattle.disk_pages.specs.Texts.{is_graphic, is_text, pair}
-use Rattle.disk_pages.specs.Claims.{bit_of}
-use Rattle.disk_pages.specs.Identity.{bits_if, enabled, feature_word, identity, identity_word, low_sectors, multiple_word}
-use Rattle.disk_pages.specs.Identity.{is_from, name_word, place_word, transfer_word, wwn_number}
-use Rattle.disk_pages.specs.Readings.{IsIdentityOf, IsTextAt, double_at, name_at, quad_at, word_at}
+use Rattle.std.proofs.Common.{◌≡◌, ℕ, ◌+◌, ◌-◌, ◌*◌, ◌/◌, ◌%◌, ◌<◌, ◌≤◌, List, [], ◌∷◌, ◌++◌, length, refl, ◌∙◌, ap, arith, Bool, true, false, nat_eq}
+use Rattle.std.proofs.{Common.{lit<, lit≤, length-append, zero, suc, nat_lt, ◌&&◌}, Math.ListN.{get_or-append}, lemmas.List.{get_or-append_right}}
+use Rattle.std.proofs.lemmas.List.{FromFn.{get_or-map-range_with_len, length-map-range_with_len}, Sums.{sum_by-append}}
+use Rattle.std.specs.Prelude.{slice_index, sum, min}
+use Rattle.disk_pages.specs.{Bytes.{byte_of, bytes_of, checksum, closed}, Texts.{is_graphic, is_text, pair}, Claims.bit_of, Identity.bits_if}
+use Rattle.disk_pages.specs.Identity.{enabled, feature_word, identity, identity_word, low_sectors, multiple_word, is_from, name_word, place_word}
+use Rattle.disk_pages.specs.{Identity.{transfer_word, wwn_number}, Readings.{IsIdentityOf, IsTextAt, double_at, name_at, quad_at, word_at}}
 use Rattle.disk_pages.specs.declared.profile.Profile.{Profile}
-use Rattle.ata_command.specs.declared.settings.Settings.{Settings}
-use Rattle.ata_command.specs.Modes.{sectors_in}
+use Rattle.ata_command.specs.{declared.settings.Settings.Settings, Modes.sectors_in}
 
 long_bytes : (words : ℕ → ℕ) (n : ℕ) → length (bytes_of words n) ≡ n
 unfolding bytes_of

@@ -1,6 +1,4 @@
-use Rattle.std.proofs.Common.{◌≡◌, ℕ, ◌-◌, true, List, length, replicate, refl}
-use Rattle.std.proofs.Common.{zero, suc, arith, None}
-use Rattle.std.proofs.lemmas.List.Folds.{list_all-append}
+use Rattle.std.proofs.{Common.{◌≡◌, ℕ, ◌-◌, true, List, length, replicate, refl, zero, suc, arith, None}, lemmas.List.Folds.{list_all-append}}
 use Rattle.disk_pages.specs.Texts.{is_graphic, is_text, padded, text_fault}
 
 blanks_are_text : (n : ℕ) → is_text (replicate n 0x20) ≡ true

@@ -1,6 +1,5 @@
 -- Pages as bytes: words stand with their low byte first, and a checksum makes the sum of all bytes 0 modulo 256.
-use Rattle.std.specs.Prelude.{ℕ, ◌-◌, ◌/◌, ◌%◌, ◌==◌, if◌then◌else◌, List, [], ◌∷◌, ◌++◌, map, replicate, slice_set, sum}
-use Rattle.std.specs.List.{range_with_len}
+use Rattle.std.specs.{Prelude.{ℕ, ◌-◌, ◌/◌, ◌%◌, ◌==◌, if◌then◌else◌, List, [], ◌∷◌, ◌++◌, map, replicate, slice_set, sum}, List.range_with_len}
 
 -- byte k of a page whose words are these
 abbrev pub byte_of : (ℕ → ℕ) → ℕ → ℕ

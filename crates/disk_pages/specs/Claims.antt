@@ -2,15 +2,9 @@
 -- 7.12.7; Serial ATA 3.x, 13.6). A decoder cites `AreServed`: what is claimed is served.
 use Rattle.std.specs.Prelude.{ℕ, ◌/◌, ◌%◌, ◌^◌, ◌==◌, ◌&&◌, ◌||◌, not, Bool, true, false, IsTrue, List, [], ◌∷◌, if◌then◌else◌, is_none}
 use Rattle.std.specs.List.{list_all, list_any, range_with_len}
-use Rattle.ata_command.specs.Asks.{DiskFacts, asked, setting_of}
-use Rattle.ata_command.specs.Modes.{power_on}
-use Rattle.ata_command.specs.declared.asked.Asked.{Asked}
-use Rattle.ata_command.specs.declared.asked.Asked.TheVariants.{Refused}
-use Rattle.ata_command.specs.declared.settings.Multiple.TheVariants.{One}
-use Rattle.disk_pages.specs.Identity.{identity_word}
-use Rattle.disk_pages.specs.Profiles.{facts_of}
-use Rattle.disk_pages.specs.declared.profile.Profile.{Profile}
-use Rattle.ata_command.specs.declared.settings.Settings.{Settings}
+use Rattle.ata_command.specs.{Asks.{DiskFacts, asked, setting_of}, Modes.power_on, declared.asked.Asked.{Asked, TheVariants.Refused}}
+use Rattle.ata_command.specs.declared.settings.{Multiple.TheVariants.One, Settings.Settings}
+use Rattle.disk_pages.specs.{Identity.identity_word, Profiles.facts_of, declared.profile.Profile.Profile}
 
 -- a bit of a word that stands for a feature, and the commands that it promises
 pub record Claim : Type 0 where

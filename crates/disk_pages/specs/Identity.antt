@@ -1,18 +1,10 @@
 -- IDENTIFY DEVICE data (ACS-3, 7.12.7): 256 words of two bytes, the low byte first. Each word has its row here; a word
 -- without one is 0.
-use Rattle.std.specs.Prelude.{ℕ, ◌+◌, ◌-◌, ◌/◌, ◌%◌, ◌==◌, ◌&&◌, nat_le, nat_lt, min, Bool, if◌then◌else◌}
-use Rattle.std.specs.Prelude.{List, [], ◌∷◌, ◌++◌, Option, Some, None}
-use Rattle.ata_command.specs.Modes.{sectors_in}
-use Rattle.disk_pages.specs.Texts.{pair}
-use Rattle.disk_pages.specs.Modes.{multiword_bits, ultra_bits}
-use Rattle.disk_pages.specs.Profiles.{trim_blocks}
-use Rattle.disk_pages.specs.Bytes.{bytes_of, closed}
-use Rattle.disk_pages.specs.declared.profile.Profile.{Profile}
-use Rattle.disk_pages.specs.declared.profile.PhysicalSector.{PhysicalSector}
-use Rattle.disk_pages.specs.declared.profile.PhysicalSector.TheVariants.{Bytes512, Bytes4096}
-use Rattle.disk_pages.specs.declared.profile.Rotation.{Rotation}
+use Rattle.std.specs.Prelude.{ℕ, ◌+◌, ◌-◌, ◌/◌, ◌%◌, ◌==◌, ◌&&◌, nat_le, nat_lt, min, Bool, if◌then◌else◌, List, [], ◌∷◌, ◌++◌, Option, Some, None}
+use Rattle.ata_command.specs.{Modes.sectors_in, declared.settings.Settings.Settings}
+use Rattle.disk_pages.specs.{Texts.pair, Modes.{multiword_bits, ultra_bits}, Profiles.trim_blocks, Bytes.{bytes_of, closed}}
+use Rattle.disk_pages.specs.declared.profile.{Profile.Profile, PhysicalSector.{PhysicalSector, TheVariants.{Bytes512, Bytes4096}}, Rotation.Rotation}
 use Rattle.disk_pages.specs.declared.profile.Rotation.TheVariants.{Unknown, Solid, Rotates}
-use Rattle.ata_command.specs.declared.settings.Settings.{Settings}
 
 -- this bit pattern where it is so, and no bit where not
 abbrev pub bits_if : Bool → ℕ → ℕ

@@ -1,12 +1,8 @@
 -- The logs that READ LOG EXT reads (ACS-3, 9), each page a list of 512 bytes.
-use Rattle.std.specs.Prelude.{ℕ, ◌+◌, ◌/◌, ◌%◌, ◌==◌, ◌&&◌, nat_le, nat_lt, Bool, if◌then◌else◌, List, [], ◌∷◌}
-use Rattle.std.specs.Prelude.{take, Option, Some, None}
-use Rattle.disk_pages.specs.Bytes.{at, closed, page_with}
-use Rattle.disk_pages.specs.Identity.{identity}
-use Rattle.disk_pages.specs.declared.profile.Profile.{Profile}
-use Rattle.ata_command.specs.declared.settings.Settings.{Settings}
-use Rattle.disk_pages.specs.declared.ncq_error.NcqError.{NcqError}
+use Rattle.std.specs.Prelude.{ℕ, ◌+◌, ◌/◌, ◌%◌, ◌==◌, ◌&&◌, nat_le, nat_lt, Bool, if◌then◌else◌, List, [], ◌∷◌, take, Option, Some, None}
+use Rattle.disk_pages.specs.{Bytes.{at, closed, page_with}, Identity.identity, declared.{profile.Profile.Profile, ncq_error.NcqError.NcqError}}
 use Rattle.disk_pages.specs.declared.log.LogPage.{LogPage}
+use Rattle.ata_command.specs.declared.settings.Settings.{Settings}
 use Rattle.disk_pages.specs.declared.log.LogPage.TheVariants as log
 
 -- Log 00h, the General Purpose Log Directory (9.3): word 0 is its version, and word n the number of pages of log n.

@@ -1,9 +1,8 @@
 -- The selected mode of DMA, in words 63 and 88 of the IDENTIFY DEVICE data (ACS-3, 7.12.7): bit 8 is mode 0, the next one mode 1, and
 -- so on.
 use Rattle.std.specs.Prelude.{ℕ}
-use Rattle.ata_command.specs.declared.settings.TransferMode.{TransferMode}
-use Rattle.ata_command.specs.declared.settings.TransferMode.TheVariants.{Multiword0, Multiword1, Multiword2}
-use Rattle.ata_command.specs.declared.settings.TransferMode.TheVariants.{Ultra0, Ultra1, Ultra2, Ultra3, Ultra4, Ultra5, Ultra6}
+use Rattle.ata_command.specs.declared.settings.TransferMode.{TransferMode, TheVariants.{Multiword0, Multiword1, Multiword2, Ultra0, Ultra1, Ultra2}}
+use Rattle.ata_command.specs.declared.settings.TransferMode.TheVariants.{Ultra3, Ultra4, Ultra5, Ultra6}
 
 abbrev pub multiword_bits : TransferMode → ℕ
 multiword_bits Multiword0 = 0x0100

@@ -1,9 +1,7 @@
 -- The numbers that a disk's profile may have (ACS-3, IDENTIFY DEVICE data, words 75, 100 to 103 and 217).
 use Rattle.std.specs.Prelude.{ℕ, nat_le, nat_lt, ◌&&◌, Bool, if◌then◌else◌, Result, Ok, Err}
 use Rattle.ata_command.specs.Asks.{DiskFacts}
-use Rattle.disk_pages.specs.declared.profile.Profile.{Profile}
-use Rattle.disk_pages.specs.declared.profile.NumberFault.{NumberFault}
-use Rattle.disk_pages.specs.declared.profile.NumberFault.TheVariants.{Sectors, Depth, Speed}
+use Rattle.disk_pages.specs.declared.profile.{Profile.Profile, NumberFault.{NumberFault, TheVariants.{Sectors, Depth, Speed}}}
 
 abbrev pub capacity_of : ℕ → Result ℕ NumberFault
 capacity_of n = if nat_le 1 n && nat_lt n 0x1000000000000 then Ok n else Err Sectors

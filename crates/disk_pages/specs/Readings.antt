@@ -1,11 +1,8 @@
 -- What a driver reads in the IDENTIFY DEVICE data, in the words of ACS-3, 7.12.7: each field is what the disk is and what is
 -- set.
 use Rattle.std.specs.Prelude.{◌≡◌, ℕ, ◌+◌, ◌*◌, ◌/◌, ◌%◌, ◌<◌, min, List, slice_index, sum}
-use Rattle.ata_command.specs.Modes.{sectors_in}
-use Rattle.disk_pages.specs.Claims.{bit_of}
-use Rattle.disk_pages.specs.Identity.{wwn_number}
-use Rattle.disk_pages.specs.declared.profile.Profile.{Profile}
-use Rattle.ata_command.specs.declared.settings.Settings.{Settings}
+use Rattle.ata_command.specs.{Modes.sectors_in, declared.settings.Settings.Settings}
+use Rattle.disk_pages.specs.{Claims.bit_of, Identity.wwn_number, declared.profile.Profile.Profile}
 
 -- a word: its low byte stands first
 abbrev pub word_at : List ℕ → ℕ → ℕ

@@ -1,15 +1,10 @@
 -- What a disk is as words.
-use Rattle.std.specs.Prelude.{◌≡◌, ℕ, ◌<◌, ◌≤◌, ◌^◌, List, ◌∷◌, length, IsTrue, Option, Bool, refl}
-use Rattle.std.specs.List.{AllByRecursion}
+use Rattle.std.specs.{Prelude.{◌≡◌, ℕ, ◌<◌, ◌≤◌, ◌^◌, List, ◌∷◌, length, IsTrue, Option, Bool, refl}, List.AllByRecursion}
 use Rattle.std.proofs.Common.{ap, sym, ◌∙◌}
-use Rattle.saved_state.specs.State.{IsToldApart, KeepsOption, all_apart, bool_apart, number_apart, option_apart, parts_apart, put_all, put_bool, put_number, put_option, put_three, three_apart}
-use Rattle.disk_pages.specs.Texts.{is_text}
-use Rattle.disk_pages.specs.declared.log.LogPage.{LogPage}
-use Rattle.disk_pages.specs.declared.log.LogPage.TheVariants.{Directory, NcqError, PageList, Identity}
-use Rattle.disk_pages.specs.declared.profile.PhysicalSector.{PhysicalSector}
-use Rattle.disk_pages.specs.declared.profile.PhysicalSector.TheVariants.{Bytes512, Bytes4096}
-use Rattle.disk_pages.specs.declared.profile.Profile.{Profile}
-use Rattle.disk_pages.specs.declared.profile.Rotation.{Rotation}
+use Rattle.saved_state.specs.State.{IsToldApart, KeepsOption, all_apart, bool_apart, number_apart, option_apart, parts_apart, put_all, put_bool}
+use Rattle.saved_state.specs.State.{put_number, put_option, put_three, three_apart}
+use Rattle.disk_pages.specs.{Texts.is_text, declared.log.LogPage.{LogPage, TheVariants.{Directory, NcqError, PageList, Identity}}}
+use Rattle.disk_pages.specs.declared.profile.{PhysicalSector.{PhysicalSector, TheVariants.{Bytes512, Bytes4096}}, Profile.Profile, Rotation.Rotation}
 use Rattle.disk_pages.specs.declared.profile.Rotation.TheVariants.{Unknown, Solid, Rotates}
 
 -- ## Pages of logs

@@ -1,9 +1,7 @@
 -- ATA strings (ACS-3, 3.4.9): graphic characters of ASCII, padded with blanks to the length of their field.
-use Rattle.std.specs.Prelude.{ℕ, ◌+◌, ◌-◌, ◌*◌, nat_le, nat_lt, ◌&&◌, Bool, if◌then◌else◌, List, ◌++◌, length, replicate}
-use Rattle.std.specs.Prelude.{slice_index, Option, Some, None, Result, Ok, Err}
-use Rattle.std.specs.List.{list_all}
-use Rattle.disk_pages.specs.declared.text.TextFault.{TextFault}
-use Rattle.disk_pages.specs.declared.text.TextFault.TheVariants.{TooLong, NotPrintable}
+use Rattle.std.specs.Prelude.{ℕ, ◌+◌, ◌-◌, ◌*◌, nat_le, nat_lt, ◌&&◌, Bool, if◌then◌else◌, List, ◌++◌, length, replicate, slice_index, Option, Some}
+use Rattle.std.specs.{Prelude.{None, Result, Ok, Err}, List.list_all}
+use Rattle.disk_pages.specs.declared.text.TextFault.{TextFault, TheVariants.{TooLong, NotPrintable}}
 
 abbrev pub is_graphic : ℕ → Bool
 is_graphic c = nat_le 0x20 c && nat_le c 0x7E

@@ -1,14 +1,11 @@
 -- The order of what a device gives, and the connection and number that come next.
-use Rattle.std.proofs.Common.{◌≡◌, ◌≢◌, ◌==◌, ◌<◌, ℕ, ◌+◌, false, List, [], ◌∷◌, ◌++◌, length, get_or, append-nil, length-append, refl, sym, ap, ◌∙◌, subst, inl, inr, arith}
-use Rattle.std.specs.Prelude.{if◌then◌else◌}
-use Rattle.std.proofs.lemmas.Bool.{cases_eq, ne_eqb}
-use Rattle.std.proofs.lemmas.List.{get_or_append_left}
-use Rattle.std.proofs.lemmas.List.Elements.{filter-append}
+use Rattle.std.proofs.Common.{◌≡◌, ◌≢◌, ◌==◌, ◌<◌, ℕ, ◌+◌, false, List, [], ◌∷◌, ◌++◌, length, get_or, append-nil, length-append, refl, sym, ap, ◌∙◌}
+use Rattle.std.proofs.{Common.{subst, inl, inr, arith}, lemmas.{Bool.{cases_eq, ne_eqb}, List.{get_or_append_left, Elements.{filter-append}}}}
 use Rattle.std.proofs.Math.Seq.{get_or-append_seam}
+use Rattle.std.specs.Prelude.{if◌then◌else◌}
 use Rattle.fis_view.specs.Frames.{Stamped}
 use Rattle.multiplier.specs.Orders.{of_connection}
-use Rattle.link_items.specs.Beginnings.{device_starts}
-use Rattle.link_items.specs.OrderLaws.{IsAt}
+use Rattle.link_items.specs.{Beginnings.device_starts, OrderLaws.IsAt}
 use Rattle.link_items.proofs.Door.{device_counts, device_goes_on}
 use Rattle.disk_thread.specs.Runs.{IsCounted, ArePast}
 

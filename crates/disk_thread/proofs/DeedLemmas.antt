@@ -1,14 +1,12 @@
 -- One more deed of a device.
-use Rattle.std.proofs.Common.{◌≡◌, ℕ, ◌+◌, ◌<◌, ◌≤◌, true, false, List, [], ◌∷◌, ◌++◌, length, get_or, append_assoc, append-nil, length-append, refl, sym, ap, ◌∙◌, subst}
-use Rattle.std.specs.Prelude.{◌==◌, if◌then◌else◌, All, Option, Some, None}
-use Rattle.std.specs.List.{flat_map, remove}
-use Rattle.std.specs.Option.{option_to_list}
-use Rattle.std.proofs.lemmas.Grind.{flat_map-append}
-use Rattle.std.proofs.lemmas.List.Concat.{flat_map-cons}
+use Rattle.std.proofs.Common.{◌≡◌, ℕ, ◌+◌, ◌<◌, ◌≤◌, true, false, List, [], ◌∷◌, ◌++◌, length, get_or, append_assoc, append-nil, length-append, refl}
+use Rattle.std.proofs.{Common.{sym, ap, ◌∙◌, subst}, lemmas.{Grind.{flat_map-append}, List.Concat.{flat_map-cons}}}
+use Rattle.std.specs.{Prelude.{◌==◌, if◌then◌else◌, All, Option, Some, None}, List.{flat_map, remove}, Option.option_to_list}
 use Rattle.fis_view.specs.Frames.{Stamped}
 use Rattle.disk_model.specs.Histories.{Happening, Received, Plugged, Plan, GoesOn, SendsNext}
 use Rattle.link_items.specs.declared.items.Presence.TheVariants.{Came, Gone}
-use Rattle.disk_thread.specs.Deeds.{Deed, plugged_in, pulled_out, took, gave, Standing, never_plugged, after_deed, hears, happens, MayBeDone, taken_by, given_by, told_by, pulled_by, after_deeds, history_of, MayAllBeDone, pulls_after, pulls_in}
+use Rattle.disk_thread.specs.Deeds.{Deed, plugged_in, pulled_out, took, gave, Standing, never_plugged, after_deed, hears, happens, MayBeDone}
+use Rattle.disk_thread.specs.Deeds.{taken_by, given_by, told_by, pulled_by, after_deeds, history_of, MayAllBeDone, pulls_after, pulls_in}
 use Rattle.disk_thread.specs.Runs.{StationState, all_given, all_told, IsRun, KeepsPulls}
 use Rattle.disk_thread.proofs.PullLemmas.{keeps_give, keeps_none, keeps_pull, keeps_still, pulls_more}
 

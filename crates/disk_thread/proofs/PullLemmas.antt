@@ -1,13 +1,9 @@
 -- The pulls that were made, and those that are left.
-use Rattle.std.proofs.Common.{◌≡◌, ℕ, ◌+◌, ◌<◌, ◌≤◌, List, [], ◌∷◌, ◌++◌, suc, length, get_or, drop, take, append_assoc, append-nil, length-append, sym, ap, ◌∙◌, arith}
-use Rattle.std.specs.Prelude.{All}
-use Rattle.std.specs.List.{flat_map, remove}
-use Rattle.std.proofs.lemmas.List.{get_or_default}
-use Rattle.std.proofs.lemmas.List.Elements.{All-append, All-take, All-drop}
-use Rattle.std.proofs.lemmas.List.Sorted.{IsPermutation-refl, IsPermutation-more}
-use Rattle.std.proofs.lemmas.List.Concat.{flat_map-cons}
-use Rattle.disk_thread.specs.Deeds.{Deed, given_by, pulled_by, pulls_after, pulls_in}
-use Rattle.disk_thread.specs.Runs.{KeepsPulls}
+use Rattle.std.proofs.Common.{◌≡◌, ℕ, ◌+◌, ◌<◌, ◌≤◌, List, [], ◌∷◌, ◌++◌, suc, length, get_or, drop, take, append_assoc, append-nil, length-append}
+use Rattle.std.proofs.{Common.{sym, ap, ◌∙◌, arith}, lemmas.List.{get_or_default, Elements.{All-append, All-take, All-drop}}}
+use Rattle.std.proofs.lemmas.List.{Sorted.{IsPermutation-refl, IsPermutation-more}, Concat.{flat_map-cons}}
+use Rattle.std.specs.{Prelude.All, List.{flat_map, remove}}
+use Rattle.disk_thread.specs.{Deeds.{Deed, given_by, pulled_by, pulls_after, pulls_in}, Runs.KeepsPulls}
 
 -- one more deed
 after_more : (given : ℕ) (ds : List Deed) (d : Deed)

@@ -1,10 +1,8 @@
 -- The connections that came.
-use Rattle.std.proofs.Common.{◌≡◌, ◌==◌, ℕ, ◌+◌, List, [], ◌∷◌, ◌++◌, Bool, true, false, refl, ap, ◌∙◌, arith}
-use Rattle.std.specs.Prelude.{◌&&◌, ◌||◌, nat_le}
-use Rattle.std.proofs.lemmas.Bool.Decides.{nat_tests}
+use Rattle.std.proofs.{Common.{◌≡◌, ◌==◌, ℕ, ◌+◌, List, [], ◌∷◌, ◌++◌, Bool, true, false, refl, ap, ◌∙◌, arith}, lemmas.Bool.Decides.nat_tests}
 use Rattle.std.proofs.lemmas.List.Folds.{list_any-append}
-use Rattle.link_items.specs.declared.items.Presence.{Presence}
-use Rattle.link_items.specs.declared.items.Presence.TheVariants.{Came, Gone}
+use Rattle.std.specs.Prelude.{◌&&◌, ◌||◌, nat_le}
+use Rattle.link_items.specs.declared.items.Presence.{Presence, TheVariants.{Came, Gone}}
 use Rattle.disk_thread.specs.Runs.{AreTold, has_come, is_coming}
 
 none_between : (c : ℕ) → false ≡ (nat_le 1 c && nat_le c 0)

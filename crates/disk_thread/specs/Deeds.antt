@@ -1,11 +1,9 @@
 -- What the thread of a device does, deed by deed. The FISes and their stamps are those of the
 -- device's links. What happens to the device itself is its history, in the words of that.
-use Rattle.std.specs.Prelude.{ℕ, ◌≡◌, ◌+◌, ◌==◌, ◌&&◌, Bool, true, false, if◌then◌else◌, List, [], ◌∷◌, ◌++◌}
-use Rattle.std.specs.Prelude.{length, ⊤}
+use Rattle.std.specs.Prelude.{ℕ, ◌≡◌, ◌+◌, ◌==◌, ◌&&◌, Bool, true, false, if◌then◌else◌, List, [], ◌∷◌, ◌++◌, length, ⊤}
 use Rattle.fis_view.specs.Frames.{Stamped}
 use Rattle.disk_model.specs.Histories.{Happening, Received, Sent, Plugged}
-use Rattle.link_items.specs.declared.items.Presence.{Presence}
-use Rattle.link_items.specs.declared.items.Presence.TheVariants.{Came, Gone}
+use Rattle.link_items.specs.declared.items.Presence.{Presence, TheVariants.{Came, Gone}}
 
 pub data Deed : Type 0 where
   -- the device was plugged in, under this connection

@@ -1,18 +1,13 @@
 -- A device at its port, with the seats of its links, and what a run of it is.
-use Rattle.std.specs.Prelude.{ℕ, ◌≡◌, ◌<◌, ◌≤◌, ◌==◌, ◌&&◌, nat_le, Bool, false, All, IsPermutation, List}
-use Rattle.std.specs.Prelude.{◌++◌, length, Option}
+use Rattle.std.specs.{Prelude.{ℕ, ◌≡◌, ◌<◌, ◌≤◌, ◌==◌, ◌&&◌, nat_le, Bool, false, All, IsPermutation, List, ◌++◌, length, Option}, List.flat_map}
+use Rattle.std.specs.{List.list_any, Option.option_to_list}
 use Rattle.std.proofs.Common.{get_or}
-use Rattle.std.specs.List.{flat_map, list_any}
-use Rattle.std.specs.Option.{option_to_list}
 use Rattle.fis_view.specs.Frames.{Stamped}
 use Rattle.disk_model.specs.Histories.{Happening, Plan}
 use Rattle.ruled_links.specs.Links.{Seat}
 use Rattle.multiplier.specs.Orders.{InDeviceOrder, of_connection}
-use Rattle.link_items.specs.OrderLaws.{IsAt}
-use Rattle.link_items.specs.declared.items.Presence.{Presence}
-use Rattle.link_items.specs.declared.items.Presence.TheVariants.{Came, Gone}
-use Rattle.disk_thread.specs.Deeds.{Deed, Standing, never_plugged, after_deeds, history_of, MayAllBeDone}
-use Rattle.disk_thread.specs.Deeds.{taken_by, given_by, told_by, pulls_in}
+use Rattle.link_items.specs.{OrderLaws.IsAt, declared.items.Presence.{Presence, TheVariants.{Came, Gone}}}
+use Rattle.disk_thread.specs.Deeds.{Deed, Standing, never_plugged, after_deeds, history_of, MayAllBeDone, taken_by, given_by, told_by, pulls_in}
 
 pub record StationState (D : Type 0) : Type 0 where
   pub unit : D

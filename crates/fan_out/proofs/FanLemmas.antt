@@ -1,23 +1,19 @@
 -- What each call leaves is a fan.
-use Rattle.std.proofs.Common.{◌≡◌, ◌≢◌, ℕ, zero, suc, ◌+◌, ◌<◌, ◌≤◌, Bool, true, false, List, [], ◌∷◌, length, replicate, Option, Some, None, Ok, refl, sym, ap, ◌∙◌, subst, arith, inl, inr}
+use Rattle.std.proofs.Common.{◌≡◌, ◌≢◌, ℕ, zero, suc, ◌+◌, ◌<◌, ◌≤◌, Bool, true, false, List, [], ◌∷◌, length, replicate, Option, Some, None, Ok}
+use Rattle.std.proofs.{Common.{refl, sym, ap, ◌∙◌, subst, arith, inl, inr}, lemmas.{Bool.{cases_eq, eq-eqb, lt-leb}, List.{length-set}}}
+use Rattle.std.proofs.lemmas.{List.{get_or-set_other, get_or-set_same, set-set}, Option.same_Some}
 use Rattle.std.specs.Prelude.{slice_set, slice_index_or, is_some, nat_le, if◌then◌else◌}
-use Rattle.std.proofs.lemmas.Bool.{cases_eq, eq-eqb, lt-leb}
-use Rattle.std.proofs.lemmas.List.{length-set, get_or-set_other, get_or-set_same, set-set}
-use Rattle.std.proofs.lemmas.Option.{same_Some}
 use Rattle.pm_registers.specs.RegisterMap as map
 use Rattle.pm_registers.specs.Port.{open_port, ShowsTruly}
 use Rattle.pm_registers.proofs.Door.{sound_set}
 use Rattle.fis_view.specs.Frames.{Stamped}
 use Rattle.pm_ports.specs.Port as port
-use Rattle.pm_ports.specs.declared.port.Offered.{Offered}
-use Rattle.pm_ports.specs.declared.port.Offered.TheVariants.{Held}
-use Rattle.multiplier.specs.Passing.{Call, Came, FromDevice, Gone, Does, Past, Suits, lost_from}
-use Rattle.multiplier.specs.Rules.{FromDeviceRule, KeepsPorts, with_device, without_device}
-use Rattle.multiplier.specs.State.{PmState, IsSound, IsSoundPort, first_port, opening_with_port_0, port_at, stamped}
+use Rattle.pm_ports.specs.declared.port.Offered.{Offered, TheVariants.Held}
+use Rattle.multiplier.specs.{Passing.{Call, Came, FromDevice, Gone, Does, Past, Suits, lost_from}, Rules.{FromDeviceRule, KeepsPorts, with_device}}
+use Rattle.multiplier.specs.{Rules.without_device, State.{PmState, IsSound, IsSoundPort, first_port, opening_with_port_0, port_at, stamped}}
 use Rattle.multiplier.proofs.Door.{not_up_to, one_step, opens_sound}
 use Rattle.fan_out.specs.Fans.{FanState, IsFan, all_joined, joined_again, on, opening_fan, opening_multiplier, parted, seat_at, with_seat}
-use Rattle.fan_out.specs.Seats.{after_sent, connection, empty_seat, left, next_connection, seated, told}
-use Rattle.fan_out.specs.declared.seat.Seat.{Seat}
+use Rattle.fan_out.specs.{Seats.{after_sent, connection, empty_seat, left, next_connection, seated, told}, declared.seat.Seat.Seat}
 
 abbrev pub nothing : Past
 nothing = record { up = []; down = []; made = [] }

@@ -1,33 +1,23 @@
 -- Each call of a fan is a list of calls of its multiplier, and so frames pass in order.
-use Rattle.std.proofs.Common.{◌≡◌, ℕ, ◌<◌, ◌≤◌, ◌==◌, Bool, true, false, List, [], ◌∷◌, ◌++◌, append_assoc, length, Option, Some, None, Result, Ok, Err, refl, sym, ap, ◌∙◌, subst, arith}
-use Rattle.std.specs.Prelude.{if◌then◌else◌, nat_lt, is_none, is_some, slice_set, MatchOption, MatchResult, ◌&&◌}
-use Rattle.std.specs.Bool.{MatchBool}
+use Rattle.std.proofs.Common.{◌≡◌, ℕ, ◌<◌, ◌≤◌, ◌==◌, Bool, true, false, List, [], ◌∷◌, ◌++◌, append_assoc, length, Option, Some, None, Result, Ok}
+use Rattle.std.proofs.{Common.{Err, refl, sym, ap, ◌∙◌, subst, arith}, lemmas.{Bool.{and_parts, ltb-true}, Grind.{flat_map-append}}}
+use Rattle.std.proofs.lemmas.{List.{append-nil}, Option.same_Some}
+use Rattle.std.specs.{Prelude.{if◌then◌else◌, nat_lt, is_none, is_some, slice_set, MatchOption, MatchResult, ◌&&◌}, Bool.MatchBool}
 use Rattle.std.specs.declared.alloc.AllocError.{AllocError}
-use Rattle.std.proofs.lemmas.Bool.{and_parts, ltb-true}
-use Rattle.std.proofs.lemmas.Grind.{flat_map-append}
-use Rattle.std.proofs.lemmas.List.{append-nil}
-use Rattle.std.proofs.lemmas.Option.{same_Some}
 use Rattle.fis_view.specs.Frames.{Stamped}
 use Rattle.pm_ports.specs.Port as port
-use Rattle.pm_ports.specs.declared.port.PortError.{PortError}
-use Rattle.pm_ports.specs.declared.port.Offered.{Offered}
+use Rattle.pm_ports.specs.declared.port.{PortError.PortError, Offered.Offered}
 use Rattle.pm_ports.specs.declared.port.Offered.TheVariants as offered
 use Rattle.multiplier.specs.Passing as pass
-use Rattle.multiplier.specs.Rules.{NextDownRule, NextUpRule, with_device, without_device}
-use Rattle.multiplier.specs.State.{PmState, largest, port_at}
-use Rattle.multiplier.specs.declared.multiplier.Passed.{Passed}
-use Rattle.multiplier.specs.declared.multiplier.PmRefusal.{PmRefusal}
+use Rattle.multiplier.specs.{Rules.{NextDownRule, NextUpRule, with_device, without_device}, State.{PmState, largest, port_at}}
+use Rattle.multiplier.specs.declared.multiplier.{Passed.Passed, PmRefusal.PmRefusal}
 use Rattle.multiplier.proofs.Door.{pass_in_order, this_port}
-use Rattle.fan_out.specs.Calls.{FanCall, Plug, Pull, Send, GiveUp, GiveDown, Offer, Tell, Does, DoesAll, PassesInOrder, given, given_by, offered as offered_in, offered_by}
-use Rattle.fan_out.specs.Fans.{FanState, IsFan, OffersFan, PlugsFan, PullsFan, SendsFan, TellsFan, Through, heeded, held_in_reset, is_in_reset, joined, on, only_in_reset, controlled, parted, rejoined, seat_at, held_fan, waiting}
-use Rattle.fan_out.specs.Straights.{StraightState}
-use Rattle.fan_out.specs.Seats.{after_sent, next_connection, plug_refusal, seated}
-use Rattle.fan_out.specs.declared.fan_out.FanOut.{FanOut}
-use Rattle.fan_out.specs.declared.fan_out.FanOut.TheVariants.{Device, Multiplier}
-use Rattle.fan_out.specs.declared.seat.NotThere.{NotThere}
-use Rattle.fan_out.specs.declared.seat.PlugError.{PlugError}
-use Rattle.fan_out.specs.declared.seat.PlugError.TheVariants.{AlreadyThere, NoPort, Spent}
-use Rattle.fan_out.specs.declared.seat.Seat.{Seat}
+use Rattle.fan_out.specs.Calls.{FanCall, Plug, Pull, Send, GiveUp, GiveDown, Offer, Tell, Does, DoesAll, PassesInOrder, given, given_by}
+use Rattle.fan_out.specs.{Calls.{offered as offered_in, offered_by}, Fans.{FanState, IsFan, OffersFan, PlugsFan, PullsFan, SendsFan, TellsFan}}
+use Rattle.fan_out.specs.Fans.{Through, heeded, held_in_reset, is_in_reset, joined, on, only_in_reset, controlled, parted, rejoined, seat_at}
+use Rattle.fan_out.specs.{Fans.{held_fan, waiting}, Straights.StraightState, Seats.{after_sent, next_connection, plug_refusal, seated}}
+use Rattle.fan_out.specs.declared.{fan_out.FanOut.{FanOut, TheVariants.{Device, Multiplier}}, seat.{NotThere.NotThere, PlugError.PlugError}}
+use Rattle.fan_out.specs.declared.seat.{PlugError.TheVariants.{AlreadyThere, NoPort, Spent}, Seat.Seat}
 use Rattle.fan_out.proofs.FanLemmas.{came, gone, lets_go, lets_in, not_gone, nothing, offers, through, told_fan}
 
 -- ---- lists of calls of a multiplier

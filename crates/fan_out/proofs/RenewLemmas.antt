@@ -1,18 +1,15 @@
 -- After a reset of the link the devices that were there are there, and nothing waits.
-use Rattle.std.proofs.Common.{◌≡◌, ◌≢◌, ℕ, zero, suc, ◌<◌, ◌≤◌, ◌⊎◌, Bool, true, false, List, length, Option, Some, None, refl, sym, ap, ◌∙◌, subst, arith, inl, inr}
+use Rattle.std.proofs.Common.{◌≡◌, ◌≢◌, ℕ, zero, suc, ◌<◌, ◌≤◌, ◌⊎◌, Bool, true, false, List, length, Option, Some, None, refl, sym, ap, ◌∙◌, subst}
+use Rattle.std.proofs.{Common.{arith, inl, inr}, lemmas.{Bool.{cases_eq, lt-ltb}, List.{get_or-set_other, get_or-set_same}}}
 use Rattle.std.specs.Prelude.{if◌then◌else◌, is_some, slice_set, slice_index_or, ◌&&◌}
-use Rattle.std.proofs.lemmas.Bool.{cases_eq, lt-ltb}
-use Rattle.std.proofs.lemmas.List.{get_or-set_other, get_or-set_same}
 use Rattle.pm_ports.specs.Port as port
 use Rattle.pm_ports.specs.declared.port.PortError.{PortError}
 use Rattle.pm_registers.specs.Port.{inserted, open_port, opening_port, passes}
 use Rattle.pm_registers.specs.RegisterMap as map
-use Rattle.multiplier.specs.Rules.{with_device}
-use Rattle.multiplier.specs.State.{passes_to, port_at}
+use Rattle.multiplier.specs.{Rules.with_device, State.{passes_to, port_at}}
 use Rattle.multiplier.proofs.Door.{other_port, this_port}
-use Rattle.fan_out.specs.Fans.{FanState, IsFan, IsRenewed, all_joined, joined, joined_again, opening_fan, renewed, renewed_port, renewed_seat, seat_at}
-use Rattle.fan_out.specs.Seats.{empty_seat, seated}
-use Rattle.fan_out.specs.declared.seat.Seat.{Seat}
+use Rattle.fan_out.specs.Fans.{FanState, IsFan, IsRenewed, all_joined, joined, joined_again, opening_fan, renewed, renewed_port, renewed_seat}
+use Rattle.fan_out.specs.{Fans.seat_at, Seats.{empty_seat, seated}, declared.seat.Seat.Seat}
 use Rattle.fan_out.proofs.FanLemmas.{came, empty_at, opens, seat_empty}
 
 abbrev seat_of : List Seat → ℕ → Seat

@@ -1,32 +1,24 @@
 -- A frame of the host that ends the reset of a port has its device begin anew.
-use Rattle.std.proofs.Common.{◌≡◌, ◌≢◌, ℕ, zero, suc, ◌<◌, ◌≤◌, ◌==◌, Bool, true, false, List, [], ◌∷◌, length, Option, Some, None, Result, Ok, Err, refl, sym, ap, ◌∙◌, subst, arith, inl, inr}
-use Rattle.std.specs.Prelude.{bit_or, if◌then◌else◌, nat_lt, is_some, slice_set, slice_index_or, MatchOption, ◌&&◌}
-use Rattle.std.specs.Bool.{MatchBool}
-use Rattle.std.proofs.lemmas.Bool.{and_from, cases_eq, lt-ltb}
-use Rattle.std.proofs.lemmas.List.{get_or-set_same, length-set}
-use Rattle.std.proofs.lemmas.Option.{same_Some}
+use Rattle.std.proofs.Common.{◌≡◌, ◌≢◌, ℕ, zero, suc, ◌<◌, ◌≤◌, ◌==◌, Bool, true, false, List, [], ◌∷◌, length, Option, Some, None, Result, Ok, Err}
+use Rattle.std.proofs.{Common.{refl, sym, ap, ◌∙◌, subst, arith, inl, inr}, lemmas.{Bool.{and_from, cases_eq, lt-ltb}, List.{get_or-set_same}}}
+use Rattle.std.proofs.lemmas.{List.{length-set}, Option.same_Some}
+use Rattle.std.specs.{Prelude.{bit_or, if◌then◌else◌, nat_lt, is_some, slice_set, slice_index_or, MatchOption, ◌&&◌}, Bool.MatchBool}
 use Rattle.fis_view.specs.Frames.{Stamped}
-use Rattle.pm_control.specs.Answers.{registers_after_request}
-use Rattle.pm_control.specs.Requests.{request_in}
-use Rattle.pm_control.specs.declared.request.Request.{Request}
-use Rattle.pm_control.specs.declared.request.Request.TheVariants.{Read, Write, Unknown, Reset, EndReset}
+use Rattle.pm_control.specs.{Answers.registers_after_request, Requests.request_in, declared.request.Request.{Request, TheVariants.{Read, Write}}}
+use Rattle.pm_control.specs.declared.request.Request.TheVariants.{Unknown, Reset, EndReset}
 use Rattle.pm_ports.specs.Port as port
 use Rattle.pm_ports.specs.declared.port.PortError.{PortError}
 use Rattle.pm_registers.specs.Port.{bit_n, controlled as after_control, det, inserted, is_open, met, opening_port, port_written, removed}
-use Rattle.pm_registers.specs.RegisterMap as map
 use Rattle.pm_registers.specs.declared.port.PortRegisters.{PortRegisters}
-use Rattle.multiplier.specs.Arbiter.{control_port}
+use Rattle.pm_registers.specs.RegisterMap as map
+use Rattle.multiplier.specs.{Arbiter.control_port, Rules.{FromHostRule, ToControl, ToDevice, ToNobody, with_device, without_device}, State.PmState}
+use Rattle.multiplier.specs.{State.{largest, passes_to, pm_port, port_at}, declared.multiplier.{Passed.Passed, PmRefusal.PmRefusal}}
 use Rattle.multiplier.specs.Passing as pass
-use Rattle.multiplier.specs.Rules.{FromHostRule, ToControl, ToDevice, ToNobody, with_device, without_device}
-use Rattle.multiplier.specs.State.{PmState, largest, passes_to, pm_port, port_at}
-use Rattle.multiplier.specs.declared.multiplier.Passed.{Passed}
 use Rattle.multiplier.specs.declared.multiplier.Passed.TheVariants as passed
-use Rattle.multiplier.specs.declared.multiplier.PmRefusal.{PmRefusal}
 use Rattle.multiplier.proofs.Door.{this_port, up_to}
-use Rattle.fan_out.specs.Calls.{EndsConnection, ResetEndsConnection}
-use Rattle.fan_out.specs.Fans.{FanState, IsFan, SendsFan, controlled, controlled_by, heeded, held_in_reset, is_in_reset, joined, on, only_in_reset, parted, rejoined, seat_at}
-use Rattle.fan_out.specs.Seats.{empty_seat, left, next_connection, seated}
-use Rattle.fan_out.specs.declared.seat.Seat.{Seat}
+use Rattle.fan_out.specs.{Calls.{EndsConnection, ResetEndsConnection}, Fans.{FanState, IsFan, SendsFan, controlled, controlled_by, heeded}}
+use Rattle.fan_out.specs.{Fans.{held_in_reset, is_in_reset, joined, on, only_in_reset, parted, rejoined, seat_at}, Seats.{empty_seat, left}}
+use Rattle.fan_out.specs.{Seats.{next_connection, seated}, declared.seat.Seat.Seat}
 use Rattle.fan_out.proofs.FanLemmas.{lets_again, present_is, through}
 
 abbrev Bank : Type 0

@@ -1,16 +1,13 @@
 -- The rules of what is restored: what fits is sound.
 use Rattle.std.proofs.Common.{◌≡◌, ℕ, ◌==◌, Bool, true, false, not, if◌then◌else◌, Option, Some, None, refl, sym, ap, ◌∙◌, arith, inl, inr}
+use Rattle.std.proofs.{Math.ListN.{get_or-eq_default}, lemmas.Bool.{and_from, and_parts, cases_lt, eq-eqb, eqb-true, le-leb, leb-true, lt-ltb}}
+use Rattle.std.proofs.lemmas.Bool.{ltb-true}
 use Rattle.std.specs.Prelude.{nat_le, nat_lt}
-use Rattle.std.proofs.Math.ListN.{get_or-eq_default}
-use Rattle.std.proofs.lemmas.Bool.{and_from, and_parts, cases_lt, eq-eqb, eqb-true, le-leb, leb-true, lt-ltb, ltb-true}
 use Rattle.pm_ports.specs.Port as port
 use Rattle.multiplier.specs.State as pm
 use Rattle.multiplier.proofs.Door.{all_in, each_in}
-use Rattle.fan_out.specs.Fans.{FanState, IsFan, seat_at}
-use Rattle.fan_out.specs.Seats.{connection, empty_seat}
-use Rattle.fan_out.specs.Straights.{IsStraight, StraightState}
-use Rattle.fan_out.specs.Saved.{KeepsFanParts, fan_fits, fan_parts, fits_at, is_at, seat_fits, seats_fit, straight_fits}
-use Rattle.fan_out.specs.declared.seat.Seat.{Seat}
+use Rattle.fan_out.specs.{Fans.{FanState, IsFan, seat_at}, Seats.{connection, empty_seat}, Straights.{IsStraight, StraightState}, Saved.KeepsFanParts}
+use Rattle.fan_out.specs.{Saved.{fan_fits, fan_parts, fits_at, is_at, seat_fits, seats_fit, straight_fits}, declared.seat.Seat.Seat}
 
 -- ---- a seat and its port
 

@@ -1,22 +1,12 @@
 -- Frames pass a fan in order (Serial ATA 3.x, 16.3, port multiplier: frame transmission), and a reset by SControl ends what was sent
 -- before it (14.1.3, DET 1). Between two resets of the link each call is a few calls of the multiplier.
-use Rattle.std.specs.Prelude.{◌≡◌, ◌<◌, ◌==◌, ℕ, true, false, if◌then◌else◌, List, [], ◌∷◌, ◌++◌, Option, Some, Result, Ok}
-use Rattle.std.specs.List.{flat_map}
+use Rattle.std.specs.{Prelude.{◌≡◌, ◌<◌, ◌==◌, ℕ, true, false, if◌then◌else◌, List, [], ◌∷◌, ◌++◌, Option, Some, Result, Ok}, List.flat_map}
 use Rattle.std.specs.declared.alloc.AllocError.{AllocError}
 use Rattle.fis_view.specs.Frames.{Stamped}
-use Rattle.pm_ports.specs.Port.{is_gone}
-use Rattle.pm_ports.specs.declared.port.Offered.{Offered}
-use Rattle.pm_ports.specs.declared.port.Offered.TheVariants.{Held}
-use Rattle.multiplier.specs.Passing.{held_of, of_conn}
-use Rattle.multiplier.specs.State.{largest, port_at, rising}
-use Rattle.multiplier.specs.declared.multiplier.Passed.{Passed}
-use Rattle.multiplier.specs.declared.multiplier.PmRefusal.{PmRefusal}
-use Rattle.fan_out.specs.FanOuts.{GivesDownThere, GivesUpThere, Offers, Plugs, Pulls, Sends, Tells}
-use Rattle.fan_out.specs.Fans.{FanState, IsFan, is_in_reset, seat_at}
-use Rattle.fan_out.specs.declared.fan_out.FanOut.{FanOut}
-use Rattle.fan_out.specs.declared.fan_out.FanOut.TheVariants.{Device, Multiplier}
-use Rattle.fan_out.specs.declared.seat.NotThere.{NotThere}
-use Rattle.fan_out.specs.declared.seat.PlugError.{PlugError}
+use Rattle.pm_ports.specs.{Port.is_gone, declared.port.Offered.{Offered, TheVariants.Held}}
+use Rattle.multiplier.specs.{Passing.{held_of, of_conn}, State.{largest, port_at, rising}, declared.multiplier.{Passed.Passed, PmRefusal.PmRefusal}}
+use Rattle.fan_out.specs.{FanOuts.{GivesDownThere, GivesUpThere, Offers, Plugs, Pulls, Sends, Tells}, Fans.{FanState, IsFan, is_in_reset, seat_at}}
+use Rattle.fan_out.specs.declared.{fan_out.FanOut.{FanOut, TheVariants.{Device, Multiplier}}, seat.{NotThere.NotThere, PlugError.PlugError}}
 
 -- a call other than `renew`, with its result
 pub data FanCall : Type 0 where

@@ -1,20 +1,13 @@
 -- What is behind the port of a host: a link is of two ends (Serial ATA 3.x, 13), and at the other one is a device or a port
 -- multiplier (16.3).
-use Rattle.std.specs.Prelude.{◌≡◌, ◌&&◌, ℕ, nat_lt, Bool, Option, None, Result, Ok, Err, MatchResult}
-use Rattle.std.specs.Bool.{MatchBool}
+use Rattle.std.specs.{Prelude.{◌≡◌, ◌&&◌, ℕ, nat_lt, Bool, Option, None, Result, Ok, Err, MatchResult}, Bool.MatchBool}
 use Rattle.std.specs.declared.alloc.AllocError.{AllocError}
 use Rattle.fis_view.specs.Frames.{Stamped}
-use Rattle.pm_ports.specs.declared.port.Offered.{Offered}
-use Rattle.pm_ports.specs.declared.port.Offered.TheVariants.{Dropped}
-use Rattle.multiplier.specs.Rules.{NextDownRule, NextUpRule}
-use Rattle.multiplier.specs.declared.multiplier.Passed.{Passed}
-use Rattle.multiplier.specs.declared.multiplier.PmRefusal.{PmRefusal}
+use Rattle.pm_ports.specs.declared.port.Offered.{Offered, TheVariants.Dropped}
+use Rattle.multiplier.specs.{Rules.{NextDownRule, NextUpRule}, declared.multiplier.{Passed.Passed, PmRefusal.PmRefusal}}
 use Rattle.fan_out.specs.Fans as fan
 use Rattle.fan_out.specs.Straights as straight
-use Rattle.fan_out.specs.declared.fan_out.FanOut.{FanOut}
-use Rattle.fan_out.specs.declared.fan_out.FanOut.TheVariants.{Device, Multiplier}
-use Rattle.fan_out.specs.declared.seat.NotThere.{NotThere}
-use Rattle.fan_out.specs.declared.seat.PlugError.{PlugError}
+use Rattle.fan_out.specs.declared.{fan_out.FanOut.{FanOut, TheVariants.{Device, Multiplier}}, seat.{NotThere.NotThere, PlugError.PlugError}}
 use Rattle.fan_out.specs.declared.seat.PlugError.TheVariants.{NoPort}
 
 -- a device alone is at port 0

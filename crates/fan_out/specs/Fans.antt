@@ -1,27 +1,18 @@
 -- A port multiplier whose devices come and go, and are reset by their ports (Serial ATA 3.x, 16.3, port multiplier; 16.4.2, PSCR[2]
 -- is SControl of the port; 14.1.3, SControl: DET 1 resets the device for as long as it stands there).
-use Rattle.std.specs.Prelude.{◌≡◌, ◌≤◌, ◌<◌, ◌==◌, ◌&&◌, ℕ, zero, suc, nat_lt, Bool, true, false, if◌then◌else◌}
-use Rattle.std.specs.Prelude.{List, length, replicate, slice_index_or, slice_set, Option, Some, None, is_none, is_some, MatchOption, MatchResult, Result, Ok, Err}
-use Rattle.std.specs.Bool.{MatchBool}
-use Rattle.std.specs.List.{find, range_with_len}
-use Rattle.std.specs.Result.{result_err}
+use Rattle.std.specs.Prelude.{◌≡◌, ◌≤◌, ◌<◌, ◌==◌, ◌&&◌, ℕ, zero, suc, nat_lt, Bool, true, false, if◌then◌else◌, List, length, replicate}
+use Rattle.std.specs.Prelude.{slice_index_or, slice_set, Option, Some, None, is_none, is_some, MatchOption, MatchResult, Result, Ok, Err}
+use Rattle.std.specs.{Bool.MatchBool, List.{find, range_with_len}, Result.result_err}
 use Rattle.fis_view.specs.Frames.{Stamped}
 use Rattle.pm_registers.specs.Port.{det}
 use Rattle.pm_registers.specs.RegisterMap as map
-use Rattle.pm_control.specs.Requests.{request_in}
-use Rattle.pm_control.specs.declared.request.Request.{Request}
-use Rattle.pm_control.specs.declared.request.Request.TheVariants.{Write}
+use Rattle.pm_control.specs.{Requests.request_in, declared.request.Request.{Request, TheVariants.Write}}
 use Rattle.pm_ports.specs.Port as port
-use Rattle.pm_ports.specs.declared.port.Offered.{Offered}
-use Rattle.pm_ports.specs.declared.port.Offered.TheVariants.{Held, Dropped}
-use Rattle.multiplier.specs.Rules.{FromHostRule, KeepsPorts, with_device, without_device}
+use Rattle.pm_ports.specs.declared.port.Offered.{Offered, TheVariants.{Held, Dropped}}
+use Rattle.multiplier.specs.{Rules.{FromHostRule, KeepsPorts, with_device, without_device}, declared.multiplier.{Passed.Passed, PmRefusal.PmRefusal}}
 use Rattle.multiplier.specs.State as pm
-use Rattle.multiplier.specs.declared.multiplier.Passed.{Passed}
-use Rattle.multiplier.specs.declared.multiplier.PmRefusal.{PmRefusal}
 use Rattle.fan_out.specs.Seats.{after_sent, connection, empty_seat, left, next_connection, plug_refusal, seated, sent_from, told}
-use Rattle.fan_out.specs.declared.seat.NotThere.{NotThere}
-use Rattle.fan_out.specs.declared.seat.PlugError.{PlugError}
-use Rattle.fan_out.specs.declared.seat.Seat.{Seat}
+use Rattle.fan_out.specs.declared.seat.{NotThere.NotThere, PlugError.PlugError, Seat.Seat}
 
 pub record FanState : Type 0 where
   pub multiplier : pm.PmState

@@ -2,17 +2,14 @@
 use Rattle.std.specs.Prelude.{◌≡◌, ℕ, ◌<◌, ◌^◌, ◌==◌, ◌&&◌, not, nat_le, nat_lt, List, ◌∷◌, length, slice_index_or, Bool, Option, Some, None}
 use Rattle.std.specs.List.{AllByRecursion, list_all, range_with_len}
 use Rattle.std.proofs.Common.{ap, sym, ◌∙◌}
-use Rattle.saved_state.specs.State.{IsToldApart, put_all, put_bool, put_number, put_pair, put_three, number_apart, bool_apart, all_apart, pair_apart, three_apart, parts_apart}
+use Rattle.saved_state.specs.State.{IsToldApart, put_all, put_bool, put_number, put_pair, put_three, number_apart, bool_apart, all_apart, pair_apart}
+use Rattle.saved_state.specs.State.{three_apart, parts_apart}
 use Rattle.pm_ports.specs.Port as port
 use Rattle.pm_ports.specs.Saved.{KeepsPort, port_apart, put_port}
 use Rattle.multiplier.specs.State as pm
 use Rattle.multiplier.specs.Saved.{KeepsMultiplier, multiplier_apart, put_multiplier}
-use Rattle.fan_out.specs.Fans.{FanState, IsFan}
-use Rattle.fan_out.specs.Seats.{empty_seat}
-use Rattle.fan_out.specs.Straights.{IsStraight, StraightState}
-use Rattle.fan_out.specs.declared.fan_out.FanOut.{FanOut}
-use Rattle.fan_out.specs.declared.fan_out.FanOut.TheVariants.{Device, Multiplier}
-use Rattle.fan_out.specs.declared.seat.Seat.{Seat}
+use Rattle.fan_out.specs.{Fans.{FanState, IsFan}, Seats.empty_seat, Straights.{IsStraight, StraightState}, declared.fan_out.FanOut.FanOut}
+use Rattle.fan_out.specs.declared.{fan_out.FanOut.TheVariants.{Device, Multiplier}, seat.Seat.Seat}
 
 -- ---- a seat: the last connection that came, whether its device is there, the number of its next frame, and whether it is to begin
 

@@ -3,9 +3,7 @@
 use Rattle.std.specs.Prelude.{ℕ, ◌+◌, ◌==◌, true, false, if◌then◌else◌, Option, Some, None, replicate}
 use Rattle.fis_view.specs.Frames.{Stamped}
 use Rattle.multiplier.specs.State.{counted, largest}
-use Rattle.fan_out.specs.declared.seat.Seat.{Seat}
-use Rattle.fan_out.specs.declared.seat.PlugError.{PlugError}
-use Rattle.fan_out.specs.declared.seat.PlugError.TheVariants.{AlreadyThere, Spent}
+use Rattle.fan_out.specs.declared.seat.{Seat.Seat, PlugError.{PlugError, TheVariants.{AlreadyThere, Spent}}}
 
 -- no device came
 abbrev pub empty_seat : Seat

@@ -1,20 +1,14 @@
 -- One device straight behind a host's link (Serial ATA 3.x, 13: a link of two ends), with one place for a frame in each direction.
-use Rattle.std.specs.Prelude.{◌≡◌, ◌<◌, ◌&&◌, ℕ, Bool, true, false, Option, Some, None, is_none, is_some, Result, Ok, Err, MatchOption, MatchResult, if◌then◌else◌}
-use Rattle.std.specs.Bool.{MatchBool}
-use Rattle.std.specs.Result.{result_err}
+use Rattle.std.specs.Prelude.{◌≡◌, ◌<◌, ◌&&◌, ℕ, Bool, true, false, Option, Some, None, is_none, is_some, Result, Ok, Err, MatchOption, MatchResult}
+use Rattle.std.specs.{Prelude.{if◌then◌else◌}, Bool.MatchBool, Result.result_err}
 use Rattle.fis_view.specs.Frames.{Stamped, marked}
-use Rattle.multiplier.specs.State.{pm_port}
-use Rattle.multiplier.specs.declared.multiplier.Passed.{Passed}
+use Rattle.multiplier.specs.{State.pm_port, declared.multiplier.{Passed.Passed, PmRefusal.PmRefusal}}
 use Rattle.multiplier.specs.declared.multiplier.Passed.TheVariants as passed
-use Rattle.multiplier.specs.declared.multiplier.PmRefusal.{PmRefusal}
 use Rattle.multiplier.specs.declared.multiplier.PmRefusal.TheVariants as refusal
 use Rattle.pm_ports.specs.Port as port
-use Rattle.pm_ports.specs.declared.port.Offered.{Offered}
-use Rattle.pm_ports.specs.declared.port.Offered.TheVariants.{Held, Dropped}
+use Rattle.pm_ports.specs.declared.port.Offered.{Offered, TheVariants.{Held, Dropped}}
 use Rattle.fan_out.specs.Seats.{after_sent, connection, empty_seat, left, next_connection, plug_refusal, seated, sent_from, told}
-use Rattle.fan_out.specs.declared.seat.NotThere.{NotThere}
-use Rattle.fan_out.specs.declared.seat.PlugError.{PlugError}
-use Rattle.fan_out.specs.declared.seat.Seat.{Seat}
+use Rattle.fan_out.specs.declared.seat.{NotThere.NotThere, PlugError.PlugError, Seat.Seat}
 
 pub record StraightState : Type 0 where
   pub port : port.PortState

@@ -1,10 +1,9 @@
 -- Frames as words.
-use Rattle.std.specs.Prelude.{◌≡◌, ℕ, ◌<◌, ◌^◌, List, Bool, length}
-use Rattle.std.specs.List.{AllByRecursion}
+use Rattle.std.specs.{Prelude.{◌≡◌, ℕ, ◌<◌, ◌^◌, List, Bool, length}, List.AllByRecursion}
 use Rattle.std.proofs.Common.{ap, sym, ◌∙◌}
-use Rattle.saved_state.specs.State.{IsToldApart, put_all, put_list, put_number, put_pair, put_three, number_apart, all_apart, list_apart, pair_apart, three_apart, parts_apart}
-use Rattle.fis_view.specs.declared.frame.Stamp.{Stamp}
-use Rattle.fis_view.specs.Frames.{IsFrame, Stamped, is_frame}
+use Rattle.saved_state.specs.State.{IsToldApart, put_all, put_list, put_number, put_pair, put_three, number_apart, all_apart, list_apart, pair_apart}
+use Rattle.saved_state.specs.State.{three_apart, parts_apart}
+use Rattle.fis_view.specs.{declared.frame.Stamp.Stamp, Frames.{IsFrame, Stamped, is_frame}}
 
 -- how many bytes there are, and then each
 abbrev pub put_bytes : List ℕ → List ℕ → List ℕ

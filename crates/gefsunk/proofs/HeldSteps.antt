@@ -17,10 +17,8 @@ use denote.RawPtr.{Ptr, ptr_val, block_ptr, null_ptr, in_a_block}
 use denote.Steps.{nothing}
 use denote.Struct.Struct.{within}
 use denote.Struct.Owning.{shape}
-use Rattle.std.specs.Box.Ownership.{box_owns}
-use Rattle.std.specs.Prelude.{Option, None, Some, is_some, true}
-use Rattle.std_heap.specs.contracts.GlobalAllocator.TheImpl.{ghosts}
-use Rattle.std_heap.specs.declared.Global.{Global}
+use Rattle.std.specs.{Box.Ownership.box_owns, Prelude.{Option, None, Some, is_some, true}}
+use Rattle.std_heap.specs.{contracts.GlobalAllocator.TheImpl.ghosts, declared.Global.Global}
 use Rattle.gefsunk.specs.Handles.{boxed, owned}
 use Rattle.gefsunk.specs.contracts.handle.Held as held
 use Rattle.gefsunk.specs.contracts.handle.Loose as loose

@@ -1,11 +1,8 @@
 -- Bytes that are no state are refused, and the handle stays closed.
 use Rattle.std.proofs.Common.{◌≡◌, ℕ, List, Option, None, Err, refl, sym, subst}
-use Rattle.ahci_machine.specs.Streams.{ReadsStream}
-use Rattle.ahci_machine.specs.declared.state.StateError.{StateError}
+use Rattle.ahci_machine.specs.{Streams.ReadsStream, declared.state.StateError.StateError}
 use Rattle.ahci_machine.specs.declared.state.StateError.TheVariants as fault
-use Rattle.gefsunk.specs.Savings.{RestoresMachine, state_fault}
-use Rattle.gefsunk.specs.declared.kept.Kept.{Kept}
-use Rattle.gefsunk.specs.declared.status.Status.{Status}
+use Rattle.gefsunk.specs.{Savings.{RestoresMachine, state_fault}, declared.{kept.Kept.Kept, status.Status.Status}}
 
 none_restored : (bytes : List ℕ) (e : StateError) → ReadsStream bytes (Err e) → RestoresMachine None bytes (state_fault e) None
 none_restored bytes fault.OutOfMemory gone = refl

@@ -1,13 +1,10 @@
 -- A disk has 33 places, and a command starts once, so 33 starts are all.
-use Rattle.std.proofs.Common.{◌≡◌, ◌≢◌, ℕ, zero, suc, ◌+◌, ◌<◌, ◌≤◌, true, false, List, length, get_or, set, Some, None, refl, sym, ap, ◌∙◌, arith, inl, inr}
-use Rattle.std.specs.Prelude.{Option, Bool, is_none, ◌&&◌, if◌then◌else◌}
-use Rattle.std.specs.Option.{option_map}
-use Rattle.std.proofs.lemmas.Bool.{cases_eq, cases_lt}
-use Rattle.std.proofs.lemmas.List.{get_or-set_same, get_or-set_other, get_or_past}
-use Rattle.block_command.specs.declared.command.Stage.{Stage}
-use Rattle.block_command.specs.declared.command.Stage.TheVariants.{Waiting, Load, Loading, SetUpRead, Announce, Sending, SetUpWrite, Activate, Receiving, Store, Storing, Flush, Flushing, End, Fail, Ended}
-use Rattle.block_command.specs.Moments.{Moment, gone, is_queued, turn_of}
-use Rattle.block_command.specs.Laws.{Goes, after}
+use Rattle.std.proofs.Common.{◌≡◌, ◌≢◌, ℕ, zero, suc, ◌+◌, ◌<◌, ◌≤◌, true, false, List, length, get_or, set, Some, None, refl, sym, ap, ◌∙◌, arith}
+use Rattle.std.proofs.{Common.{inl, inr}, lemmas.{Bool.{cases_eq, cases_lt}, List.{get_or-set_same, get_or-set_other, get_or_past}}}
+use Rattle.std.specs.{Prelude.{Option, Bool, is_none, ◌&&◌, if◌then◌else◌}, Option.option_map}
+use Rattle.block_command.specs.declared.command.Stage.{Stage, TheVariants.{Waiting, Load, Loading, SetUpRead, Announce, Sending, SetUpWrite}}
+use Rattle.block_command.specs.declared.command.Stage.TheVariants.{Activate, Receiving, Store, Storing, Flush, Flushing, End, Fail, Ended}
+use Rattle.block_command.specs.{Moments.{Moment, gone, is_queued, turn_of}, Laws.{Goes, after}}
 use Rattle.block_queue.specs.Line.{Line, command_at, may_start_at, starts}
 use Rattle.block_engine.specs.Engine.{IsEngineStart, started}
 use Rattle.sata_disk.specs.State.{DiskState, commands}

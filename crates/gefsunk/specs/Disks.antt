@@ -1,23 +1,15 @@
 -- What the calls on a disk do, by its rules (ACS-3; Serial ATA 3.x, native command queuing).
-use Rattle.std.specs.Bool.{MatchBool}
-use Rattle.std.specs.Prelude.{◌≡◌, ◌≢◌, ℕ, zero, suc, ◌<◌, ◌==◌, ◌&&◌, ◌⊎◌, Bool, true, false, List, Option, Some, None, MatchOption}
-use Rattle.fis_view.specs.Frames.{is_frame}
-use Rattle.fis_view.specs.Seen.{seen}
+use Rattle.std.specs.{Bool.MatchBool, Prelude.{◌≡◌, ◌≢◌, ℕ, zero, suc, ◌<◌, ◌==◌, ◌&&◌, ◌⊎◌, Bool, true, false, List, Option, Some, None}}
+use Rattle.std.specs.Prelude.{MatchOption}
+use Rattle.fis_view.specs.{Frames.is_frame, Seen.seen}
 use Rattle.block_command.specs.Moments.{Moment}
 use Rattle.block_queue.specs.Line.{command_at}
-use Rattle.block_engine.specs.Engine.{EngineState, IsEngineStart, IsRequested, answer_refusal, answered, started}
-use Rattle.block_engine.specs.declared.request.Answer.{Answer}
-use Rattle.block_engine.specs.declared.request.Answer.TheVariants.{Failed}
-use Rattle.block_engine.specs.declared.request.Request.{Request}
-use Rattle.sata_disk.specs.Hearing.{MayHear, fis_heard, fis_unheard, plugged}
-use Rattle.sata_disk.specs.Sending.{IsFis, IsOut, after_sent}
-use Rattle.sata_disk.specs.State.{DiskState, commands}
+use Rattle.block_engine.specs.{Engine.{EngineState, IsEngineStart, IsRequested, answer_refusal, answered, started}, declared.request.Answer.Answer}
+use Rattle.block_engine.specs.declared.request.{Answer.TheVariants.Failed, Request.Request}
+use Rattle.sata_disk.specs.{Hearing.{MayHear, fis_heard, fis_unheard, plugged}, Sending.{IsFis, IsOut, after_sent}, State.{DiskState, commands}}
 use Rattle.sata_disk.specs.declared.out.Out.{Out}
-use Rattle.gefsunk.specs.Media.{IsLoaded, RangeRule, error_of, medium_shown, misfit_of, piece, place_named, plain}
-use Rattle.gefsunk.specs.declared.event.Event.{Event}
-use Rattle.gefsunk.specs.declared.event.MediumRequest.{MediumRequest}
-use Rattle.gefsunk.specs.declared.medium.SectorRange.{SectorRange}
-use Rattle.gefsunk.specs.declared.status.Status.{Status}
+use Rattle.gefsunk.specs.{Media.{IsLoaded, RangeRule, error_of, medium_shown, misfit_of, piece, place_named, plain}, declared.event.Event.Event}
+use Rattle.gefsunk.specs.declared.{event.MediumRequest.MediumRequest, medium.SectorRange.SectorRange, status.Status.Status}
 use Rattle.gefsunk.specs.declared.status.Status.TheVariants as status
 
 -- the disk is plugged in

@@ -2,13 +2,9 @@
 -- done. A handle stays open or closed, except where something is made or freed.
 use Rattle.std.specs.Prelude.{◌≡◌, ℕ, ◌≤◌, ◌==◌, not, List, Option, Some, None}
 use Rattle.sata_disk.specs.State.{DiskState}
-use Rattle.gefsunk.specs.Pms.{opening, opening_with_port_0}
-use Rattle.gefsunk.specs.Profiles.{MakesDisk, ProfileRefused}
-use Rattle.gefsunk.specs.declared.kept.Kept.{Kept}
+use Rattle.gefsunk.specs.{Pms.{opening, opening_with_port_0}, Profiles.{MakesDisk, ProfileRefused}, declared.{kept.Kept.Kept, pm.Pm.Pm}}
+use Rattle.gefsunk.specs.declared.{profile.DiskNumbers.DiskNumbers, status.Status.Status}
 use Rattle.gefsunk.specs.declared.kept.Kept.TheVariants as kept
-use Rattle.gefsunk.specs.declared.pm.Pm.{Pm}
-use Rattle.gefsunk.specs.declared.profile.DiskNumbers.{DiskNumbers}
-use Rattle.gefsunk.specs.declared.status.Status.{Status}
 use Rattle.gefsunk.specs.declared.status.Status.TheVariants as status
 
 -- a call on the multiplier behind the handle, by its rule

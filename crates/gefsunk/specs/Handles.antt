@@ -1,8 +1,6 @@
 -- What a handle owns: the value behind its pointer, and the right to free its block.
-use Rattle.std.specs.Prelude.{Option, None, Some}
-use Rattle.std.specs.Box.Ownership.{box_owns}
-use Rattle.std_heap.specs.contracts.GlobalAllocator.TheImpl.{ghosts}
-use Rattle.std_heap.specs.declared.Global.{Global}
+use Rattle.std.specs.{Prelude.{Option, None, Some}, Box.Ownership.box_owns}
+use Rattle.std_heap.specs.{contracts.GlobalAllocator.TheImpl.ghosts, declared.Global.Global}
 use base.Fml.{Fml, ftrue, fex}
 use denote.RattleType.{RattleType}
 use denote.RawPtr.{Ptr}

@@ -1,44 +1,23 @@
 -- What the calls on a machine do, by its rules (AHCI 1.3.1, sections 3, 5.3 and 10; Serial ATA 3.x, 16).
-use Rattle.std.specs.Prelude.{◌≡◌, ℕ, ◌≤◌, ◌<◌, ◌==◌, ◌&&◌, ◌⊎◌, nat_lt, not, true, false, if◌then◌else◌, List, [], length, Option, Some, None, MatchOption, Result, MatchResult}
-use Rattle.std.specs.Bool.{MatchBool}
-use Rattle.std.specs.declared.alloc.AllocError.{AllocError}
-use Rattle.fis_view.specs.Frames.{Stamped, is_frame}
-use Rattle.fis_view.specs.declared.frame.Stamp.{Stamp}
-use Rattle.block_engine.specs.declared.request.Answer.{Answer}
-use Rattle.block_engine.specs.declared.request.Answer.TheVariants.{Failed}
+use Rattle.std.specs.Prelude.{◌≡◌, ℕ, ◌≤◌, ◌<◌, ◌==◌, ◌&&◌, ◌⊎◌, nat_lt, not, true, false, if◌then◌else◌, List, [], length, Option, Some, None}
+use Rattle.std.specs.{Prelude.{MatchOption, Result, MatchResult}, Bool.MatchBool, declared.alloc.AllocError.AllocError}
+use Rattle.fis_view.specs.{Frames.{Stamped, is_frame}, declared.frame.Stamp.Stamp}
+use Rattle.block_engine.specs.declared.request.Answer.{Answer, TheVariants.Failed}
 use Rattle.sata_disk.specs.State.{DiskState}
-use Rattle.ahci_controller.specs.Wide.{read_wide}
-use Rattle.ahci_controller.specs.declared.access.Width.{Width}
-use Rattle.ahci_controller.specs.declared.access.Width.TheVariants.{Byte, Word, Dword, Qword}
+use Rattle.ahci_controller.specs.{Wide.read_wide, declared.access.Width.{Width, TheVariants.{Byte, Word, Dword, Qword}}}
 use Rattle.ahci_controller.specs.declared.wide.WideWritten.{WideWritten}
-use Rattle.ahci_machine.specs.Acts.{Asks, Moves, unlent}
-use Rattle.ahci_machine.specs.Answers.{AnswersMachine, Holds, MissesMachine, OffersFrame, SuppliesMachine, TakesFrame, disk_at, ranges_in}
-use Rattle.ahci_machine.specs.Ports.{PlugsMachine, PullsMachine, Puts, Removes}
-use Rattle.ahci_machine.specs.Registers.{WritesMachine, lent_bytes, powered}
-use Rattle.ahci_machine.specs.States.{IsOpeningMachine, MachineState}
-use Rattle.ahci_machine.specs.declared.answers.MediumError.{MediumError}
+use Rattle.ahci_machine.specs.{Acts.{Asks, Moves, unlent}, Answers.{AnswersMachine, Holds, MissesMachine, OffersFrame, SuppliesMachine, TakesFrame}}
+use Rattle.ahci_machine.specs.{Answers.{disk_at, ranges_in}, Ports.{PlugsMachine, PullsMachine, Puts, Removes}, Registers.{WritesMachine, lent_bytes}}
+use Rattle.ahci_machine.specs.{Registers.powered, States.{IsOpeningMachine, MachineState}, declared.answers.{MediumError.MediumError, Told.Told}}
+use Rattle.ahci_machine.specs.declared.{bay.Unit.{Unit as Inside, TheVariants.Disk}, ports.PortFault.PortFault, request.MediumId.MediumId}
+use Rattle.ahci_machine.specs.declared.request.{Request.Request, Wanted.{Wanted, TheVariants.{Command, Data}}}
 use Rattle.ahci_machine.specs.declared.answers.MediumError.TheVariants as medium
-use Rattle.ahci_machine.specs.declared.answers.Told.{Told}
-use Rattle.ahci_machine.specs.declared.bay.Unit.{Unit as Inside}
-use Rattle.ahci_machine.specs.declared.bay.Unit.TheVariants.{Disk}
-use Rattle.ahci_machine.specs.declared.ports.PortFault.{PortFault}
 use Rattle.ahci_machine.specs.declared.ports.PortFault.TheVariants as fault
-use Rattle.ahci_machine.specs.declared.request.MediumId.{MediumId}
-use Rattle.ahci_machine.specs.declared.request.Request.{Request}
 use Rattle.ahci_machine.specs.declared.request.Request.TheVariants as request
-use Rattle.ahci_machine.specs.declared.request.Wanted.{Wanted}
-use Rattle.ahci_machine.specs.declared.request.Wanted.TheVariants.{Command, Data}
-use Rattle.gefsunk.specs.Media.{IsLoaded, RangeRule, error_of, medium_shown, misfit_of, piece, place_named, plain}
-use Rattle.gefsunk.specs.Pms.{no_removals}
-use Rattle.gefsunk.specs.Profiles.{MakesDisk, ProfileRefused}
-use Rattle.gefsunk.specs.declared.event.Event.{Event}
-use Rattle.gefsunk.specs.declared.event.MediumRequest.{MediumRequest}
-use Rattle.gefsunk.specs.declared.event.WantedBytes.{WantedBytes}
-use Rattle.gefsunk.specs.declared.kept.Kept.{Kept}
+use Rattle.gefsunk.specs.{Media.{IsLoaded, RangeRule, error_of, medium_shown, misfit_of, piece, place_named, plain}, Pms.no_removals}
+use Rattle.gefsunk.specs.{Profiles.{MakesDisk, ProfileRefused}, declared.event.{Event.Event, MediumRequest.MediumRequest, WantedBytes.WantedBytes}}
+use Rattle.gefsunk.specs.declared.{kept.Kept.Kept, medium.SectorRange.SectorRange, profile.DiskNumbers.DiskNumbers, status.Status.Status}
 use Rattle.gefsunk.specs.declared.kept.Kept.TheVariants as kept
-use Rattle.gefsunk.specs.declared.medium.SectorRange.{SectorRange}
-use Rattle.gefsunk.specs.declared.profile.DiskNumbers.{DiskNumbers}
-use Rattle.gefsunk.specs.declared.status.Status.{Status}
 use Rattle.gefsunk.specs.declared.status.Status.TheVariants as status
 
 -- ---- registers

@@ -2,18 +2,11 @@
 use Rattle.std.specs.Prelude.{◌≡◌, ℕ, ◌==◌, nat_lt, if◌then◌else◌, List, take, drop, slice_get, Option, Some, None, MatchOption}
 use Rattle.block_command.specs.declared.answer.AnswerError.{AnswerError}
 use Rattle.block_command.specs.declared.answer.AnswerError.TheVariants as answers
-use Rattle.block_engine.specs.declared.request.Answer.{Answer}
-use Rattle.block_engine.specs.declared.request.Answer.TheVariants.{Loaded, Done as WasDone, Failed}
-use Rattle.block_engine.specs.declared.request.ErrorKind.{ErrorKind}
-use Rattle.block_engine.specs.declared.request.ErrorKind.TheVariants.{Uncorrectable, NotFound, Aborted}
-use Rattle.block_engine.specs.declared.request.Range.{Range}
-use Rattle.block_engine.specs.declared.request.What.{What}
-use Rattle.block_engine.specs.declared.request.What.TheVariants.{Load, Store, Flush, Discard}
+use Rattle.block_engine.specs.declared.request.{Answer.{Answer, TheVariants.{Loaded, Done as WasDone, Failed}}, ErrorKind.ErrorKind}
+use Rattle.block_engine.specs.declared.request.{ErrorKind.TheVariants.{Uncorrectable, NotFound, Aborted}, Range.Range, What.{What, TheVariants.Load}}
+use Rattle.block_engine.specs.declared.request.What.TheVariants.{Store, Flush, Discard}
 use Rattle.ahci_machine.specs.declared.request.MediumId.{MediumId}
-use Rattle.gefsunk.specs.declared.event.Event.{Event}
-use Rattle.gefsunk.specs.declared.event.MediumRequest.{MediumRequest}
-use Rattle.gefsunk.specs.declared.event.WantedBytes.{WantedBytes}
-use Rattle.gefsunk.specs.declared.medium.SectorRange.{SectorRange}
+use Rattle.gefsunk.specs.declared.{event.{Event.Event, MediumRequest.MediumRequest, WantedBytes.WantedBytes}, medium.SectorRange.SectorRange}
 use Rattle.gefsunk.specs.declared.status.Status.{Status}
 use Rattle.gefsunk.specs.declared.status.Status.TheVariants as status
 

@@ -1,25 +1,20 @@
 -- What the calls on a multiplier do, by the rules of the multiplier (Serial ATA 3.x, 16.3). C does not see
 -- stamps: a FIS of the host has an empty one, and a FIS of a device has the connection that its port counted.
-use Rattle.std.specs.Prelude.{◌≡◌, ◌≢◌, ℕ, ◌+◌, ◌<◌, ◌==◌, if◌then◌else◌, min, Bool, true, false, List, replicate}
-use Rattle.std.specs.Prelude.{slice_index, slice_set, Some, None, Result, Ok, Err}
-use Rattle.fis_view.specs.Frames.{Stamped, is_frame}
-use Rattle.fis_view.specs.declared.frame.Stamp.{Stamp}
-use Rattle.fis_view.specs.declared.frame.FrameError.{FrameError}
+use Rattle.std.specs.Prelude.{◌≡◌, ◌≢◌, ℕ, ◌+◌, ◌<◌, ◌==◌, if◌then◌else◌, min, Bool, true, false, List, replicate, slice_index, slice_set, Some, None}
+use Rattle.std.specs.Prelude.{Result, Ok, Err}
+use Rattle.fis_view.specs.{Frames.{Stamped, is_frame}, declared.frame.{Stamp.Stamp, FrameError.FrameError}}
 use Rattle.fis_view.specs.declared.frame.FrameError.TheVariants as frame_error
-use Rattle.multiplier.specs.Arbiter.{control_port}
-use Rattle.multiplier.specs.Rules.{FromDeviceRule, FromHostRule, CameRule, GoneRule, NextDownRule, NextUpRule}
+use Rattle.multiplier.specs.{Arbiter.control_port, Rules.{FromDeviceRule, FromHostRule, CameRule, GoneRule, NextDownRule, NextUpRule}}
+use Rattle.multiplier.specs.declared.multiplier.{Passed.Passed, PmRefusal.PmRefusal}
 use Rattle.multiplier.specs.State as state
-use Rattle.multiplier.specs.declared.multiplier.Passed.{Passed}
 use Rattle.multiplier.specs.declared.multiplier.Passed.TheVariants as passed
-use Rattle.multiplier.specs.declared.multiplier.PmRefusal.{PmRefusal}
 use Rattle.multiplier.specs.declared.multiplier.PmRefusal.TheVariants as refusal
 use Rattle.pm_ports.specs.declared.port.Offered.TheVariants as offered
 use Rattle.pm_ports.specs.declared.port.PortError.TheVariants as port_error
 use Rattle.pm_ports.specs.declared.port.GoneError.TheVariants as gone_error
 use Rattle.pm_registers.specs.RegisterMap as map
 use Rattle.pm_registers.specs.declared.words.RegisterError.TheVariants as register_error
-use Rattle.gefsunk.specs.declared.pm.Pm.{Pm}
-use Rattle.gefsunk.specs.declared.status.Status.{Status}
+use Rattle.gefsunk.specs.declared.{pm.Pm.Pm, status.Status.Status}
 use Rattle.gefsunk.specs.declared.status.Status.TheVariants as status
 
 abbrev pub no_removals : List ℕ

@@ -1,17 +1,10 @@
 -- What a disk is (ACS-3, IDENTIFY DEVICE data), as C says it.
-use Rattle.std.specs.Prelude.{◌≡◌, ℕ, ◌≤◌, ◌<◌, ◌==◌, ◌⊎◌, not, if◌then◌else◌, List, IsUtf8, Option, Some, None, Result, Ok, Err}
-use Rattle.std.specs.Result.{IsErr}
-use Rattle.disk_pages.specs.Profiles.{capacity_of, depth_of, rpm_of}
-use Rattle.disk_pages.specs.Texts.{text_of}
-use Rattle.disk_pages.specs.declared.profile.NumberFault.{NumberFault}
-use Rattle.disk_pages.specs.declared.profile.PhysicalSector.{PhysicalSector}
-use Rattle.disk_pages.specs.declared.profile.PhysicalSector.TheVariants.{Bytes512, Bytes4096}
-use Rattle.disk_pages.specs.declared.profile.Profile.{Profile}
-use Rattle.disk_pages.specs.declared.profile.Rotation.{Rotation}
+use Rattle.std.specs.{Prelude.{◌≡◌, ℕ, ◌≤◌, ◌<◌, ◌==◌, ◌⊎◌, not, if◌then◌else◌, List, IsUtf8, Option, Some, None, Result, Ok, Err}, Result.IsErr}
+use Rattle.disk_pages.specs.{Profiles.{capacity_of, depth_of, rpm_of}, Texts.text_of, declared.profile.NumberFault.NumberFault}
+use Rattle.disk_pages.specs.declared.profile.{PhysicalSector.{PhysicalSector, TheVariants.{Bytes512, Bytes4096}}, Profile.Profile, Rotation.Rotation}
 use Rattle.disk_pages.specs.declared.profile.Rotation.TheVariants.{Unknown, Solid, Rotates}
 use Rattle.sata_disk.specs.State.{DiskState, new_disk}
-use Rattle.gefsunk.specs.declared.profile.DiskNumbers.{DiskNumbers}
-use Rattle.gefsunk.specs.declared.status.Status.{Status}
+use Rattle.gefsunk.specs.declared.{profile.DiskNumbers.DiskNumbers, status.Status.Status}
 use Rattle.gefsunk.specs.declared.status.Status.TheVariants as status
 
 abbrev pub physical_of : (bytes : ℕ) → Option PhysicalSector

@@ -1,14 +1,10 @@
 -- What the calls do that save a machine and restore it.
 use Rattle.std.specs.Prelude.{◌≡◌, ℕ, ◌≤◌, ◌<◌, List, length, Option, Some, None}
 use Rattle.saved_state.specs.Bytes.{AreWords, bytes_of}
-use Rattle.ahci_machine.specs.Saved.{machine_words}
-use Rattle.ahci_machine.specs.States.{MachineState}
-use Rattle.ahci_machine.specs.Streams.{stream_of}
-use Rattle.ahci_machine.specs.declared.state.StateError.{StateError}
+use Rattle.ahci_machine.specs.{Saved.machine_words, States.MachineState, Streams.stream_of, declared.state.StateError.StateError}
 use Rattle.ahci_machine.specs.declared.state.StateError.TheVariants as fault
-use Rattle.gefsunk.specs.declared.kept.Kept.{Kept}
+use Rattle.gefsunk.specs.declared.{kept.Kept.Kept, status.Status.Status}
 use Rattle.gefsunk.specs.declared.kept.Kept.TheVariants as kept
-use Rattle.gefsunk.specs.declared.status.Status.{Status}
 use Rattle.gefsunk.specs.declared.status.Status.TheVariants as status
 
 abbrev pub state_fault : StateError → Status

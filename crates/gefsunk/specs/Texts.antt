@@ -1,7 +1,6 @@
 -- Which bytes have a text, and what is left where they are refused.
 use Rattle.std.specs.Prelude.{◌≡◌, ℕ, ◌≤◌, true, false, List, Err, IsOk}
-use Rattle.fis_view.specs.Frames.{is_frame}
-use Rattle.fis_view.specs.Seen.{seen}
+use Rattle.fis_view.specs.{Frames.is_frame, Seen.seen}
 use Rattle.fis_view.specs.declared.view.FisFault.TheVariants as fault
 use Rattle.gefsunk.specs.declared.status.Status.{Status}
 use Rattle.gefsunk.specs.declared.status.Status.TheVariants as status

@@ -1,8 +1,7 @@
 -- What writing bytes one after another leaves of a block.
 use Rattle.std.proofs.Common.{◌≡◌, ℕ, suc, ◌+◌, ◌-◌, ◌≤◌, List, [], ◌∷◌, ◌++◌, length, take, drop, set, sym, ap, ◌∙◌, arith, append_assoc}
 use Rattle.std.proofs.lemmas.List.{drop-set-lt, take_more_set, take-append-drop, length-set}
-use Rattle.guest_bytes.specs.Guest.{singles_from}
-use Rattle.guest_bytes.specs.Flat.{written_by, overwritten}
+use Rattle.guest_bytes.specs.{Guest.singles_from, Flat.{written_by, overwritten}}
 
 -- bytes written in order from a place on are there, and all others are as they were
 pub written_run : (base start : ℕ) (bytes old : List ℕ) → start + length bytes ≤ length old

@@ -1,8 +1,7 @@
 -- The bytes of a memory, and the entries that they spell.
 use Rattle.std.proofs.Common.{◌≡◌, ℕ, zero, suc, ◌+◌, ◌-◌, ◌*◌, ◌≤◌, ◌∷◌, ◌++◌, length, drop, refl, sym, ap, ◌∙◌, arith}
 use Rattle.byteorder.specs.Endian.{little_number}
-use Rattle.guest_fetch.specs.Entries.{dword_at, entry_at, entry_of_dwords, entries_at}
-use Rattle.guest_fetch.specs.Reading.{bytes_in, entries_in}
+use Rattle.guest_fetch.specs.{Entries.{dword_at, entry_at, entry_of_dwords, entries_at}, Reading.{bytes_in, entries_in}}
 
 drop_bytes : (memory : ℕ → ℕ) (at n k : ℕ) → k ≤ n → drop k (bytes_in memory at n) ≡ bytes_in memory (at + k) (n - k)
 drop_bytes memory at n zero h =

@@ -1,21 +1,13 @@
 -- The rules of restored commands, whole or in part: what is tested is what every value keeps.
 use Rattle.std.proofs.Common.{◌≡◌, ℕ, ◌+◌, ◌<◌, ◌≤◌, ◌^◌, Bool, true, Option, Some, None, List, [], ◌∷◌, Err, refl, sym, ap, ◌∙◌, arith}
+use Rattle.std.proofs.{Math.Dec.{leb, ltb, eqb}, lemmas.Bool.{and_from, and_parts, eq-eqb, eqb-true, le-leb, leb-true, lt-ltb, ltb-true}}
 use Rattle.std.specs.Prelude.{◌&&◌, is_none}
-use Rattle.std.proofs.Math.Dec.{leb, ltb, eqb}
-use Rattle.std.proofs.lemmas.Bool.{and_from, and_parts, eq-eqb, eqb-true, le-leb, leb-true, lt-ltb, ltb-true}
-use Rattle.guest_fetch.specs.declared.fetch.Step.{Step}
-use Rattle.guest_fetch.specs.declared.fetch.Step.TheVariants.{AtHeader, AtFis, AtEntries}
-use Rattle.guest_fetch.specs.declared.header.Header.{Header}
-use Rattle.guest_fetch.specs.Commands.{Fetched, IsCommand}
-use Rattle.guest_fetch.specs.Fetch.{Fetching}
-use Rattle.guest_fetch.specs.Fetching.{IsFetching, IsStep, wants_more}
-use Rattle.guest_fetch.specs.Headers.{IsTaken, header_refusal}
-use Rattle.guest_fetch.specs.Places.{reach_of}
-use Rattle.guest_fetch.specs.Saved.{is_header, is_taken, table_words}
-use Rattle.guest_fetch.specs.SavedCommands.{CommandParts, KeepsCommand, KeepsFetch, KeepsStep, command_of_parts, command_parts, fetch_parts, is_command, is_fetching, head_words, is_step, of_command, of_fetch, put_step}
-use Rattle.saved_state.specs.declared.words.RestoreError.{RestoreError}
-use Rattle.saved_state.specs.declared.words.RestoreError.TheVariants.{OutOfMemory, Short, NoSuch, Broken}
-use Rattle.saved_state.specs.Parts.{both}
+use Rattle.guest_fetch.specs.{declared.{fetch.Step.{Step, TheVariants.{AtHeader, AtFis, AtEntries}}, header.Header.Header}, Commands.Fetched}
+use Rattle.guest_fetch.specs.{Commands.IsCommand, Fetch.Fetching, Fetching.{IsFetching, IsStep, wants_more}, Headers.{IsTaken, header_refusal}}
+use Rattle.guest_fetch.specs.{Places.reach_of, Saved.{is_header, is_taken, table_words}, SavedCommands.{CommandParts, KeepsCommand, KeepsFetch}}
+use Rattle.guest_fetch.specs.SavedCommands.{KeepsStep, command_of_parts, command_parts, fetch_parts, is_command, is_fetching, head_words, is_step}
+use Rattle.guest_fetch.specs.SavedCommands.{of_command, of_fetch, put_step}
+use Rattle.saved_state.specs.{declared.words.RestoreError.{RestoreError, TheVariants.{OutOfMemory, Short, NoSuch, Broken}}, Parts.both}
 use Rattle.saved_state.specs.State.{NotSaved, Restores}
 
 none_then : {A : Type 0} (o : Option A) → is_none o ≡ true → o ≡ None

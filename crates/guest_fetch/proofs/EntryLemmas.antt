@@ -1,10 +1,8 @@
 -- Facts about the entries of a table as they are read.
 use Rattle.std.proofs.Common.{◌≡◌, ℕ, zero, suc, ◌+◌, ◌-◌, ◌*◌, ◌<◌, ◌≤◌, Option, Some, None, List, [], ◌∷◌, refl, ap, ◌∙◌, arith}
 use Rattle.std.proofs.lemmas.Bool.Decides.{nat_tests}
-use Rattle.guest_fetch.specs.declared.entry.Entry.{Entry}
-use Rattle.guest_fetch.specs.declared.entry.EntryFault.{EntryFault}
-use Rattle.guest_fetch.specs.declared.entry.FaultyEntry.{FaultyEntry}
-use Rattle.guest_fetch.specs.Entries.{IsEntry, entry_at, entries_at, entry_fault, fault_or, first_fault, reached}
+use Rattle.guest_fetch.specs.{declared.entry.{Entry.Entry, EntryFault.EntryFault, FaultyEntry.FaultyEntry}, Entries.{IsEntry, entry_at, entries_at}}
+use Rattle.guest_fetch.specs.Entries.{entry_fault, fault_or, first_fault, reached}
 
 -- the entries from the i-th on are that one and those after it
 pub entries_next : (raw : List ℕ) (count i : ℕ) → i < count → entries_at raw (16 * i) (count - i) ≡ entry_at raw (16 * i) ∷ entries_at raw (16 * (i + 1)) (count - (i + 1))

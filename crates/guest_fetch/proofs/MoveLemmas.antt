@@ -1,14 +1,11 @@
 -- Facts about the moves of a payload.
-use Rattle.std.proofs.Common.{◌≡◌, ℕ, zero, suc, ◌+◌, ◌-◌, ◌<◌, ◌≤◌, ◌&&◌, min, nat_lt, nat_le, false, List, [], ◌∷◌, ◌++◌, length, take, drop, slice_get, Some, All, refl, sym, ap, ◌∙◌, arith, inl, inr, length-drop}
-use Rattle.std.proofs.lemmas.Bool.{cond-true, cond-false, lt-ltb, le-ltb, cases_lt}
-use Rattle.std.proofs.lemmas.Bool.Decides.{nat_tests}
-use Rattle.std.proofs.Math.Seq.{take-add, take-append-add, take-length}
-use Rattle.std.proofs.lemmas.List.{take-append-le, length-take, length-take-le, drop-drop}
-use Rattle.std.proofs.lemmas.List.Elements.{All-nil, All-cons}
-use Rattle.guest_fetch.specs.declared.entry.Entry.{Entry}
-use Rattle.guest_fetch.specs.Entries.{IsEntry}
-use Rattle.guest_fetch.specs.Places.{DataAreOneTransfer, GoesOnlyToItsTable, Single, named, place, reach_of, room_at, single, singles, singles_from, total_of}
-use Rattle.guest_fetch.specs.Moves.{Begins, IsMove, any_told, completes, move_of, moves_at, moves_of}
+use Rattle.std.proofs.Common.{◌≡◌, ℕ, zero, suc, ◌+◌, ◌-◌, ◌<◌, ◌≤◌, ◌&&◌, min, nat_lt, nat_le, false, List, [], ◌∷◌, ◌++◌, length, take, drop}
+use Rattle.std.proofs.{Common.{slice_get, Some, All, refl, sym, ap, ◌∙◌, arith, inl, inr, length-drop}, lemmas.Bool.{cond-true, cond-false, lt-ltb}}
+use Rattle.std.proofs.{lemmas.{Bool.{le-ltb, cases_lt, Decides.nat_tests}, List.{take-append-le}}, Math.Seq.{take-add, take-append-add, take-length}}
+use Rattle.std.proofs.lemmas.List.{length-take, length-take-le, drop-drop, Elements.{All-nil, All-cons}}
+use Rattle.guest_fetch.specs.{declared.entry.Entry.Entry, Entries.IsEntry, Places.{DataAreOneTransfer, GoesOnlyToItsTable, Single, named, place}}
+use Rattle.guest_fetch.specs.{Places.{reach_of, room_at, single, singles, singles_from, total_of}, Moves.{Begins, IsMove, any_told, completes}}
+use Rattle.guest_fetch.specs.Moves.{move_of, moves_at, moves_of}
 
 tail : (e : Entry) (rest : List Entry) → All IsEntry (e ∷ rest) → All IsEntry rest
 tail e rest are k d h = are (suc k) d (omega arith)

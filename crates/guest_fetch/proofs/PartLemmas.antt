@@ -1,11 +1,8 @@
 -- Entries in parts.
-use Rattle.std.proofs.Common.{◌≡◌, ℕ, zero, suc, ◌+◌, ◌-◌, ◌<◌, Option, Some, None, List, [], ◌∷◌, ◌++◌, length, refl, sym, ap, ◌∙◌, arith, append_assoc, length-append}
-use Rattle.guest_fetch.specs.declared.entry.Entry.{Entry}
-use Rattle.guest_fetch.specs.declared.entry.EntryFault.{EntryFault}
-use Rattle.guest_fetch.specs.declared.entry.FaultyEntry.{FaultyEntry}
-use Rattle.guest_fetch.specs.Entries.{entry_fault, fault_or, first_fault, reached}
-use Rattle.guest_fetch.specs.Places.{Places, total_of}
-use Rattle.guest_fetch.specs.Spans.{left_of, with_entries}
+use Rattle.std.proofs.Common.{◌≡◌, ℕ, zero, suc, ◌+◌, ◌-◌, ◌<◌, Option, Some, None, List, [], ◌∷◌, ◌++◌, length, refl, sym, ap, ◌∙◌, arith}
+use Rattle.std.proofs.Common.{append_assoc, length-append}
+use Rattle.guest_fetch.specs.{declared.entry.{Entry.Entry, EntryFault.EntryFault, FaultyEntry.FaultyEntry}, Entries.{entry_fault, fault_or}}
+use Rattle.guest_fetch.specs.{Entries.{first_fault, reached}, Places.{Places, total_of}, Spans.{left_of, with_entries}}
 use Rattle.guest_fetch.proofs.EntryLemmas.{fault_none, reached_none}
 
 pub append-nil : (xs : List Entry) → xs ++ [] ≡ xs

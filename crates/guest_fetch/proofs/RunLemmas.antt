@@ -1,25 +1,14 @@
 -- A command that comes in parts is the one that lies there.
-use Rattle.std.proofs.Common.{◌≡◌, ℕ, zero, suc, ◌+◌, ◌-◌, ◌*◌, ◌<◌, ◌≤◌, if◌then◌else◌, Bool, true, false, Option, Some, None, List, [], ◌++◌, length, refl, sym, ap, ◌∙◌, arith, ◌⊎◌, inl, inr}
-use Rattle.std.proofs.lemmas.Bool.{cases_lt}
-use Rattle.std.proofs.lemmas.Bool.Decides.{nat_tests}
-use Rattle.guest_fetch.specs.declared.entry.Entry.{Entry}
-use Rattle.guest_fetch.specs.declared.entry.FaultyEntry.{FaultyEntry}
-use Rattle.guest_fetch.specs.declared.fetch.Step.TheVariants.{AtEntries}
-use Rattle.guest_fetch.specs.declared.fetch.Supplied.{Supplied}
-use Rattle.guest_fetch.specs.declared.fetch.Supplied.TheVariants.{More, Whole, Refused}
-use Rattle.guest_fetch.specs.declared.head.Head.{Head}
-use Rattle.guest_fetch.specs.declared.header.Header.{Header}
-use Rattle.guest_fetch.specs.declared.refusal.Refusal.{Refusal}
+use Rattle.std.proofs.Common.{◌≡◌, ℕ, zero, suc, ◌+◌, ◌-◌, ◌*◌, ◌<◌, ◌≤◌, if◌then◌else◌, Bool, true, false, Option, Some, None, List, [], ◌++◌}
+use Rattle.std.proofs.{Common.{length, refl, sym, ap, ◌∙◌, arith, ◌⊎◌, inl, inr}, lemmas.Bool.{cases_lt, Decides.nat_tests}}
+use Rattle.guest_fetch.specs.declared.{entry.{Entry.Entry, FaultyEntry.FaultyEntry}, fetch.{Step.TheVariants.AtEntries, Supplied.Supplied}}
+use Rattle.guest_fetch.specs.declared.{fetch.Supplied.TheVariants.{More, Whole, Refused}, head.Head.Head, header.Header.Header}
+use Rattle.guest_fetch.specs.{declared.refusal.Refusal.Refusal, Entries.{entries_at, first_fault, reached}, Fetching.{asked, framed, headed}}
+use Rattle.guest_fetch.specs.{Fetching.{no_entries, tabled, wants_more}, Headers.{entries_place, header_place, header_refusal}, Heads.fis_refusal}
+use Rattle.guest_fetch.specs.{Heads.head_of, Places.{Places, total_of}, Reading.{CommandIsOfItsParts, Guest, after_parts, bytes_in, entries_in}}
+use Rattle.guest_fetch.specs.{Reading.{go_on, header_at, part_for, refused_or, with_head, with_header, with_table}, Spans.{left_of, with_entries}}
 use Rattle.guest_fetch.specs.declared.refusal.Refusal.TheVariants as refusal
-use Rattle.guest_fetch.specs.Entries.{entries_at, first_fault, reached}
-use Rattle.guest_fetch.specs.Fetching.{asked, framed, headed, no_entries, tabled, wants_more}
-use Rattle.guest_fetch.specs.Headers.{entries_place, header_place, header_refusal}
-use Rattle.guest_fetch.specs.Heads.{fis_refusal, head_of}
-use Rattle.guest_fetch.specs.Places.{Places, total_of}
-use Rattle.guest_fetch.specs.Reading.{CommandIsOfItsParts, Guest, after_parts, bytes_in, entries_in, go_on, header_at, part_for, refused_or, with_head, with_header, with_table}
-use Rattle.guest_fetch.specs.Spans.{left_of, with_entries}
-use Rattle.guest_fetch.proofs.ByteLemmas.{entries_are, entries_split, length-entries_in}
-use Rattle.guest_fetch.proofs.EntryLemmas.{fault_none, reached_none}
+use Rattle.guest_fetch.proofs.{ByteLemmas.{entries_are, entries_split, length-entries_in}, EntryLemmas.{fault_none, reached_none}}
 use Rattle.guest_fetch.proofs.PartLemmas.{all_reached, count_with, either, fault_append, left_with, with_both, with_first}
 
 -- the answer once no entry is left to come

@@ -1,18 +1,12 @@
 -- The rules of restored tables: what is tested is what every value keeps, and entries as they are kept are given back.
-use Rattle.std.proofs.Common.{◌≡◌, ℕ, zero, suc, ◌+◌, ◌-◌, ◌<◌, ◌≤◌, Bool, true, Option, Some, None, List, [], ◌∷◌, length, take, refl, sym, ap, subst, ◌∙◌, arith}
+use Rattle.std.proofs.Common.{◌≡◌, ℕ, zero, suc, ◌+◌, ◌-◌, ◌<◌, ◌≤◌, Bool, true, Option, Some, None, List, [], ◌∷◌, length, take, refl, sym, ap}
+use Rattle.std.proofs.{Common.{subst, ◌∙◌, arith}, Math.Dec.{leb, ltb}, lemmas.Bool.{and_from, and_parts, le-leb, leb-true, lt-ltb, ltb-true}}
+use Rattle.std.proofs.lemmas.{Bool.Decides.nat_tests, List.Elements.{All-cons, All-nil}}
 use Rattle.std.specs.Prelude.{◌&&◌, is_none}
-use Rattle.std.proofs.Math.Dec.{leb, ltb}
-use Rattle.std.proofs.lemmas.Bool.{and_from, and_parts, le-leb, leb-true, lt-ltb, ltb-true}
-use Rattle.std.proofs.lemmas.Bool.Decides.{nat_tests}
-use Rattle.std.proofs.lemmas.List.Elements.{All-cons, All-nil}
-use Rattle.guest_fetch.specs.declared.entry.Entry.{Entry}
-use Rattle.guest_fetch.specs.declared.span.Span.{Span}
-use Rattle.guest_fetch.specs.Entries.{IsEntry, entry_fault}
-use Rattle.guest_fetch.specs.Places.{Places, total_of}
-use Rattle.guest_fetch.specs.Spans.{IsTable, entries_from, entry_from, most_bytes, table_of}
-use Rattle.guest_fetch.specs.Saved.{StandFrom, are_spans, is_table, may_follow, span_from, spans_from, stand_now, stand_of, stand_on, table_parts}
-use Rattle.guest_fetch.proofs.EntryLemmas.{entry_is}
-use Rattle.guest_fetch.proofs.SpanLemmas.{length-entries}
+use Rattle.guest_fetch.specs.{declared.{entry.Entry.Entry, span.Span.Span}, Entries.{IsEntry, entry_fault}, Places.{Places, total_of}, Spans.IsTable}
+use Rattle.guest_fetch.specs.{Spans.{entries_from, entry_from, most_bytes, table_of}, Saved.{StandFrom, are_spans, is_table, may_follow, span_from}}
+use Rattle.guest_fetch.specs.Saved.{spans_from, stand_now, stand_of, stand_on, table_parts}
+use Rattle.guest_fetch.proofs.{EntryLemmas.entry_is, SpanLemmas.{length-entries}}
 
 none_then : {A : Type 0} (o : Option A) → is_none o ≡ true → o ≡ None
 none_then None e = refl

@@ -1,14 +1,10 @@
 -- Facts about entries as they are kept.
-use Rattle.std.proofs.Common.{◌≡◌, ℕ, zero, suc, ◌+◌, ◌-◌, ◌*◌, ◌<◌, ◌≤◌, min, None, List, [], ◌∷◌, ◌++◌, All, length, take, drop, refl, sym, ap, ◌∙◌, arith, inl, inr, length-append, append_assoc}
-use Rattle.std.proofs.lemmas.Bool.{cases_lt}
-use Rattle.std.proofs.lemmas.List.{take-append-le}
-use Rattle.std.proofs.Math.Seq.{take-length}
+use Rattle.std.proofs.Common.{◌≡◌, ℕ, zero, suc, ◌+◌, ◌-◌, ◌*◌, ◌<◌, ◌≤◌, min, None, List, [], ◌∷◌, ◌++◌, All, length, take, drop, refl, sym, ap, ◌∙◌}
+use Rattle.std.proofs.{Common.{arith, inl, inr, length-append, append_assoc}, lemmas.{Bool.cases_lt, List.{take-append-le}}, Math.Seq.{take-length}}
 use Rattle.std.proofs.lemmas.List.Elements.{All-cons, All-nil, All-append}
-use Rattle.guest_fetch.specs.declared.entry.Entry.{Entry}
-use Rattle.guest_fetch.specs.declared.span.Span.{Span}
-use Rattle.guest_fetch.specs.Entries.{IsEntry, entry_at, entries_at, entry_fault, first_fault, reached}
-use Rattle.guest_fetch.specs.Places.{reach_of, total_of}
-use Rattle.guest_fetch.specs.Spans.{IsNeeded, IsTable, begin_from, begin_in, entries_from, entry_from, table_of}
+use Rattle.guest_fetch.specs.{declared.{entry.Entry.Entry, span.Span.Span}, Entries.{IsEntry, entry_at, entries_at, entry_fault, first_fault}}
+use Rattle.guest_fetch.specs.{Entries.reached, Places.{reach_of, total_of}, Spans.{IsNeeded, IsTable, begin_from, begin_in, entries_from, entry_from}}
+use Rattle.guest_fetch.specs.Spans.{table_of}
 use Rattle.guest_fetch.proofs.EntryLemmas.{entries_next, entry_is, fault_cons, none_of, reached_cons, reached_none}
 
 tail : (e : Entry) (rest : List Entry) → All IsEntry (e ∷ rest) → All IsEntry rest

@@ -1,17 +1,11 @@
 -- The moves one by one.
-use Rattle.std.proofs.Common.{◌≡◌, ℕ, zero, suc, ◌+◌, ◌-◌, ◌<◌, ◌≤◌, min, List, [], ◌∷◌, length, take, drop, get_or, All, sym, ap, subst, ◌∙◌, arith, inl, inr}
-use Rattle.std.proofs.lemmas.Bool.{cases_lt}
-use Rattle.std.proofs.lemmas.List.{drop_all, drop_more}
-use Rattle.std.proofs.lemmas.List.Elements.{All-drop}
-use Rattle.guest_fetch.specs.declared.entry.Entry.{Entry}
-use Rattle.guest_fetch.specs.declared.moves.Move.{Move}
-use Rattle.guest_fetch.specs.declared.span.Span.{Span}
-use Rattle.guest_fetch.specs.Entries.{IsEntry}
-use Rattle.guest_fetch.specs.Places.{Delivers, Places, room_at, singles, total_of}
-use Rattle.guest_fetch.specs.Spans.{IsTable, begin_in, entries_from, entry_from, no_span, table_of}
-use Rattle.guest_fetch.specs.Moves.{Begins, HoldMoves, IsMove, any_told, completes, move_of, moves_at, moves_of}
-use Rattle.guest_fetch.proofs.MoveLemmas.{at_are, at_bring, at_few, at_tell, moves_at_is, moves_cons}
-use Rattle.guest_fetch.proofs.SpanLemmas.{drop_entries, total_is, total_take}
+use Rattle.std.proofs.Common.{◌≡◌, ℕ, zero, suc, ◌+◌, ◌-◌, ◌<◌, ◌≤◌, min, List, [], ◌∷◌, length, take, drop, get_or, All, sym, ap, subst, ◌∙◌, arith}
+use Rattle.std.proofs.{Common.{inl, inr}, lemmas.{Bool.cases_lt, List.{drop_all, drop_more, Elements.{All-drop}}}}
+use Rattle.guest_fetch.specs.{declared.{entry.Entry.Entry, moves.Move.Move, span.Span.Span}, Entries.IsEntry, Places.{Delivers, Places, room_at}}
+use Rattle.guest_fetch.specs.{Places.{singles, total_of}, Spans.{IsTable, begin_in, entries_from, entry_from, no_span, table_of}, Moves.Begins}
+use Rattle.guest_fetch.specs.Moves.{HoldMoves, IsMove, any_told, completes, move_of, moves_at, moves_of}
+use Rattle.guest_fetch.proofs.{MoveLemmas.{at_are, at_bring, at_few, at_tell, moves_at_is, moves_cons}, SpanLemmas.{drop_entries, total_is}}
+use Rattle.guest_fetch.proofs.SpanLemmas.{total_take}
 
 all_same : (xs ys : List Entry) → xs ≡ ys → All IsEntry xs → All IsEntry ys
 all_same xs ys same are = subst (λ (es : List Entry). All IsEntry es) same are

@@ -1,18 +1,11 @@
 -- One supply after another.
-use Rattle.std.proofs.Common.{◌≡◌, ℕ, ◌+◌, ◌-◌, ◌/◌, min, if◌then◌else◌, Bool, true, false, Option, Some, None, List, [], ◌∷◌, ◌++◌, length, sym, ap, ◌∙◌, arith}
-use Rattle.guest_fetch.specs.declared.command.Command.{Command}
-use Rattle.guest_fetch.specs.declared.entry.FaultyEntry.{FaultyEntry}
-use Rattle.guest_fetch.specs.declared.fetch.Step.TheVariants.{AtEntries}
-use Rattle.guest_fetch.specs.declared.fetch.Supplied.TheVariants.{More, Whole}
-use Rattle.guest_fetch.specs.declared.head.Head.{Head}
-use Rattle.guest_fetch.specs.declared.header.Header.{Header}
-use Rattle.guest_fetch.specs.declared.refusal.Refusal.{Refusal}
-use Rattle.guest_fetch.specs.Entries.{entries_at, first_fault, reached}
-use Rattle.guest_fetch.specs.Fetching.{asked, framed, headed, no_entries, tabled, wants_more}
-use Rattle.guest_fetch.specs.Headers.{header_in, header_refusal}
-use Rattle.guest_fetch.specs.Heads.{fis_refusal, head_of}
-use Rattle.guest_fetch.specs.Places.{Places, reach_of}
-use Rattle.guest_fetch.specs.Runs.{Comes, CommandIsWhatWasSupplied, CountIsOfBytes, IsSupplied, Then, counted, counted_all, entries_of, sum_of}
+use Rattle.std.proofs.Common.{◌≡◌, ℕ, ◌+◌, ◌-◌, ◌/◌, min, if◌then◌else◌, Bool, true, false, Option, Some, None, List, [], ◌∷◌, ◌++◌, length, sym, ap}
+use Rattle.std.proofs.Common.{◌∙◌, arith}
+use Rattle.guest_fetch.specs.declared.{command.Command.Command, entry.FaultyEntry.FaultyEntry, fetch.Step.TheVariants.AtEntries}
+use Rattle.guest_fetch.specs.declared.{fetch.Supplied.TheVariants.{More, Whole}, head.Head.Head, header.Header.Header, refusal.Refusal.Refusal}
+use Rattle.guest_fetch.specs.{Entries.{entries_at, first_fault, reached}, Fetching.{asked, framed, headed, no_entries, tabled, wants_more}}
+use Rattle.guest_fetch.specs.{Headers.{header_in, header_refusal}, Heads.{fis_refusal, head_of}, Places.{Places, reach_of}, Runs.Comes}
+use Rattle.guest_fetch.specs.Runs.{CommandIsWhatWasSupplied, CountIsOfBytes, IsSupplied, Then, counted, counted_all, entries_of, sum_of}
 use Rattle.guest_fetch.specs.Spans.{left_of, with_entries}
 use Rattle.guest_fetch.proofs.PartLemmas.{append-nil, with_both}
 

@@ -1,8 +1,6 @@
 -- How many bytes a command moves at most.
-use Rattle.std.proofs.Common.{ℕ, ◌*◌, ◌<◌, ◌≤◌, ◌||◌, if◌then◌else◌, Bool, true, false, arith}
-use Rattle.std.proofs.lemmas.Bool.Decides.{nat_tests}
-use Rattle.slots.specs.declared.work.Kind.{Kind}
-use Rattle.slots.specs.declared.work.Kind.TheVariants.{QueuedRead, QueuedWrite, DmaIn, DmaOut, PioIn, PioOut, NoData, Control}
+use Rattle.std.proofs.{Common.{ℕ, ◌*◌, ◌<◌, ◌≤◌, ◌||◌, if◌then◌else◌, Bool, true, false, arith}, lemmas.Bool.Decides.nat_tests}
+use Rattle.slots.specs.declared.work.Kind.{Kind, TheVariants.{QueuedRead, QueuedWrite, DmaIn, DmaOut, PioIn, PioOut, NoData, Control}}
 use Rattle.fis_view.specs.declared.build.H2dFields.{H2dFields}
 use Rattle.hba_commands.specs.Requests.{counted, few_sectors, is_page, is_smart_page, is_wide, kind_of, length_of, request_of, sectors, work_of}
 

@@ -1,8 +1,6 @@
 -- A command, as it was supplied.
 use Rattle.std.specs.Prelude.{◌≡◌, ℕ, ◌+◌, ◌^◌, ◌≤◌}
-use Rattle.guest_fetch.specs.declared.head.Head.{Head}
-use Rattle.guest_fetch.specs.Headers.{IsTaken}
-use Rattle.guest_fetch.specs.Places.{Places, reach_of}
+use Rattle.guest_fetch.specs.{declared.head.Head.Head, Headers.IsTaken, Places.{Places, reach_of}}
 
 -- where its header lies; header and FIS; where its bytes lie; how many of them were moved, in either direction
 pub record Fetched : Type 0 where

@@ -1,10 +1,8 @@
 -- The entries of a command's table: AHCI 1.3.1, section 4.2.3.3, Physical Region Descriptor Table.
-use Rattle.std.specs.Prelude.{◌≡◌, ℕ, ◌+◌, ◌-◌, ◌*◌, ◌/◌, ◌%◌, ◌^◌, ◌==◌, ◌<◌, ◌≤◌, if◌then◌else◌, nat_lt}
-use Rattle.std.specs.Prelude.{List, [], ◌∷◌, drop, Option, Some, None, zero, suc}
+use Rattle.std.specs.Prelude.{◌≡◌, ℕ, ◌+◌, ◌-◌, ◌*◌, ◌/◌, ◌%◌, ◌^◌, ◌==◌, ◌<◌, ◌≤◌, if◌then◌else◌, nat_lt, List, [], ◌∷◌, drop, Option, Some, None}
+use Rattle.std.specs.Prelude.{zero, suc}
 use Rattle.byteorder.specs.Endian.{little_number}
-use Rattle.guest_fetch.specs.declared.entry.Entry.{Entry}
-use Rattle.guest_fetch.specs.declared.entry.EntryFault.{EntryFault}
-use Rattle.guest_fetch.specs.declared.entry.EntryFault.TheVariants.{OddAddress, OddCount, PastEnd}
+use Rattle.guest_fetch.specs.declared.entry.{Entry.Entry, EntryFault.{EntryFault, TheVariants.{OddAddress, OddCount, PastEnd}}}
 use Rattle.guest_fetch.specs.declared.entry.FaultyEntry.{FaultyEntry}
 
 -- the dword at this place, least significant byte first

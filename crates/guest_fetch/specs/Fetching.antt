@@ -1,26 +1,15 @@
 -- How the command of a slot is read: AHCI 1.3.1, sections 4.2.2 and 4.2.3 (what lies where), 5.3.6 and 5.4 (a controller
 -- fetches header, FIS and entries when it needs them). Each part tells where the next one lies. What was supplied is what
 -- counts: nothing is read twice.
-use Rattle.std.specs.Prelude.{◌≡◌, ℕ, ◌+◌, ◌-◌, ◌*◌, ◌/◌, ◌^◌, ◌≤◌, min, nat_lt, ◌&&◌, if◌then◌else◌}
-use Rattle.std.specs.Prelude.{Bool, true, List, [], length, Option, Some, None}
-use Rattle.guest_fetch.specs.declared.entry.FaultyEntry.{FaultyEntry}
-use Rattle.guest_fetch.specs.declared.fetch.Step.{Step}
-use Rattle.guest_fetch.specs.declared.fetch.Step.TheVariants.{AtHeader, AtFis, AtEntries}
-use Rattle.guest_fetch.specs.declared.fetch.Supplied.{Supplied}
-use Rattle.guest_fetch.specs.declared.fetch.Supplied.TheVariants.{More, Whole, Refused, OutOfMemory}
-use Rattle.guest_fetch.specs.declared.head.Head.{Head}
-use Rattle.guest_fetch.specs.declared.header.Header.{Header}
-use Rattle.guest_fetch.specs.declared.refusal.Part.{Part}
+use Rattle.std.specs.Prelude.{◌≡◌, ℕ, ◌+◌, ◌-◌, ◌*◌, ◌/◌, ◌^◌, ◌≤◌, min, nat_lt, ◌&&◌, if◌then◌else◌, Bool, true, List, [], length, Option, Some}
+use Rattle.std.specs.Prelude.{None}
+use Rattle.guest_fetch.specs.declared.{entry.FaultyEntry.FaultyEntry, fetch.Step.{Step, TheVariants.{AtHeader, AtFis, AtEntries}}}
+use Rattle.guest_fetch.specs.declared.{fetch.Supplied.{Supplied, TheVariants.{More, Whole, Refused, OutOfMemory}}, head.Head.Head}
+use Rattle.guest_fetch.specs.{declared.{header.Header.Header, refusal.{Part.Part, Refusal.Refusal}, want.Want.Want}, Entries.entries_at}
+use Rattle.guest_fetch.specs.{Entries.first_fault, Headers.{IsTaken, entries_place, header_in, header_refusal}, Heads.{fis_refusal, head_of}}
+use Rattle.guest_fetch.specs.{Fetch.Fetching, Places.Places, Spans.{left_of, with_entries}}
 use Rattle.guest_fetch.specs.declared.refusal.Part.TheVariants as part
-use Rattle.guest_fetch.specs.declared.refusal.Refusal.{Refusal}
 use Rattle.guest_fetch.specs.declared.refusal.Refusal.TheVariants as refusal
-use Rattle.guest_fetch.specs.declared.want.Want.{Want}
-use Rattle.guest_fetch.specs.Entries.{entries_at, first_fault}
-use Rattle.guest_fetch.specs.Headers.{IsTaken, entries_place, header_in, header_refusal}
-use Rattle.guest_fetch.specs.Heads.{fis_refusal, head_of}
-use Rattle.guest_fetch.specs.Fetch.{Fetching}
-use Rattle.guest_fetch.specs.Places.{Places}
-use Rattle.guest_fetch.specs.Spans.{left_of, with_entries}
 
 -- ---- what is wanted next
 

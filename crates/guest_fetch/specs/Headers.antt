@@ -1,9 +1,7 @@
 -- The header of a command slot: AHCI 1.3.1, section 4.2.2, Command List Structure.
 use Rattle.std.specs.Prelude.{◌≡◌, ℕ, ◌+◌, ◌*◌, ◌/◌, ◌^◌, ◌<◌, ◌≤◌, ◌==◌, ◌||◌, nat_lt, if◌then◌else◌, List, Option, Some, None}
-use Rattle.guest_fetch.specs.declared.header.Header.{Header}
-use Rattle.guest_fetch.specs.declared.refusal.Refusal.{Refusal}
+use Rattle.guest_fetch.specs.{declared.{header.Header.Header, refusal.Refusal.Refusal}, Entries.{bits_of, dword_at}}
 use Rattle.guest_fetch.specs.declared.refusal.Refusal.TheVariants as refusal
-use Rattle.guest_fetch.specs.Entries.{bits_of, dword_at}
 
 -- where the header of a slot lies, in a list that begins at this address (PxCLB, PxCLBU)
 abbrev pub header_place : (list slot : ℕ) → ℕ

@@ -1,20 +1,13 @@
 -- The FIS of a command, with its header: Serial ATA 3.x, section 10.5.5 (Register Host to Device FIS); AHCI 1.3.1, section
 -- 4.2.3.1 (CFIS).
-use Rattle.std.specs.Prelude.{ℕ, ◌*◌, ◌==◌, ◌&&◌, ◌||◌, Bool, true, false, not, nat_le, if◌then◌else◌, List, length, take}
-use Rattle.std.specs.Prelude.{slice_index, Option, Some, None, Result, Ok}
-use Rattle.fis_view.specs.Seen.{seen}
-use Rattle.fis_view.specs.Table.{H2d, PmPort, C, Command, Features, Lba, Device, Count, Icc, Control, field}
-use Rattle.fis_view.specs.declared.build.H2dFields.{H2dFields}
-use Rattle.fis_view.specs.declared.view.Fis.{Fis}
+use Rattle.std.specs.Prelude.{ℕ, ◌*◌, ◌==◌, ◌&&◌, ◌||◌, Bool, true, false, not, nat_le, if◌then◌else◌, List, length, take, slice_index, Option, Some}
+use Rattle.std.specs.Prelude.{None, Result, Ok}
+use Rattle.fis_view.specs.{Seen.seen, Table.{H2d, PmPort, C, Command, Features, Lba, Device, Count, Icc, Control, field}}
+use Rattle.fis_view.specs.declared.{build.H2dFields.H2dFields, view.{Fis.Fis, FisFault.FisFault}}
 use Rattle.fis_view.specs.declared.view.Fis.TheVariants as view
-use Rattle.fis_view.specs.declared.view.FisFault.{FisFault}
 use Rattle.hba_commands.specs.Requests.{request_of, sectors, work_of}
-use Rattle.slots.specs.declared.work.Kind.{Kind}
-use Rattle.slots.specs.declared.work.Kind.TheVariants.{DmaOut, PioOut}
-use Rattle.slots.specs.declared.work.Work.{Work}
-use Rattle.guest_fetch.specs.declared.head.Head.{Head}
-use Rattle.guest_fetch.specs.declared.header.Header.{Header}
-use Rattle.guest_fetch.specs.declared.refusal.Refusal.{Refusal}
+use Rattle.slots.specs.declared.work.{Kind.{Kind, TheVariants.{DmaOut, PioOut}}, Work.Work}
+use Rattle.guest_fetch.specs.declared.{head.Head.Head, header.Header.Header, refusal.Refusal.Refusal}
 use Rattle.guest_fetch.specs.declared.refusal.Refusal.TheVariants as refusal
 
 -- the fields of a command FIS

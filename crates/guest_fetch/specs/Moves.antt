@@ -1,13 +1,8 @@
 -- A run of a command's bytes as moves, one for each entry of the table that it touches (AHCI 1.3.1, section 4.2.3.3,
 -- Physical Region Descriptor Table).
-use Rattle.std.specs.Prelude.{ℕ, ◌+◌, ◌-◌, ◌^◌, ◌<◌, ◌≤◌, min, nat_lt, nat_le, if◌then◌else◌, List, [], ◌∷◌, zero, suc}
-use Rattle.std.specs.Prelude.{All, drop, Bool, false, ◌&&◌, ◌||◌}
-use Rattle.guest_fetch.specs.declared.entry.Entry.{Entry}
-use Rattle.guest_fetch.specs.declared.moves.Move.{Move}
-use Rattle.guest_fetch.specs.declared.span.Span.{Span}
-use Rattle.guest_fetch.specs.Entries.{IsEntry}
-use Rattle.guest_fetch.specs.Places.{total_of}
-use Rattle.guest_fetch.specs.Spans.{entries_from}
+use Rattle.std.specs.Prelude.{ℕ, ◌+◌, ◌-◌, ◌^◌, ◌<◌, ◌≤◌, min, nat_lt, nat_le, if◌then◌else◌, List, [], ◌∷◌, zero, suc, All, drop, Bool, false, ◌&&◌}
+use Rattle.std.specs.Prelude.{◌||◌}
+use Rattle.guest_fetch.specs.{declared.{entry.Entry.Entry, moves.Move.Move, span.Span.Span}, Entries.IsEntry, Places.total_of, Spans.entries_from}
 
 -- a move out of a payload of len bytes takes at least one byte, and lies in the payload and below the last address
 abbrev pub IsMove : ℕ → Move → Type 0

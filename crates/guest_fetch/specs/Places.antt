@@ -1,9 +1,7 @@
 -- Where the bytes of a command lie in a guest's memory: AHCI 1.3.1, section 4.2.3.3, Physical Region Descriptor Table.
 -- The entries name runs of memory. The bytes of the command fill these one after another.
-use Rattle.std.specs.Prelude.{◌≡◌, ℕ, ◌+◌, ◌-◌, ◌<◌, ◌≤◌, min, nat_lt, if◌then◌else◌, List, [], ◌∷◌, ◌++◌}
-use Rattle.std.specs.Prelude.{length, take, drop, slice_get, Some}
-use Rattle.guest_fetch.specs.declared.moves.Move.{Move}
-use Rattle.guest_fetch.specs.declared.entry.Entry.{Entry}
+use Rattle.std.specs.Prelude.{◌≡◌, ℕ, ◌+◌, ◌-◌, ◌<◌, ◌≤◌, min, nat_lt, if◌then◌else◌, List, [], ◌∷◌, ◌++◌, length, take, drop, slice_get, Some}
+use Rattle.guest_fetch.specs.declared.{moves.Move.Move, entry.Entry.Entry}
 
 -- the table of a command as it was supplied, and how many bytes the command moves
 pub record Places : Type 0 where

@@ -1,21 +1,12 @@
 -- What a command is, by all that lies there: AHCI 1.3.1, sections 4.2.2 and 4.2.3. It is one answer, whatever the parts are
 -- in which it was supplied.
 use Rattle.std.specs.Prelude.{◌≡◌, ℕ, ◌+◌, ◌*◌, ◌≤◌, List, [], ◌∷◌, zero, suc, Option, Some, None}
-use Rattle.guest_fetch.specs.declared.entry.Entry.{Entry}
-use Rattle.guest_fetch.specs.declared.entry.FaultyEntry.{FaultyEntry}
-use Rattle.guest_fetch.specs.declared.fetch.Step.{Step}
-use Rattle.guest_fetch.specs.declared.fetch.Step.TheVariants.{AtHeader, AtFis, AtEntries}
-use Rattle.guest_fetch.specs.declared.fetch.Supplied.{Supplied}
-use Rattle.guest_fetch.specs.declared.fetch.Supplied.TheVariants.{More, Whole, Refused, OutOfMemory}
-use Rattle.guest_fetch.specs.declared.head.Head.{Head}
-use Rattle.guest_fetch.specs.declared.header.Header.{Header}
-use Rattle.guest_fetch.specs.declared.refusal.Refusal.{Refusal}
+use Rattle.guest_fetch.specs.declared.{entry.{Entry.Entry, FaultyEntry.FaultyEntry}, fetch.Step.{Step, TheVariants.{AtHeader, AtFis, AtEntries}}}
+use Rattle.guest_fetch.specs.declared.{fetch.Supplied.{Supplied, TheVariants.{More, Whole, Refused, OutOfMemory}}, head.Head.Head}
+use Rattle.guest_fetch.specs.{declared.{header.Header.Header, refusal.Refusal.Refusal}, Entries.{entry_at, first_fault, reached}, Fetch.Fetching}
+use Rattle.guest_fetch.specs.{Fetching.{supplied, want_of}, Headers.{entries_place, header_in, header_place, header_refusal}, Heads.fis_refusal}
+use Rattle.guest_fetch.specs.Heads.{head_of}
 use Rattle.guest_fetch.specs.declared.refusal.Refusal.TheVariants as refusal
-use Rattle.guest_fetch.specs.Entries.{entry_at, first_fault, reached}
-use Rattle.guest_fetch.specs.Fetch.{Fetching}
-use Rattle.guest_fetch.specs.Fetching.{supplied, want_of}
-use Rattle.guest_fetch.specs.Headers.{entries_place, header_in, header_place, header_refusal}
-use Rattle.guest_fetch.specs.Heads.{fis_refusal, head_of}
 
 -- ---- what lies there
 

@@ -1,16 +1,8 @@
 -- One supply after another, and one Data FIS after another.
 use Rattle.std.specs.Prelude.{◌≡◌, ℕ, ◌+◌, ◌/◌, min, List, [], ◌∷◌, ◌++◌, length}
-use Rattle.guest_fetch.specs.declared.command.Command.{Command}
-use Rattle.guest_fetch.specs.declared.entry.Entry.{Entry}
-use Rattle.guest_fetch.specs.declared.fetch.Step.TheVariants.{AtHeader}
-use Rattle.guest_fetch.specs.declared.fetch.Supplied.{Supplied}
-use Rattle.guest_fetch.specs.declared.fetch.Supplied.TheVariants.{More, Whole, Refused, OutOfMemory}
-use Rattle.guest_fetch.specs.Entries.{entries_at, reached}
-use Rattle.guest_fetch.specs.Fetch.{Fetching}
-use Rattle.guest_fetch.specs.Fetching.{supplied, want_of}
-use Rattle.guest_fetch.specs.Headers.{header_in}
-use Rattle.guest_fetch.specs.Heads.{head_of}
-use Rattle.guest_fetch.specs.Places.{Places, reach_of, room_at}
+use Rattle.guest_fetch.specs.declared.{command.Command.Command, entry.Entry.Entry, fetch.{Step.TheVariants.AtHeader, Supplied.Supplied}}
+use Rattle.guest_fetch.specs.{declared.fetch.Supplied.TheVariants.{More, Whole, Refused, OutOfMemory}, Entries.{entries_at, reached}, Fetch.Fetching}
+use Rattle.guest_fetch.specs.{Fetching.{supplied, want_of}, Headers.header_in, Heads.head_of, Places.{Places, reach_of, room_at}}
 
 -- ---- supplies
 

@@ -1,16 +1,10 @@
 -- Commands as words: header, entries as they are kept, and moves.
-use Rattle.std.specs.Prelude.{◌≡◌, ℕ, ◌+◌, ◌-◌, ◌<◌, ◌≤◌, ◌^◌, ◌&&◌, Bool, true, false, nat_lt, nat_le, is_none, List, [], ◌∷◌, All, length, take, zero, suc, refl}
-use Rattle.std.specs.List.{AllByRecursion}
+use Rattle.std.specs.Prelude.{◌≡◌, ℕ, ◌+◌, ◌-◌, ◌<◌, ◌≤◌, ◌^◌, ◌&&◌, Bool, true, false, nat_lt, nat_le, is_none, List, [], ◌∷◌, All, length, take}
+use Rattle.std.specs.{Prelude.{zero, suc, refl}, List.AllByRecursion}
 use Rattle.std.proofs.Common.{ap, arith, sym, ◌∙◌}
 use Rattle.saved_state.specs.Parts.{Parts, both, each, flag, number, ruled, seen_as, three}
-use Rattle.guest_fetch.specs.declared.entry.Entry.{Entry}
-use Rattle.guest_fetch.specs.declared.header.Header.{Header}
-use Rattle.guest_fetch.specs.declared.moves.Move.{Move}
-use Rattle.guest_fetch.specs.declared.span.Span.{Span}
-use Rattle.guest_fetch.specs.Entries.{IsEntry, entry_fault}
-use Rattle.guest_fetch.specs.Headers.{header_refusal}
-use Rattle.guest_fetch.specs.Places.{Places, total_of}
-use Rattle.guest_fetch.specs.Spans.{IsTable, entries_from, entry_from, most_bytes}
+use Rattle.guest_fetch.specs.{declared.{entry.Entry.Entry, header.Header.Header, moves.Move.Move, span.Span.Span}, Entries.{IsEntry, entry_fault}}
+use Rattle.guest_fetch.specs.{Headers.header_refusal, Places.{Places, total_of}, Spans.{IsTable, entries_from, entry_from, most_bytes}}
 
 -- ---- headers
 

@@ -2,20 +2,11 @@
 use Rattle.std.specs.Prelude.{◌≡◌, ℕ, ◌+◌, ◌<◌, ◌≤◌, ◌^◌, ◌==◌, ◌&&◌, Bool, true, nat_le, List, ◌∷◌, length, refl}
 use Rattle.std.proofs.Common.{ap, arith, ◌∙◌}
 use Rattle.fis_view.specs.declared.build.H2dFields.{H2dFields}
-use Rattle.slots.specs.declared.work.Work.{Work}
-use Rattle.slots.specs.Saved.{KeepsWork, put_work, work_apart}
-use Rattle.saved_state.specs.State.{IsToldApart}
-use Rattle.saved_state.specs.Parts.{Parts, array, both, flag, number, ruled, seen_as, three}
-use Rattle.guest_fetch.specs.declared.fetch.Step.{Step}
-use Rattle.guest_fetch.specs.declared.fetch.Step.TheVariants.{AtHeader, AtFis, AtEntries}
-use Rattle.guest_fetch.specs.declared.head.Head.{Head}
-use Rattle.guest_fetch.specs.declared.header.Header.{Header}
-use Rattle.guest_fetch.specs.Commands.{Fetched, IsCommand}
-use Rattle.guest_fetch.specs.Fetch.{Fetching}
-use Rattle.guest_fetch.specs.Fetching.{IsFetching, wants_more}
-use Rattle.guest_fetch.specs.Places.{Places, reach_of}
-use Rattle.guest_fetch.specs.Saved.{header_words, is_taken, table_words}
-use Rattle.guest_fetch.specs.Spans.{IsTable}
+use Rattle.slots.specs.{declared.work.Work.Work, Saved.{KeepsWork, put_work, work_apart}}
+use Rattle.saved_state.specs.{State.IsToldApart, Parts.{Parts, array, both, flag, number, ruled, seen_as, three}}
+use Rattle.guest_fetch.specs.declared.{fetch.Step.{Step, TheVariants.{AtHeader, AtFis, AtEntries}}, head.Head.Head, header.Header.Header}
+use Rattle.guest_fetch.specs.{Commands.{Fetched, IsCommand}, Fetch.Fetching, Fetching.{IsFetching, wants_more}, Places.{Places, reach_of}}
+use Rattle.guest_fetch.specs.{Saved.{header_words, is_taken, table_words}, Spans.IsTable}
 
 -- ---- header and FIS
 

@@ -1,11 +1,7 @@
 -- Entries as they are kept: each with the byte of the command at which its own bytes end, so that the entry of a byte is
 -- found by halving.
-use Rattle.std.specs.Prelude.{ℕ, ◌-◌, ◌^◌, ◌<◌, ◌≤◌, List, [], ◌∷◌, ◌++◌, zero, suc, All, length, take}
-use Rattle.std.specs.Prelude.{slice_index_or, false}
-use Rattle.guest_fetch.specs.declared.entry.Entry.{Entry}
-use Rattle.guest_fetch.specs.declared.span.Span.{Span}
-use Rattle.guest_fetch.specs.Entries.{IsEntry, reached}
-use Rattle.guest_fetch.specs.Places.{Places, total_of}
+use Rattle.std.specs.Prelude.{ℕ, ◌-◌, ◌^◌, ◌<◌, ◌≤◌, List, [], ◌∷◌, ◌++◌, zero, suc, All, length, take, slice_index_or, false}
+use Rattle.guest_fetch.specs.{declared.{entry.Entry.Entry, span.Span.Span}, Entries.{IsEntry, reached}, Places.{Places, total_of}}
 
 -- the entry that is kept so, where its bytes begin at this byte of the command
 abbrev pub entry_from : ℕ → Span → Entry

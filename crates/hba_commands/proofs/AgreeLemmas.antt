@@ -1,13 +1,10 @@
 -- The command of a slot is told by the bytes of its header and of its table.
 use Rattle.std.proofs.Common.{◌≡◌, ℕ, ◌+◌, ◌*◌, ◌<◌, ◌≤◌, Bool, true, List, length, take, drop, refl, sym, ap, ◌∙◌, arith, inl, inr, length-drop}
-use Rattle.std.proofs.lemmas.Bool.{cases_Bool}
-use Rattle.std.proofs.lemmas.List.{ext_get_or, get_or-drop, get_or-take, length-take}
-use Rattle.host_memory.specs.Memory.{Memory, overwritten}
-use Rattle.host_memory.specs.Reading.{AgreeFrom, LieApart, dword_at}
+use Rattle.std.proofs.lemmas.{Bool.cases_Bool, List.{ext_get_or, get_or-drop, get_or-take, length-take}}
+use Rattle.host_memory.specs.{Memory.{Memory, overwritten}, Reading.{AgreeFrom, LieApart, dword_at}}
 use Rattle.host_memory.proofs.Door.{agree_beside, agree_within, dword_same, length-overwritten, says_the_same}
-use Rattle.hba_commands.specs.declared.header.Header.{Header}
-use Rattle.hba_commands.specs.Headers.{header_at, header_place}
-use Rattle.hba_commands.specs.Commands.{AgreeOnCommand, cfis_at, command_at, command_under, has_table, table_length, total_at}
+use Rattle.hba_commands.specs.{declared.header.Header.Header, Headers.{header_at, header_place}, Commands.{AgreeOnCommand, cfis_at, command_at}}
+use Rattle.hba_commands.specs.Commands.{command_under, has_table, table_length, total_at}
 
 -- the header is told by its 32 bytes
 pub header_same : (clb slot : ℕ) (s t : List ℕ) → AgreeFrom (header_place clb slot) 32 s t → header_at s clb slot ≡ header_at t clb slot

@@ -1,21 +1,14 @@
 -- A command that was written is read as what it was written of.
-use Rattle.std.proofs.Common.{◌≡◌, ℕ, ◌+◌, ◌-◌, ◌*◌, ◌%◌, ◌≤◌, Bool, true, false, List, [], ◌∷◌, ◌++◌, drop, length, Option, Some, None, refl, sym, ap, ◌∙◌, arith, append_assoc, inl, inr}
-use Rattle.std.specs.Prelude.{◌==◌, ◌&&◌, ◌||◌, not, nat_lt, if◌then◌else◌}
-use Rattle.std.specs.List.{list_all}
-use Rattle.std.specs.Option.{is_none, option_or}
-use Rattle.std.proofs.lemmas.List.{drop-drop}
-use Rattle.std.proofs.lemmas.Bool.{le-ltb, cases_lt}
+use Rattle.std.proofs.Common.{◌≡◌, ℕ, ◌+◌, ◌-◌, ◌*◌, ◌%◌, ◌≤◌, Bool, true, false, List, [], ◌∷◌, ◌++◌, drop, length, Option, Some, None, refl, sym}
+use Rattle.std.proofs.{Common.{ap, ◌∙◌, arith, append_assoc, inl, inr}, lemmas.{List.{drop-drop}, Bool.{le-ltb, cases_lt}}}
+use Rattle.std.specs.{Prelude.{◌==◌, ◌&&◌, ◌||◌, not, nat_lt, if◌then◌else◌}, List.list_all, Option.{is_none, option_or}}
 use Rattle.byteorder.specs.Endian.{little_bytes, little_number}
-use Rattle.host_memory.specs.Place.{total_of}
-use Rattle.host_memory.specs.Reading.{upper_at, prd_at, prds_at, is_outside, entry_fault, first_fault, have_overlap}
-use Rattle.host_memory.specs.Writing.{entry_bytes, table_bytes}
-use Rattle.host_memory.specs.declared.table.Prd.{Prd}
-use Rattle.host_memory.specs.declared.table.PrdError.{PrdError}
-use Rattle.host_memory.specs.declared.table.PrdError.TheVariants.{BadEntry, OutsideClient, Overlap}
+use Rattle.host_memory.specs.{Place.total_of, Reading.{upper_at, prd_at, prds_at, is_outside, entry_fault, first_fault, have_overlap}}
+use Rattle.host_memory.specs.{Writing.{entry_bytes, table_bytes}, declared.table.{Prd.Prd, PrdError.{PrdError, TheVariants.BadEntry}}}
+use Rattle.host_memory.specs.{declared.table.PrdError.TheVariants.{OutsideClient, Overlap}, Memory.Memory}
 use Rattle.fis_view.specs.declared.build.H2dFields.{H2dFields}
-use Rattle.host_memory.specs.Memory.{Memory}
-use Rattle.hba_commands.specs.Commands.{cfis_at, command_at, command_under, total_at, total_if_sound}
-use Rattle.hba_commands.specs.Writing.{IsWritten, command_of, is_usable, total_if_usable}
+use Rattle.hba_commands.specs.{Commands.{cfis_at, command_at, command_under, total_at, total_if_sound}, Writing.{IsWritten, command_of, is_usable}}
+use Rattle.hba_commands.specs.Writing.{total_if_usable}
 
 -- a number is even or odd
 even_test : (n : ℕ) → (n % 2 == 0) ≡ not (n % 2 == 1)

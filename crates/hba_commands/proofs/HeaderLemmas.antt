@@ -1,15 +1,9 @@
 -- The bits of a header.
-use Rattle.std.proofs.Common.{◌≡◌, ℕ, ◌+◌, ◌*◌, ◌<◌, ◌≤◌, Bool, true, false, List, ◌++◌, drop, refl, sym, ap, ◌∙◌, arith}
-use Rattle.std.specs.Prelude.{◌==◌}
-use Rattle.std.specs.Int.{from_bool}
-use Rattle.std.proofs.lemmas.List.{drop-drop}
-use Rattle.byteorder.specs.Endian.{little_bytes, little_number}
-use Rattle.byteorder.specs.Numbers.{little_number-reads_back}
-use Rattle.host_memory.specs.Memory.{zeros}
-use Rattle.host_memory.specs.Reading.{dword_at}
-use Rattle.hba_commands.specs.Headers.{header_of_dwords, bits_of}
-use Rattle.hba_commands.specs.Writing.{header_bytes}
-use Rattle.hba_commands.specs.declared.header.Header.{Header}
+use Rattle.std.proofs.{Common.{◌≡◌, ℕ, ◌+◌, ◌*◌, ◌<◌, ◌≤◌, Bool, true, false, List, ◌++◌, drop, refl, sym, ap, ◌∙◌, arith}, lemmas.List.{drop-drop}}
+use Rattle.std.specs.{Prelude.{◌==◌}, Int.from_bool}
+use Rattle.byteorder.specs.{Endian.{little_bytes, little_number}, Numbers.{little_number-reads_back}}
+use Rattle.host_memory.specs.{Memory.zeros, Reading.dword_at}
+use Rattle.hba_commands.specs.{Headers.{header_of_dwords, bits_of}, Writing.header_bytes, declared.header.Header.Header}
 
 -- a PM Port has 4 bits
 pub port_small : (dw0 dw2 dw3 : ℕ) → (header_of_dwords dw0 dw2 dw3).pmp < 16

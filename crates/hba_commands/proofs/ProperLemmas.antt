@@ -1,15 +1,12 @@
 -- What a proper command may ask for.
-use Rattle.std.proofs.Common.{◌≡◌, ℕ, ◌+◌, ◌*◌, ◌%◌, ◌≤◌, ◌<◌, Bool, true, false, List, slice_index, Option, Some, None, arith, inl, inr, refl, sym, ◌∙◌}
+use Rattle.std.proofs.Common.{◌≡◌, ℕ, ◌+◌, ◌*◌, ◌%◌, ◌≤◌, ◌<◌, Bool, true, false, List, slice_index, Option, Some, None, arith, inl, inr, refl, sym}
+use Rattle.std.proofs.{Common.{◌∙◌}, lemmas.Bool.{and_parts, not-true, leb-true, eqb-true, eqb-false, cases_Bool, cases_lt}}
 use Rattle.std.specs.Prelude.{not, ◌&&◌, ◌||◌, ◌==◌, nat_le, if◌then◌else◌}
-use Rattle.std.proofs.lemmas.Bool.{and_parts, not-true, leb-true, eqb-true, eqb-false, cases_Bool, cases_lt}
-use Rattle.slots.specs.Work.{IsWork, is_queued, needs_all}
-use Rattle.slots.specs.declared.work.Kind.{Kind}
-use Rattle.slots.specs.declared.work.Kind.TheVariants.{QueuedRead, QueuedWrite, DmaIn, DmaOut, PioIn, PioOut, NoData, Control}
-use Rattle.hba_commands.specs.declared.header.Header.{Header}
-use Rattle.hba_commands.specs.declared.request.Request.{Request}
-use Rattle.hba_commands.specs.Requests.{counted, few_sectors, is_page, is_smart_page, is_wide, kind_of, length_of, request_at, request_in, sectors, tag_of, work_of}
-use Rattle.hba_commands.specs.Commands.{has_table, is_few, is_proper, may_move, may_queue, suits, total_if_sound}
-use Rattle.hba_commands.specs.Writing.{is_write}
+use Rattle.slots.specs.{Work.{IsWork, is_queued, needs_all}, declared.work.Kind.{Kind, TheVariants.{QueuedRead, QueuedWrite, DmaIn, DmaOut, PioIn}}}
+use Rattle.slots.specs.declared.work.Kind.TheVariants.{PioOut, NoData, Control}
+use Rattle.hba_commands.specs.{declared.{header.Header.Header, request.Request.Request}, Requests.{counted, few_sectors, is_page, is_smart_page}}
+use Rattle.hba_commands.specs.{Requests.{is_wide, kind_of, length_of, request_at, request_in, sectors, tag_of, work_of}, Commands.{has_table, is_few}}
+use Rattle.hba_commands.specs.{Commands.{is_proper, may_move, may_queue, suits, total_if_sound}, Writing.is_write}
 use Rattle.host_memory.specs.declared.table.PrdError.{PrdError}
 
 some_sectors : (features : ℕ) → 0 < sectors features

@@ -1,16 +1,10 @@
 -- What stands in the structure area once a command is written.
-use Rattle.std.proofs.Common.{◌≡◌, ℕ, ◌+◌, ◌-◌, ◌*◌, ◌<◌, ◌≤◌, ◌⊎◌, List, ◌++◌, take, drop, length, slice_index, refl, sym, ap, ◌∙◌, arith, append_assoc, inl, inr, get_or}
-use Rattle.std.proofs.Math.ListN.{get_or-append}
-use Rattle.std.proofs.lemmas.List.{length-append, length-take-le, get_or-take, get_or-drop, get_or-append_right, take_at, length-drop}
-use Rattle.host_memory.specs.Memory.{overwritten, zeros}
-use Rattle.host_memory.specs.Reading.{dword_at}
-use Rattle.host_memory.specs.Writing.{table_bytes}
-use Rattle.host_memory.specs.declared.table.Prd.{Prd}
+use Rattle.std.proofs.Common.{◌≡◌, ℕ, ◌+◌, ◌-◌, ◌*◌, ◌<◌, ◌≤◌, ◌⊎◌, List, ◌++◌, take, drop, length, slice_index, refl, sym, ap, ◌∙◌, arith}
+use Rattle.std.proofs.{Common.{append_assoc, inl, inr, get_or}, Math.ListN.{get_or-append}, lemmas.List.{length-append, length-take-le, get_or-take}}
+use Rattle.std.proofs.lemmas.List.{get_or-drop, get_or-append_right, take_at, length-drop}
+use Rattle.host_memory.specs.{Memory.{overwritten, zeros}, Reading.dword_at, Writing.table_bytes, declared.table.Prd.Prd}
 use Rattle.host_memory.proofs.Door.{drop_overwritten, length-table_bytes, length-zeros, overwritten-more}
-use Rattle.hba_commands.specs.Headers.{header_of_dwords}
-use Rattle.hba_commands.specs.Commands.{cfis_at}
-use Rattle.hba_commands.specs.Writing.{header_bytes, command_table}
-use Rattle.hba_commands.specs.declared.header.Header.{Header}
+use Rattle.hba_commands.specs.{Headers.header_of_dwords, Commands.cfis_at, Writing.{header_bytes, command_table}, declared.header.Header.Header}
 use Rattle.hba_commands.proofs.HeaderLemmas.{header_reads, FitsHeader}
 
 -- how many bytes a header and a table have

@@ -1,18 +1,11 @@
 -- Which bytes have the view of a Register Host to Device FIS: those whose first is 27h.
-use Rattle.std.proofs.Common.{◌≡◌, ℕ, ◌%◌, ◌<◌, Bool, true, false, List, slice_index, length, Some, None, Result, Ok, Err, refl, sym, ap, ◌∙◌, if◌then◌else◌, inl, inr, arith}
-use Rattle.std.specs.Prelude.{◌==◌}
-use Rattle.std.proofs.lemmas.Bool.{cases_Bool, eqb-true}
-use Rattle.std.specs.Result.{result_ok}
-use Rattle.fis_view.specs.Table.{Kind, H2d, D2h, Activate, Setup, Data, Pio, Bits, Other}
-use Rattle.fis_view.specs.Seen.{kind_of, may_have, seen, view_as}
-use Rattle.fis_view.specs.declared.view.Fis.{Fis}
+use Rattle.std.proofs.Common.{◌≡◌, ℕ, ◌%◌, ◌<◌, Bool, true, false, List, slice_index, length, Some, None, Result, Ok, Err, refl, sym, ap, ◌∙◌}
+use Rattle.std.proofs.{Common.{if◌then◌else◌, inl, inr, arith}, lemmas.Bool.{cases_Bool, eqb-true}}
+use Rattle.std.specs.{Prelude.{◌==◌}, Result.result_ok, Int.from_bool}
+use Rattle.fis_view.specs.Table.{Kind, H2d, D2h, Activate, Setup, Data, Pio, Bits, Other, PmPort, C, Command, Features, Count, places, field}
+use Rattle.fis_view.specs.{Seen.{kind_of, may_have, seen, view_as}, declared.view.{Fis.Fis, FisFault.{FisFault, TheVariants.WrongLength}}}
+use Rattle.fis_view.specs.{Built.{IsBuilt, cut, h2d_given}, declared.build.H2dFields.H2dFields}
 use Rattle.fis_view.specs.declared.view.Fis.TheVariants as view
-use Rattle.fis_view.specs.declared.view.FisFault.{FisFault}
-use Rattle.fis_view.specs.declared.view.FisFault.TheVariants.{WrongLength}
-use Rattle.fis_view.specs.Table.{PmPort, C, Command, Features, Count, places, field}
-use Rattle.fis_view.specs.Built.{IsBuilt, cut, h2d_given}
-use Rattle.fis_view.specs.declared.build.H2dFields.{H2dFields}
-use Rattle.std.specs.Int.{from_bool}
 use Rattle.hba_commands.specs.Requests.{request_at, request_in, request_of}
 use Rattle.hba_commands.proofs.HeaderLemmas.{bool_small, bool_back}
 

@@ -1,19 +1,11 @@
 -- The command of a slot: its header (AHCI 1.3.1, section 4.2.2) and its command table (section 4.2.3)
 -- together.
-use Rattle.std.specs.Prelude.{◌≡◌, ℕ, ◌+◌, ◌*◌, ◌%◌, ◌≤◌, ◌==◌, ◌&&◌, Bool, true, not, nat_le, if◌then◌else◌}
-use Rattle.std.specs.Prelude.{List, length, take, drop, Option, Some, None}
-use Rattle.host_memory.specs.Memory.{Memory, overwritten}
-use Rattle.host_memory.specs.Place.{total_of}
-use Rattle.host_memory.specs.Reading.{AgreeFrom, LieApart, prds_at, read_fault}
-use Rattle.host_memory.specs.declared.table.Prd.{Prd}
-use Rattle.host_memory.specs.declared.table.PrdError.{PrdError}
-use Rattle.slots.specs.declared.work.Kind.{Kind}
-use Rattle.slots.specs.declared.work.Kind.TheVariants.{QueuedRead, QueuedWrite, DmaIn, DmaOut, PioIn, PioOut}
-use Rattle.slots.specs.declared.work.Kind.TheVariants.{NoData, Control}
-use Rattle.hba_commands.specs.declared.header.Header.{Header}
-use Rattle.hba_commands.specs.declared.request.Request.{Request}
-use Rattle.hba_commands.specs.declared.command.Command.{Command}
-use Rattle.hba_commands.specs.Headers.{header_at, header_place}
+use Rattle.std.specs.Prelude.{◌≡◌, ℕ, ◌+◌, ◌*◌, ◌%◌, ◌≤◌, ◌==◌, ◌&&◌, Bool, true, not, nat_le, if◌then◌else◌, List, length, take, drop, Option, Some}
+use Rattle.std.specs.Prelude.{None}
+use Rattle.host_memory.specs.{Memory.{Memory, overwritten}, Place.total_of, Reading.{AgreeFrom, LieApart, prds_at, read_fault}}
+use Rattle.host_memory.specs.declared.table.{Prd.Prd, PrdError.PrdError}
+use Rattle.slots.specs.declared.work.Kind.{Kind, TheVariants.{QueuedRead, QueuedWrite, DmaIn, DmaOut, PioIn, PioOut, NoData, Control}}
+use Rattle.hba_commands.specs.{declared.{header.Header.Header, request.Request.Request, command.Command.Command}, Headers.{header_at, header_place}}
 use Rattle.hba_commands.specs.Requests.{request_at, kind_of, work_of, tag_of}
 
 -- the table has a valid place: its address is below 4 GiB and a multiple of 128, and its 80h bytes and 16 for

@@ -1,12 +1,7 @@
 -- What a command FIS, a Register Host to Device FIS (Serial ATA 3.x, 10.5.5), asks for.
-use Rattle.std.specs.Prelude.{ℕ, ◌*◌, ◌/◌, ◌%◌, ◌==◌, ◌&&◌, ◌||◌, if◌then◌else◌, Bool, List, slice_index, Option}
-use Rattle.std.specs.Prelude.{Some, None}
-use Rattle.fis_view.specs.Table.{H2d, PmPort, C, Command, Features, Count, field}
-use Rattle.fis_view.specs.declared.build.H2dFields.{H2dFields}
-use Rattle.slots.specs.declared.work.Work.{Work}
-use Rattle.slots.specs.declared.work.Kind.{Kind}
-use Rattle.slots.specs.declared.work.Kind.TheVariants.{QueuedRead, QueuedWrite, DmaIn, DmaOut, PioIn, PioOut}
-use Rattle.slots.specs.declared.work.Kind.TheVariants.{NoData, Control}
+use Rattle.std.specs.Prelude.{ℕ, ◌*◌, ◌/◌, ◌%◌, ◌==◌, ◌&&◌, ◌||◌, if◌then◌else◌, Bool, List, slice_index, Option, Some, None}
+use Rattle.fis_view.specs.{Table.{H2d, PmPort, C, Command, Features, Count, field}, declared.build.H2dFields.H2dFields}
+use Rattle.slots.specs.declared.work.{Work.Work, Kind.{Kind, TheVariants.{QueuedRead, QueuedWrite, DmaIn, DmaOut, PioIn, PioOut, NoData, Control}}}
 use Rattle.hba_commands.specs.declared.request.Request.{Request}
 
 -- the fields of these bytes that say what the command is

@@ -1,10 +1,8 @@
 -- A command as words.
-use Rattle.std.specs.Prelude.{◌≡◌, ℕ, ◌^◌, ◌<◌, List, length}
-use Rattle.std.specs.List.{AllByRecursion}
+use Rattle.std.specs.{Prelude.{◌≡◌, ℕ, ◌^◌, ◌<◌, List, length}, List.AllByRecursion}
 use Rattle.std.proofs.Common.{ap, sym, ◌∙◌}
 use Rattle.saved_state.specs.State.{IsToldApart, all_apart, number_apart, pair_apart, parts_apart, put_all, put_number, put_pair}
-use Rattle.slots.specs.declared.work.Work.{Work}
-use Rattle.slots.specs.Saved.{IsByte, IsDword, KeepsWork, put_work, work_apart}
+use Rattle.slots.specs.{declared.work.Work.Work, Saved.{IsByte, IsDword, KeepsWork, put_work, work_apart}}
 use Rattle.hba_commands.specs.declared.command.Command.{Command}
 
 -- it fits a word of 16 bits

@@ -1,27 +1,14 @@
 -- A command as a driver writes it: its header (AHCI 1.3.1, section 4.2.2) and its command table (section
 -- 4.2.3).
-use Rattle.std.specs.Prelude.{◌≡◌, ℕ, ◌+◌, ◌*◌, ◌%◌, ◌==◌, ◌≤◌, ◌⊎◌, Bool, true, false, ◌&&◌, not}
-use Rattle.std.specs.Prelude.{if◌then◌else◌, List, ◌++◌, length, Option, Some, None}
-use Rattle.std.specs.Int.{from_bool}
-use Rattle.std.specs.List.{list_all}
+use Rattle.std.specs.Prelude.{◌≡◌, ℕ, ◌+◌, ◌*◌, ◌%◌, ◌==◌, ◌≤◌, ◌⊎◌, Bool, true, false, ◌&&◌, not, if◌then◌else◌, List, ◌++◌, length, Option, Some}
+use Rattle.std.specs.{Prelude.None, Int.from_bool, List.list_all}
 use Rattle.byteorder.specs.Endian.{little_bytes}
-use Rattle.fis_view.specs.Table.{H2d}
-use Rattle.fis_view.specs.Built.{IsBuilt, h2d_given}
-use Rattle.fis_view.specs.declared.build.H2dFields.{H2dFields}
-use Rattle.host_memory.specs.Memory.{overwritten, zeros}
-use Rattle.host_memory.specs.Place.{total_of}
-use Rattle.host_memory.specs.Reading.{have_overlap, is_outside, prds_at}
-use Rattle.host_memory.specs.Writing.{table_bytes}
+use Rattle.fis_view.specs.{Table.H2d, Built.{IsBuilt, h2d_given}, declared.build.H2dFields.H2dFields}
+use Rattle.host_memory.specs.{Memory.{overwritten, zeros}, Place.total_of, Reading.{have_overlap, is_outside, prds_at}, Writing.table_bytes}
 use Rattle.host_memory.specs.declared.table.Prd.{Prd}
-use Rattle.slots.specs.declared.work.Kind.{Kind}
-use Rattle.slots.specs.declared.work.Kind.TheVariants.{QueuedRead, QueuedWrite, DmaIn, DmaOut, PioIn, PioOut}
-use Rattle.slots.specs.declared.work.Kind.TheVariants.{NoData, Control}
-use Rattle.hba_commands.specs.declared.header.Header.{Header}
-use Rattle.hba_commands.specs.declared.request.Request.{Request}
-use Rattle.hba_commands.specs.declared.command.Command.{Command}
-use Rattle.hba_commands.specs.Headers.{header_at, header_place}
-use Rattle.hba_commands.specs.Requests.{kind_of, request_at, request_of}
-use Rattle.hba_commands.specs.Commands.{cfis_at, command_in, has_table, total_at}
+use Rattle.slots.specs.declared.work.Kind.{Kind, TheVariants.{QueuedRead, QueuedWrite, DmaIn, DmaOut, PioIn, PioOut, NoData, Control}}
+use Rattle.hba_commands.specs.{declared.{header.Header.Header, request.Request.Request, command.Command.Command}, Headers.{header_at, header_place}}
+use Rattle.hba_commands.specs.{Requests.{kind_of, request_at, request_of}, Commands.{cfis_at, command_in, has_table, total_at}}
 
 -- a command of this kind moves data to the device
 abbrev pub is_write : Kind → Bool

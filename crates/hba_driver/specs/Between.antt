@@ -7,23 +7,21 @@ use Rattle.host_memory.specs.{Memory.Memory, Place.total_of, Reading.read_fault}
 use Rattle.slots.specs.Slots.{DeviceSlots, Issue, has_bit, is_control, is_pio, is_whole_issue, own_issue, slots_of}
 use Rattle.port_errors.specs.Errors.{cleared_device}
 use Rattle.hba_commands.specs.{declared.command.Command.Command, Commands.{command_at, is_proper, total_at}, Requests.request_of, Writing.header_for}
-use Rattle.hba_fbs.specs.declared.{register.Register.{Register, TheVariants.{Ci, Cmd, Fbs, Is, Sact, Sntf}}, registers.Registers.Registers}
-use Rattle.hba_fbs.specs.{Bits.{en, fre}, Offsets.register_at, Views.{Port, last_command, view_of}}
+use Rattle.hba_fbs.specs.{declared.{register.Register.{Register, TheVariants.{Ci, Cmd, Fbs, Is, Sact, Sntf}}, registers.Registers.Registers}, Bits.en}
+use Rattle.hba_fbs.specs.{Bits.fre, Offsets.register_at, Views.{Port, last_command, view_of}}
 use Rattle.hba_laws.specs.{Between.transfer_of, Client.Touches, Delivering.HaveTables, History.Transfer}
 use Rattle.hba_laws.specs.Hosts as event
 use Rattle.hba_driver.specs.declared.{effect.Effect.Effect, mode.Mode.{Mode, TheVariants.{CommandBased, Switching}}, path.Path.Path}
-use Rattle.hba_driver.specs.declared.{path.Recovery.TheVariants.Log, path.Stage.{Stage, TheVariants.{Identify, ReadLog}}, path.TaskFile.TaskFile}
-use Rattle.hba_driver.specs.declared.{plan.Device.{Device, TheVariants.{Absent, Ready, Recovering}}, plan.Plan.Plan, request.Completion.Completion}
-use Rattle.hba_driver.specs.declared.{request.Outcome.TheVariants.Done, request.Request.Request}
-use Rattle.hba_driver.specs.{declared.{slot.Phase.{Phase, TheVariants.{Aside, Ended, Issued, Waits}}, turn.Act.Act}, Done.completes}
-use Rattle.hba_driver.specs.Drivers.{Driver, Entry, device_at, entry_at, is_issued, rephased, waits}
-use Rattle.hba_driver.specs.{Effects.{opening_write, restart_write, table_of}, Events.{IsSoundHostIn, shared_by}, Going.IsOfControl}
-use Rattle.hba_driver.specs.{HostTurns.{Host, HostTurn, Submitted, Ticked, Took}, Known.{is_identify, is_request}, Laws.{GoesOn, Kept, gives}}
-use Rattle.hba_driver.specs.{Modes.is_switching, Orders.{is_queued, request_fields}, Paths.reads_page}
-use Rattle.hba_driver.specs.{Requests.{is_bad_count, is_bad_prd, is_full, is_mismatch, overlaps}, Seeing.Sight}
-use Rattle.hba_driver.specs.{Served.{IsOrdered, IsRequest, IsServed, IsStep}, Slot30.IsUnsent30}
-use Rattle.hba_driver.specs.Steady.{HasSignature, IsAskedOf, IsSteady, IsSteadyPlan, IsSwitching, detects}
-use Rattle.hba_driver.specs.{Submits.{end_of, lowest_ended, new_entry, next_slot}, Ticks.{after_tick, effects, effects_due, turn}}
+use Rattle.hba_driver.specs.declared.path.{Recovery.TheVariants.Log, Stage.{Stage, TheVariants.{Identify, ReadLog}}, TaskFile.TaskFile}
+use Rattle.hba_driver.specs.declared.{plan.{Device.{Device, TheVariants.{Absent, Ready, Recovering}}, Plan.Plan}, request.Completion.Completion}
+use Rattle.hba_driver.specs.declared.{request.{Outcome.TheVariants.Done, Request.Request}, slot.Phase.{Phase, TheVariants.{Aside, Ended, Issued}}}
+use Rattle.hba_driver.specs.{declared.{slot.Phase.TheVariants.Waits, turn.Act.Act}, Done.completes, Drivers.{Driver, Entry, device_at, entry_at}}
+use Rattle.hba_driver.specs.{Drivers.{is_issued, rephased, waits}, Effects.{opening_write, restart_write, table_of}, Events.IsSoundHostIn}
+use Rattle.hba_driver.specs.{Events.shared_by, Going.IsOfControl, HostTurns.{Host, HostTurn, Submitted, Ticked, Took}, Known.is_identify}
+use Rattle.hba_driver.specs.{Known.is_request, Laws.{GoesOn, Kept, gives}, Modes.is_switching, Orders.{is_queued, request_fields}, Paths.reads_page}
+use Rattle.hba_driver.specs.{Requests.{is_bad_count, is_bad_prd, is_full, is_mismatch, overlaps}, Seeing.Sight, Served.{IsOrdered, IsRequest}}
+use Rattle.hba_driver.specs.{Served.{IsServed, IsStep}, Slot30.IsUnsent30, Steady.{HasSignature, IsAskedOf, IsSteady, IsSteadyPlan, IsSwitching}}
+use Rattle.hba_driver.specs.{Steady.detects, Submits.{end_of, lowest_ended, new_entry, next_slot}, Ticks.{after_tick, effects, effects_due, turn}}
 use Rattle.hba_driver.specs.Turns.{may_issue, stage_for}
 use Rattle.hba_driver.specs.declared.effect.Effect.TheVariants as effect
 use Rattle.hba_driver.specs.declared.turn.Act.TheVariants as act

@@ -9,10 +9,9 @@ use Rattle.hba_fbs.specs.{declared.{register.Register.Register, registers.Regist
 use Rattle.hba_fbs.specs.{Views.{Port, opening_port}, Writing.write_refusal}
 use Rattle.hba_laws.specs.{Delivering.IsSound, Hosts.{HostEvent, Runs}}
 use Rattle.hba_laws.specs.Hosts as event
-use Rattle.hba_driver.specs.declared.{effect.Effect.Effect, mode.Mode.{Mode, TheVariants.Switching}, plan.Device.TheVariants.Absent, plan.Plan.Plan}
-use Rattle.hba_driver.specs.{Drivers.{AreRequests, device_at, new_driver_in}, Effects.{ActsAll, IsRuled}}
-use Rattle.hba_driver.specs.HostTurns.{AreHosts, Does, DoesAll, Host, HostTurn, sight_in, Took, Pushed, Ticked, Submitted, Polled, Put}
-use Rattle.hba_driver.specs.{Modes.is_switching, Ticks.effects}
+use Rattle.hba_driver.specs.declared.{effect.Effect.Effect, mode.Mode.{Mode, TheVariants.Switching}, plan.{Device.TheVariants.Absent, Plan.Plan}}
+use Rattle.hba_driver.specs.{Drivers.{AreRequests, device_at, new_driver_in}, Effects.{ActsAll, IsRuled}, HostTurns.{AreHosts, Does, DoesAll, Host}}
+use Rattle.hba_driver.specs.{HostTurns.{HostTurn, sight_in, Took, Pushed, Ticked, Submitted, Polled, Put}, Modes.is_switching, Ticks.effects}
 use Rattle.hba_driver.specs.declared.effect.Effect.TheVariants as effect
 
 -- ---- the events of a turn

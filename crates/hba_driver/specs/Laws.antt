@@ -1,19 +1,18 @@
 -- What holds for the driver over any list of turns of the host, from any sound state, whatever the devices
 -- send.
-use Rattle.std.specs.Prelude.{ℕ, ◌≡◌, ◌+◌, ◌<◌, ◌==◌, ◌&&◌, ◌||◌, ◌⊎◌, Bool, true, false, List, [], ◌∷◌, length, Option, Some, None}
-use Rattle.std.specs.List.{list_any, range_with_len}
+use Rattle.std.specs.{Prelude.{ℕ, ◌≡◌, ◌+◌, ◌<◌, ◌==◌, ◌&&◌, ◌||◌, ◌⊎◌, Bool, true, false, List, [], ◌∷◌, length, Option, Some, None}, List.list_any}
+use Rattle.std.specs.List.{range_with_len}
 use Rattle.host_memory.specs.{Memory.Memory, Reading.AgreeFrom}
 use Rattle.hba_commands.specs.Headers.{header_place}
 use Rattle.slots.specs.{Slots.issue_at, Table.IsTable}
 use Rattle.hba_fbs.specs.Views.{Port}
 use Rattle.hba_driver.specs.declared.{mode.Mode.Mode, request.Outcome.{Outcome, TheVariants.{Done, DeviceError, Aborted, Removed, PortError}}}
 use Rattle.hba_driver.specs.{Effects.table_of, Sights.sight_of, declared.{path.TaskFile.TaskFile, plan.Device.TheVariants.{Absent, Recovering}}}
-use Rattle.hba_driver.specs.{Seeing.Sight, declared.{slot.Head.Head, slot.Phase.{Phase, TheVariants.{Waits, Issued, Aside, Ended}}}}
-use Rattle.hba_driver.specs.declared.effect.Effect.{Effect}
-use Rattle.hba_driver.specs.Drivers.{AreRequests, Driver, Entry, device_at, entry_at, has_ended, is_aside, is_issued, is_issued_in, rephased}
-use Rattle.hba_driver.specs.Drivers.{waits_in}
-use Rattle.hba_driver.specs.HostTurns.{AreHosts, DoesAll, Host, HostTurn, Took, Pushed, Ticked, Submitted, Polled, Put, given_in, issued_over}
-use Rattle.hba_driver.specs.{HostTurns.polled_in, Paths.recovery, Ticks.{after_tick, due, effects, seen, turn}, Turns.may_issue}
+use Rattle.hba_driver.specs.{Seeing.Sight, declared.slot.{Head.Head, Phase.{Phase, TheVariants.{Waits, Issued, Aside, Ended}}}}
+use Rattle.hba_driver.specs.{declared.effect.Effect.Effect, Drivers.{AreRequests, Driver, Entry, device_at, entry_at, has_ended, is_aside, is_issued}}
+use Rattle.hba_driver.specs.{Drivers.{is_issued_in, rephased, waits_in}, HostTurns.{AreHosts, DoesAll, Host, HostTurn, Took, Pushed, Ticked}}
+use Rattle.hba_driver.specs.{HostTurns.{Submitted, Polled, Put, given_in, issued_over, polled_in}, Paths.recovery, Ticks.{after_tick, due, effects}}
+use Rattle.hba_driver.specs.{Ticks.{seen, turn}, Turns.may_issue}
 use Rattle.hba_driver.specs.declared.effect.Effect.TheVariants as effect
 use Rattle.hba_driver.specs.declared.turn.Act.TheVariants as act
 

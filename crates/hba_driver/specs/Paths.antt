@@ -4,10 +4,9 @@
 use Rattle.std.specs.Prelude.{ℕ, Bool, true, false, if◌then◌else◌, Option, Some, None}
 use Rattle.fis_view.specs.declared.build.H2dFields.{H2dFields}
 use Rattle.slots.specs.Slots.{has_bit}
-use Rattle.hba_driver.specs.declared.path.Recovery.{Recovery, TheVariants.{Log, Reset}}
-use Rattle.hba_driver.specs.declared.path.Stage.{Stage, TheVariants.{Identify, ReadLog, AssertReset, ReleaseReset, AwaitReset}}
-use Rattle.hba_driver.specs.declared.{path.TaskFile.TaskFile, plan.Device.{Device, TheVariants.{Absent, Starting, Ready, Recovering}}}
-use Rattle.hba_driver.specs.Orders.{control, identify_fields, log_fields}
+use Rattle.hba_driver.specs.declared.path.{Recovery.{Recovery, TheVariants.{Log, Reset}}, Stage.{Stage, TheVariants.{Identify, ReadLog, AssertReset}}}
+use Rattle.hba_driver.specs.declared.{path.{Stage.TheVariants.{ReleaseReset, AwaitReset}, TaskFile.TaskFile}, plan.Device.Device}
+use Rattle.hba_driver.specs.{declared.plan.Device.TheVariants.{Absent, Starting, Ready, Recovering}, Orders.{control, identify_fields, log_fields}}
 
 -- the command that slot 30 issues for a stage, None if it issues nothing
 unfoldable pub stage_fields : (dev : ℕ) → Stage → Option H2dFields

@@ -10,10 +10,9 @@ use Rattle.fis_view.specs.Frames.{Stamped}
 use Rattle.host_memory.specs.Memory.{IsHostMemory, Memory}
 use Rattle.hba_commands.specs.declared.command.Command.{Command}
 use Rattle.hba_fbs.specs.Sending.{Order, outgoing}
-use Rattle.hba_driver.specs.declared.{plan.Device.TheVariants.Ready, request.Request.Request, slot.Phase.TheVariants.Waits}
-use Rattle.hba_driver.specs.{Drivers.{Entry, device_at, entry_at, is_issued, rephased}, Events.opening_host}
-use Rattle.hba_driver.specs.{HostTurns.{Does, DoesAll, Host, HostTurn, Pushed, Submitted}, Known.{is_flushed, is_request}, Submits.new_entry}
-use Rattle.hba_driver.specs.Tended.{IsLiveAt}
+use Rattle.hba_driver.specs.{declared.{plan.Device.TheVariants.Ready, request.Request.Request, slot.Phase.TheVariants.Waits}, Drivers.Entry}
+use Rattle.hba_driver.specs.{Drivers.{device_at, entry_at, is_issued, rephased}, Events.opening_host, HostTurns.{Does, DoesAll, Host, HostTurn}}
+use Rattle.hba_driver.specs.{HostTurns.{Pushed, Submitted}, Known.{is_flushed, is_request}, Submits.new_entry, Tended.IsLiveAt}
 
 -- Where a request of device n comes from that waits or is issued after a turn.
 pub data IsQueuedBy (n s : ℕ) (old : Host) (turn : HostTurn) (e : Entry) : Type 0 where

@@ -13,9 +13,8 @@ use Rattle.hba_laws.specs.Hosts.{HostEvent, Runs}
 use Rattle.hba_driver.specs.declared.{mode.Mode.TheVariants.Switching, order.Order.{Order, TheVariants.{Clear, Detect}}, path.Path.Path}
 use Rattle.hba_driver.specs.declared.{path.Stage.TheVariants.Identify, plan.Device.{Device, TheVariants.{Absent, Ready, Recovering, Starting}}}
 use Rattle.hba_driver.specs.{declared.{plan.Plan.Plan, turn.Act.Act}, Drivers.{Driver, Entry, device_at, entry_at, has_ended, new_driver}}
-use Rattle.hba_driver.specs.Events.{IsSoundHost, events_over, opening_host, shared_by}
-use Rattle.hba_driver.specs.{HostTurns.{Does, DoesAll, Host, HostTurn, Ticked, Took, sight_in}, Orders.is_flush, Served.AreBounded}
-use Rattle.hba_driver.specs.{Sights.{is_ata, last_d2h}, Ticks.due}
+use Rattle.hba_driver.specs.{Events.{IsSoundHost, events_over, opening_host, shared_by}, HostTurns.{Does, DoesAll, Host, HostTurn, Ticked, Took}}
+use Rattle.hba_driver.specs.{HostTurns.sight_in, Orders.is_flush, Served.AreBounded, Sights.{is_ata, last_d2h}, Ticks.due}
 use Rattle.hba_driver.specs.declared.turn.Act.TheVariants as act
 
 -- ---- the plan

@@ -8,12 +8,11 @@
 use Rattle.std.specs.Prelude.{ℕ, ◌≡◌, ◌≢◌, ◌<◌, ◌⊎◌, ◌||◌, Bool, true, false, List, None, Option, Some}
 use Rattle.slots.specs.Slots.{issue_at}
 use Rattle.hba_fbs.specs.Views.{view_of}
-use Rattle.hba_driver.specs.declared.{path.Path.Path, path.Recovery.TheVariants.{Log, Reset}}
-use Rattle.hba_driver.specs.declared.path.Stage.{Stage, TheVariants.{Identify, ReadLog, AssertReset, ReleaseReset, AwaitReset}}
-use Rattle.hba_driver.specs.declared.{path.TaskFile.TaskFile, plan.Device.TheVariants.{Absent, Ready, Recovering, Starting}, plan.Plan.Plan}
-use Rattle.hba_driver.specs.{declared.turn.Act.Act, Drivers.{Driver, Entry, device_at, entry_at, is_issued, new_driver, waits}, Events.IsSoundHost}
-use Rattle.hba_driver.specs.{HostTurns.{Does, Host, HostTurn, Ticked, sight_in}, Orders.is_flush}
-use Rattle.hba_driver.specs.{Steady.{HasSignature, IsFine, IsFlushTick, IsSteady, IsSteadyTurn, IsSwitching, detects}, Ticks.due}
+use Rattle.hba_driver.specs.declared.path.{Path.Path, Recovery.TheVariants.{Log, Reset}, Stage.{Stage, TheVariants.{Identify, ReadLog, AssertReset}}}
+use Rattle.hba_driver.specs.declared.{path.{Stage.TheVariants.{ReleaseReset, AwaitReset}, TaskFile.TaskFile}, plan.Device.TheVariants.{Absent, Ready}}
+use Rattle.hba_driver.specs.{declared.{plan.{Device.TheVariants.{Recovering, Starting}, Plan.Plan}, turn.Act.Act}, Drivers.{Driver, Entry, device_at}}
+use Rattle.hba_driver.specs.{Drivers.{entry_at, is_issued, new_driver, waits}, Events.IsSoundHost, HostTurns.{Does, Host, HostTurn, Ticked, sight_in}}
+use Rattle.hba_driver.specs.{Orders.is_flush, Steady.{HasSignature, IsFine, IsFlushTick, IsSteady, IsSteadyTurn, IsSwitching, detects}, Ticks.due}
 use Rattle.hba_driver.specs.declared.turn.Act.TheVariants as act
 
 -- ---- slot 30

@@ -5,13 +5,12 @@ use Rattle.host_memory.specs.Memory.{Memory}
 use Rattle.slots.specs.Slots.{has_bit, lowest_below, match_some}
 use Rattle.hba_fbs.specs.Views.{Port}
 use Rattle.hba_driver.specs.declared.{effect.Effect.Effect, mode.Mode.Mode, order.Order.{Order, TheVariants.{Clear, ResetOn}}, path.Path.Path}
-use Rattle.hba_driver.specs.declared.{path.Stage.{Stage, TheVariants.AssertReset}, path.TaskFile.TaskFile}
-use Rattle.hba_driver.specs.declared.{plan.Device.TheVariants.{Absent, Recovering}, plan.Plan.Plan}
-use Rattle.hba_driver.specs.declared.request.Outcome.{Outcome, TheVariants.{Done, DeviceError, Aborted, Removed, PortError}}
-use Rattle.hba_driver.specs.{declared.sight.ErrorLog.ErrorLog, Seeing.Sight, declared.{slot.Group.Group, slot.Head.Head}}
-use Rattle.hba_driver.specs.declared.{slot.Phase.TheVariants.{Issued, Aside, Ended}, turn.Act.Act, turn.Logged.Logged, turn.Turn.Turn}
-use Rattle.hba_driver.specs.Drivers.{Driver, Entry, device_at, entry_at, has_ended, holds, is_aside, is_issued, rephase_all, rephased, with_device}
-use Rattle.hba_driver.specs.{Effects.effects_of, Orders.{control_port, is_flush}, Paths.{recovery, reset_if_there}, Turns.turn_of}
+use Rattle.hba_driver.specs.declared.{path.{Stage.{Stage, TheVariants.AssertReset}, TaskFile.TaskFile}, plan.Device.TheVariants.{Absent, Recovering}}
+use Rattle.hba_driver.specs.declared.{plan.Plan.Plan, request.Outcome.{Outcome, TheVariants.{Done, DeviceError, Aborted, Removed, PortError}}}
+use Rattle.hba_driver.specs.{declared.{sight.ErrorLog.ErrorLog, slot.{Group.Group, Head.Head, Phase.TheVariants.{Issued, Aside}}}, Seeing.Sight}
+use Rattle.hba_driver.specs.{declared.{slot.Phase.TheVariants.Ended, turn.{Act.Act, Logged.Logged, Turn.Turn}}, Drivers.{Driver, Entry, device_at}}
+use Rattle.hba_driver.specs.{Drivers.{entry_at, has_ended, holds, is_aside, is_issued, rephase_all, rephased, with_device}, Effects.effects_of}
+use Rattle.hba_driver.specs.{Orders.{control_port, is_flush}, Paths.{recovery, reset_if_there}, Turns.turn_of}
 use Rattle.hba_driver.specs.declared.slot.Group.TheVariants as group
 use Rattle.hba_driver.specs.declared.turn.Act.TheVariants as act
 

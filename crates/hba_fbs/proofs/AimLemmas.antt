@@ -3,9 +3,7 @@ use Rattle.std.proofs.Common.{◌≡◌, ℕ, ◌<◌, Bool, true, false, List, 
 use Rattle.std.specs.Prelude.{if◌then◌else◌}
 use Rattle.slots.specs.Slots.{has_bit, lowest, match_some}
 use Rattle.slots.proofs.Door.{lowest_found, lowest_none}
-use Rattle.hba_fbs.specs.declared.registers.Registers.{Registers}
-use Rattle.hba_fbs.specs.Issuing.{aimed, first_named, named_in}
-use Rattle.hba_fbs.specs.Offering.{Offer, aimed_by, first_by}
+use Rattle.hba_fbs.specs.{declared.registers.Registers.Registers, Issuing.{aimed, first_named, named_in}, Offering.{Offer, aimed_by, first_by}}
 
 -- with FIS-based switching
 pub aimed_chosen : (r : Registers) (structure : List ℕ) (value : ℕ) → r.switching ≡ true → aimed r structure value ≡ r.chosen

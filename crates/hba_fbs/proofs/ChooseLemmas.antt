@@ -1,18 +1,13 @@
 -- Who may go next, by the masks of the devices that asked for data and of the slots whose commands were not sent.
-use Rattle.std.proofs.Common.{◌≡◌, ℕ, zero, suc, ◌+◌, ◌<◌, ◌≤◌, Bool, true, false, not, ◌&&◌, nat_eq, refl, sym, ap, ◌∙◌, arith, inl, inr, Option, Some, None}
+use Rattle.std.proofs.Common.{◌≡◌, ℕ, zero, suc, ◌+◌, ◌<◌, ◌≤◌, Bool, true, false, not, ◌&&◌, nat_eq, refl, sym, ap, ◌∙◌, arith, inl, inr, Option}
+use Rattle.std.proofs.{Common.{Some, None}, lemmas.{Bool.cases_Bool, Nat.Bits.{bit_at-zero}}}
 use Rattle.std.specs.Prelude.{if◌then◌else◌, is_none, is_some}
-use Rattle.std.proofs.lemmas.Bool.{cases_Bool}
-use Rattle.std.proofs.lemmas.Nat.Bits.{bit_at-zero}
 use Rattle.port_errors.specs.Errors.{Errors, cause_of}
-use Rattle.slots.specs.Commands.{is_any, may_go, next_slot, slots_where}
-use Rattle.slots.specs.Data.{payload, receivers}
-use Rattle.slots.specs.Slots.{Issue, Slots, context_of, has_bit, holds, is_unsent, issue_at, lowest_below, mask_below, mask_of}
+use Rattle.slots.specs.{Commands.{is_any, may_go, next_slot, slots_where}, Data.{payload, receivers}, Slots.{Issue, Slots, context_of, has_bit}}
+use Rattle.slots.specs.Slots.{holds, is_unsent, issue_at, lowest_below, mask_below, mask_of}
 use Rattle.slots.proofs.Door.{has_bit_below, has_bit_mask, lowest_none, mask_none, mask_same}
-use Rattle.hba_fbs.specs.Choosing.{asking_devices, due_devices, due_slots, is_free, may_feed, may_order, unsent_slots}
-use Rattle.hba_fbs.specs.Issuing.{is_busy}
-use Rattle.hba_fbs.specs.Sending.{is_due}
-use Rattle.hba_fbs.specs.Taking.{is_running}
-use Rattle.hba_fbs.specs.Views.{Port}
+use Rattle.hba_fbs.specs.{Choosing.{asking_devices, due_devices, due_slots, is_free, may_feed, may_order, unsent_slots}, Issuing.is_busy}
+use Rattle.hba_fbs.specs.{Sending.is_due, Taking.is_running, Views.Port}
 
 -- ---- masks
 

@@ -1,21 +1,14 @@
 -- What the core decides, and what the shell makes of it.
-use Rattle.std.proofs.Common.{◌≡◌, ℕ, Bool, true, false, List, refl, sym, ◌∙◌, ap, subst, Option, Some, None}
-use Rattle.std.proofs.lemmas.Bool.{true≢false}
+use Rattle.std.proofs.{Common.{◌≡◌, ℕ, Bool, true, false, List, refl, sym, ◌∙◌, ap, subst, Option, Some, None}, lemmas.Bool.{true≢false}}
 use Rattle.fis_view.specs.declared.view.Fis.{Fis}
 use Rattle.fis_view.specs.declared.view.Fis.TheVariants as kind
 use Rattle.host_memory.specs.Memory.{Memory}
 use Rattle.rx_area.specs.declared.area.Posted.{Posted}
 use Rattle.slots.specs.Slots.{DeviceSlots}
-use Rattle.hba_fbs.specs.declared.hearing.Heard.{Heard}
-use Rattle.hba_fbs.specs.declared.report.TakeReport.{TakeReport}
-use Rattle.hba_fbs.specs.declared.room.Room.{Room}
-use Rattle.hba_fbs.specs.declared.room.Room.TheVariants.{Bytes, NoTable, Whole}
-use Rattle.hba_fbs.specs.declared.state.DeviceState.{DeviceState}
-use Rattle.hba_fbs.specs.Deciding.{Decides, carries, decided, heard_within, room_if}
-use Rattle.hba_fbs.specs.Hearing.{heard_fis}
-use Rattle.hba_fbs.specs.Registers.{AreRegisters}
-use Rattle.hba_fbs.specs.Taking.{PostsIn, Takes, errors_in, heard, heard_report, place_in, posted_of, row_for, settled, view_after_hearing, wrote_by}
-use Rattle.hba_fbs.specs.Views.{DeviceView, Port, view_of}
+use Rattle.hba_fbs.specs.declared.{hearing.Heard.Heard, report.TakeReport.TakeReport, room.Room.{Room, TheVariants.{Bytes, NoTable, Whole}}}
+use Rattle.hba_fbs.specs.{declared.state.DeviceState.DeviceState, Deciding.{Decides, carries, decided, heard_within, room_if}, Hearing.heard_fis}
+use Rattle.hba_fbs.specs.{Registers.AreRegisters, Taking.{PostsIn, Takes, errors_in, heard, heard_report, place_in, posted_of, row_for, settled}}
+use Rattle.hba_fbs.specs.{Taking.{view_after_hearing, wrote_by}, Views.{DeviceView, Port, view_of}}
 use Rattle.hba_fbs.proofs.RegisterLemmas.{heard_are}
 
 -- a FIS without data is heard alike, whatever is said of the table

@@ -1,15 +1,10 @@
 -- Data of a device, and the command for whose slot it comes.
 use Rattle.std.proofs.Common.{◌≡◌, ℕ, ◌+◌, ◌*◌, ◌<◌, ◌≤◌, Bool, true, false, ◌||◌, List, length, refl, sym, ◌∙◌, arith, inl, inr, Option, Some, None}
-use Rattle.std.specs.Prelude.{nat_lt, is_none, if◌then◌else◌}
 use Rattle.std.proofs.lemmas.Bool.{lt-ltb, or_left, ltb-false, cases_Bool, false≢true}
-use Rattle.host_memory.specs.Memory.{Memory}
-use Rattle.host_memory.specs.Place.{Scatters}
-use Rattle.host_memory.specs.Reading.{read_fault}
-use Rattle.host_memory.specs.declared.table.PrdError.{PrdError}
+use Rattle.std.specs.Prelude.{nat_lt, is_none, if◌then◌else◌}
+use Rattle.host_memory.specs.{Memory.Memory, Place.Scatters, Reading.read_fault, declared.table.PrdError.PrdError}
 use Rattle.hba_commands.specs.declared.command.Command.{Command}
-use Rattle.hba_fbs.specs.declared.report.Wrote.{Wrote}
-use Rattle.hba_fbs.specs.Tables.{Delivers, prds_of}
-use Rattle.hba_fbs.specs.Views.{last_command}
+use Rattle.hba_fbs.specs.{declared.report.Wrote.Wrote, Tables.{Delivers, prds_of}, Views.last_command}
 
 -- a table that begins behind the structure area cannot be read
 pub not_read : (structure : List ℕ) (client_len at count : ℕ) → length structure < at → is_none (read_fault structure client_len at count) ≡ false

@@ -1,9 +1,7 @@
 -- A list that a loop fills from its start.
-use Rattle.std.proofs.Common.{◌≡◌, ◌≢◌, ℕ, ◌+◌, ◌<◌, ◌≤◌, List, length, get_or, set, map, refl, ◌∙◌, subst, inl, inr, arith}
+use Rattle.std.proofs.{Common.{◌≡◌, ◌≢◌, ℕ, ◌+◌, ◌<◌, ◌≤◌, List, length, get_or, set, map, refl, ◌∙◌, subst, inl, inr, arith}, lemmas.Bool.cases_lt}
+use Rattle.std.proofs.lemmas.List.{get_or-set_same, get_or-set_other, length-set, FromFn.fill_by_all}
 use Rattle.std.specs.List.{range_with_len}
-use Rattle.std.proofs.lemmas.Bool.{cases_lt}
-use Rattle.std.proofs.lemmas.List.{get_or-set_same, get_or-set_other, length-set}
-use Rattle.std.proofs.lemmas.List.FromFn.{fill_by_all}
 use Rattle.hba_fbs.specs.Between.{FilledTo}
 
 pub filled_none : {A : Type 0} (f : ℕ → A) (d : A) (old : List A) → FilledTo 0 f d old old

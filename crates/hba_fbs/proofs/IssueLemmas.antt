@@ -1,20 +1,14 @@
 -- One more slot is issued.
-use Rattle.std.proofs.Common.{◌≡◌, ◌≢◌, ℕ, ◌+◌, ◌<◌, ◌≤◌, Bool, true, false, ◌&&◌, List, length, get_or, set, refl, sym, ◌∙◌, ap, subst, inl, inr, arith, Option, Some, None}
-use Rattle.std.specs.Prelude.{if◌then◌else◌, ◌==◌}
-use Rattle.std.proofs.lemmas.Nat.Bits.{bit_at-zero}
-use Rattle.std.specs.Option.{is_some, option_or}
-use Rattle.std.proofs.lemmas.Bool.{cases_eq, true≢false, false≢true}
+use Rattle.std.proofs.Common.{◌≡◌, ◌≢◌, ℕ, ◌+◌, ◌<◌, ◌≤◌, Bool, true, false, ◌&&◌, List, length, get_or, set, refl, sym, ◌∙◌, ap, subst, inl, inr}
+use Rattle.std.proofs.{Common.{arith, Option, Some, None}, lemmas.{Nat.Bits.{bit_at-zero}, Bool.{cases_eq, true≢false, false≢true}}}
 use Rattle.std.proofs.lemmas.List.{get_or-set_same, get_or-set_other}
+use Rattle.std.specs.{Prelude.{if◌then◌else◌, ◌==◌}, Option.{is_some, option_or}}
 use Rattle.slots.specs.Slots.{DeviceSlots, Issue, LeavesOthers, Slots, has_bit, issue_at, own_issue, owned_by, slots_of}
 use Rattle.slots.specs.declared.table.Context.{Context}
 use Rattle.hba_commands.specs.declared.command.Command.{Command}
 use Rattle.hba_fbs.specs.Issuing.{any_slot, is_busy, issue_with, issued_slots, issues_with, commands_with, slots_after, with_command}
-use Rattle.hba_fbs.specs.Offering.{Offer, asked_by}
-use Rattle.hba_fbs.specs.Views.{HaveCommands, last_command}
-use Rattle.hba_fbs.specs.Between.{FilledTo}
-use Rattle.hba_fbs.proofs.AnyLemmas.{none_passes}
-use Rattle.hba_fbs.proofs.FillLemmas.{filled_all, filled_same, filled_set}
-use Rattle.hba_fbs.proofs.SlotLemmas.{own_at, stays_free}
+use Rattle.hba_fbs.specs.{Offering.{Offer, asked_by}, Views.{HaveCommands, last_command}, Between.FilledTo}
+use Rattle.hba_fbs.proofs.{AnyLemmas.none_passes, FillLemmas.{filled_all, filled_same, filled_set}, SlotLemmas.{own_at, stays_free}}
 
 -- what an issue makes of each slot of a device
 abbrev pub issue_after : ℕ → (ℕ → Option Command) → List (Option Issue) → ℕ → Option Issue

@@ -1,20 +1,14 @@
 -- A write beside a memory is a write of what the memory offers.
 use Rattle.std.proofs.Common.{◌≡◌, ℕ, Bool, true, false, refl, sym, ◌∙◌, ap, subst, Option, Some, None}
-use Rattle.std.specs.Prelude.{MatchOption, OnErr, OnOk, Result, Ok, Err, if◌then◌else◌}
-use Rattle.std.specs.Result.{result_err}
-use Rattle.std.specs.Option.{option_or}
+use Rattle.std.specs.{Prelude.{MatchOption, OnErr, OnOk, Result, Ok, Err, if◌then◌else◌}, Result.result_err, Option.option_or}
 use Rattle.host_memory.specs.Memory.{Memory}
 use Rattle.slots.specs.Slots.{match_some}
-use Rattle.hba_fbs.specs.declared.error.WriteError.{WriteError}
+use Rattle.hba_fbs.specs.declared.{error.WriteError.WriteError, register.Register.{Register, TheVariants.{Cmd, Sact, Ci, Fbs}}}
+use Rattle.hba_fbs.specs.{declared.registers.Registers.Registers, Offering.{AcceptsBy, Offer, active_by, commands_by, offer_of, refusal_by}}
+use Rattle.hba_fbs.specs.{Offering.{slots_refusal_by, view_by, write_refusal_by, WritesBy}, Offsets.register_at, Registers.{AreRegisters, is_outside}}
+use Rattle.hba_fbs.specs.{Registers.{own_refusal, own_refusal_by}, Views.Port, Writing.{Accepts, Writes, active_after, commands_after, refusal_of}}
+use Rattle.hba_fbs.specs.Writing.{slots_refusal, view_after, write_refusal}
 use Rattle.hba_fbs.specs.declared.error.WriteError.TheVariants as refusal
-use Rattle.hba_fbs.specs.declared.register.Register.{Register}
-use Rattle.hba_fbs.specs.declared.register.Register.TheVariants.{Cmd, Sact, Ci, Fbs}
-use Rattle.hba_fbs.specs.declared.registers.Registers.{Registers}
-use Rattle.hba_fbs.specs.Offering.{AcceptsBy, Offer, active_by, commands_by, offer_of, refusal_by, slots_refusal_by, view_by, write_refusal_by, WritesBy}
-use Rattle.hba_fbs.specs.Offsets.{register_at}
-use Rattle.hba_fbs.specs.Registers.{AreRegisters, is_outside, own_refusal, own_refusal_by}
-use Rattle.hba_fbs.specs.Views.{Port}
-use Rattle.hba_fbs.specs.Writing.{Accepts, Writes, active_after, commands_after, refusal_of, slots_refusal, view_after, write_refusal}
 use Rattle.hba_fbs.proofs.RegisterLemmas.{own_split, written_are}
 
 slots_is : (register : Register) (port : Port) (memory : Memory) (value : ℕ) → slots_refusal_by register port (offer_of port.registers memory) value ≡ slots_refusal register port memory value

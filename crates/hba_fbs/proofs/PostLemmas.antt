@@ -1,8 +1,7 @@
 -- The received area within the structure area.
 use Rattle.std.proofs.Common.{◌≡◌, ℕ, ◌+◌, ◌-◌, ◌≤◌, List, ◌++◌, length, take, drop, refl, sym, ◌∙◌, ap, subst, arith, length-append, length-drop}
-use Rattle.std.proofs.Math.Seq.{take-append-add}
-use Rattle.std.proofs.lemmas.List.{append_assoc, length-take, drop-append-le, drop-drop, drop-take, length-take-le, take-take}
-use Rattle.std.proofs.lemmas.Slice.{take-put_mid_below, drop-put_mid}
+use Rattle.std.proofs.{Math.Seq.{take-append-add}, lemmas.List.{append_assoc, length-take, drop-append-le, drop-drop, drop-take, length-take-le}}
+use Rattle.std.proofs.lemmas.{List.{take-take}, Slice.{take-put_mid_below, drop-put_mid}}
 use borrow.Rule.Slice.PartMut.{put_mid}
 use Rattle.fis_view.specs.declared.view.Fis.{Fis}
 use Rattle.host_memory.specs.Memory.{overwritten}

@@ -1,15 +1,10 @@
 -- A FIS is ignored exactly where there is a reason.
 use Rattle.std.proofs.Common.{◌≡◌, ℕ, Bool, true, false, refl, Option, Some, None}
 use Rattle.std.specs.Prelude.{◌&&◌, ◌||◌, if◌then◌else◌, is_none, is_some, not, Result}
-use Rattle.fis_view.specs.declared.view.Fis.{Fis}
-use Rattle.fis_view.specs.declared.view.FisFault.{FisFault}
-use Rattle.port_errors.specs.declared.cause.DeviceCause.{DeviceCause}
-use Rattle.port_errors.specs.declared.cause.Stop.{Stop}
+use Rattle.fis_view.specs.declared.view.{Fis.Fis, FisFault.FisFault}
+use Rattle.port_errors.specs.declared.cause.{DeviceCause.DeviceCause, Stop.Stop}
 use Rattle.hba_fbs.specs.declared.reasons.Ignored.TheVariants as why
-use Rattle.hba_fbs.specs.Posting.{signs}
-use Rattle.hba_fbs.specs.Reasons.{ignored_for}
-use Rattle.hba_fbs.specs.Taking.{is_ignored, is_running, passes_over}
-use Rattle.hba_fbs.specs.Views.{DeviceView, Port}
+use Rattle.hba_fbs.specs.{Posting.signs, Reasons.ignored_for, Taking.{is_ignored, is_running, passes_over}, Views.{DeviceView, Port}}
 
 by_cases : (started : Bool) (stop : Option Stop) (fault : Option DeviceCause) (mute over : Bool)
     → is_some (if not started then Some why.Stopped else if is_some stop then Some why.PortFaulty else if is_some fault then Some why.DeviceFaulty else if mute then Some why.NoSignature else if over then Some why.Unasked else None)

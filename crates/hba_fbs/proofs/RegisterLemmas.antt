@@ -1,20 +1,15 @@
 -- The registers keep their rules: what a write is refused for, and what it leaves.
-use Rattle.std.proofs.Common.{◌≡◌, ℕ, ◌+◌, ◌≤◌, Bool, true, false, not, ◌&&◌, ◌||◌, refl, Option, Some, None, arith}
+use Rattle.std.proofs.{Common.{◌≡◌, ℕ, ◌+◌, ◌≤◌, Bool, true, false, not, ◌&&◌, ◌||◌, refl, Option, Some, None, arith}, lemmas.Bool.{true≢false}}
+use Rattle.std.proofs.lemmas.Bool.{false≢true, or_parts, ltb-false}
 use Rattle.std.specs.Prelude.{nat_lt, ◌==◌, if◌then◌else◌}
 use Rattle.fis_view.specs.declared.view.Fis.{Fis}
 use Rattle.fis_view.specs.declared.view.Fis.TheVariants as view
 use Rattle.slots.specs.Slots.{has_bit}
 use Rattle.hba_fbs.specs.declared.error.WriteError.TheVariants as refusal
-use Rattle.hba_fbs.specs.declared.hearing.Heard.{Heard}
-use Rattle.hba_fbs.specs.declared.register.Register.{Register}
-use Rattle.hba_fbs.specs.declared.register.Register.TheVariants.{Clb, Cmd, Fb, Fbs, Sig, Tfd}
-use Rattle.hba_fbs.specs.Bits.{fre, pma, st}
-use Rattle.hba_fbs.specs.Posting.{posted}
-use Rattle.hba_fbs.specs.Taking.{posted_of, settled}
-use Rattle.std.proofs.lemmas.Bool.{true≢false, false≢true, or_parts, ltb-false}
-use Rattle.hba_fbs.specs.declared.error.WriteError.{WriteError}
-use Rattle.hba_fbs.specs.declared.registers.Registers.{Registers}
-use Rattle.hba_fbs.specs.Registers.{AreOwn, AreRegisters, cmd_refusal, cmd_refusal_by, falls, is_area_outside, is_list_outside, is_outside, own_refusal, own_refusal_by, running_if, written}
+use Rattle.hba_fbs.specs.{declared.{hearing.Heard.Heard, register.Register.{Register, TheVariants.{Clb, Cmd, Fb, Fbs, Sig, Tfd}}}, Bits.{fre, pma}}
+use Rattle.hba_fbs.specs.{Bits.st, Posting.posted, Taking.{posted_of, settled}, declared.{error.WriteError.WriteError, registers.Registers.Registers}}
+use Rattle.hba_fbs.specs.Registers.{AreOwn, AreRegisters, cmd_refusal, cmd_refusal_by, falls, is_area_outside, is_list_outside, is_outside}
+use Rattle.hba_fbs.specs.Registers.{own_refusal, own_refusal_by, running_if, written}
 
 -- the first refusal does not apply, and neither do the others
 record Passes (test : Bool) (others : Option WriteError) : Type 0 where

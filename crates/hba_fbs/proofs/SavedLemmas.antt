@@ -1,14 +1,11 @@
 -- The rules of a port and what is tested of it say the same.
 use Rattle.std.proofs.Common.{◌≡◌, ℕ, Bool, true, false, not, ◌&&◌, ◌||◌, nat_lt, List, refl, ap, arith, inl, inr, Option, Some, None}
+use Rattle.std.proofs.lemmas.{Bool.{and_from, and_parts, cases_lt, false≢true, lt-ltb, ltb-true, true≢false}, List.get_or_past}
 use Rattle.std.specs.Option.{is_none, is_some}
-use Rattle.std.proofs.lemmas.Bool.{and_from, and_parts, cases_lt, false≢true, lt-ltb, ltb-true, true≢false}
-use Rattle.std.proofs.lemmas.List.{get_or_past}
-use Rattle.slots.specs.Slots.{Issue, Slots, issue_at, lowest}
-use Rattle.slots.specs.Table.{IsTable}
+use Rattle.slots.specs.{Slots.{Issue, Slots, issue_at, lowest}, Table.IsTable}
 use Rattle.slots.proofs.Door.{lowest_none, none_below}
 use Rattle.hba_commands.specs.declared.command.Command.{Command}
-use Rattle.hba_fbs.specs.Saved.{are_own, have_commands, is_core, lacks_command}
-use Rattle.hba_fbs.specs.Views.{HaveCommands, IsCorePort, Port, last_command}
+use Rattle.hba_fbs.specs.{Saved.{are_own, have_commands, is_core, lacks_command}, Views.{HaveCommands, IsCorePort, Port, last_command}}
 
 then : (x y : Bool) → (not x || y) ≡ true → x ≡ true → y ≡ true
 then true y h e = h

@@ -1,23 +1,15 @@
 -- What goes out, from the clauses of the calls that make it.
 use Rattle.std.proofs.Common.{◌≡◌, ℕ, ◌+◌, ◌-◌, Bool, true, false, List, slice_index, refl, sym, ap, ◌∙◌, subst, Option, Some, None}
-use Rattle.std.specs.Prelude.{OnErr, Result, Ok, Err, if◌then◌else◌, is_some, not}
-use Rattle.std.specs.List.{concat}
 use Rattle.std.proofs.lemmas.List.FromFn.{fill_by_all}
+use Rattle.std.specs.{Prelude.{OnErr, Result, Ok, Err, if◌then◌else◌, is_some, not}, List.concat}
 use Rattle.fis_view.specs.Frames.{Stamped}
-use Rattle.host_memory.specs.Memory.{Memory, client_start}
-use Rattle.host_memory.specs.Parts.{AreParts}
-use Rattle.host_memory.specs.Place.{Table, place}
-use Rattle.host_memory.specs.declared.table.Prd.{Prd}
+use Rattle.host_memory.specs.{Memory.{Memory, client_start}, Parts.AreParts, Place.{Table, place}, declared.table.Prd.Prd}
 use Rattle.hba_commands.specs.declared.command.Command.{Command}
-use Rattle.slots.specs.Data.{payload}
-use Rattle.slots.specs.Slots.{Issue, context_of, issue_at, match_some}
-use Rattle.hba_fbs.specs.declared.turn.Turn.{Turn}
-use Rattle.hba_fbs.specs.declared.turn.Turn.TheVariants.{Feeds, Orders, Rests}
-use Rattle.hba_fbs.specs.Sending.{Gives, Nothing, Order, Sends, data_due, data_fis, data_with, gathered, is_sent, next_receiver, next_to_send, order_due, outgoing, view_fed}
-use Rattle.hba_fbs.specs.Tables.{IsTableOf, areas, sound_command}
-use Rattle.hba_fbs.specs.Taking.{is_running}
-use Rattle.hba_fbs.specs.Turning.{feeds, orders, outgoing_at, turn_of}
-use Rattle.hba_fbs.specs.Views.{Port, last_command, view_of}
+use Rattle.slots.specs.{Data.payload, Slots.{Issue, context_of, issue_at, match_some}}
+use Rattle.hba_fbs.specs.{declared.turn.Turn.{Turn, TheVariants.{Feeds, Orders, Rests}}, Sending.{Gives, Nothing, Order, Sends, data_due, data_fis}}
+use Rattle.hba_fbs.specs.{Sending.{data_with, gathered, is_sent, next_receiver, next_to_send, order_due, outgoing, view_fed}, Tables.IsTableOf}
+use Rattle.hba_fbs.specs.{Tables.{areas, sound_command}, Taking.is_running, Turning.{feeds, orders, outgoing_at, turn_of}, Views.{Port, last_command}}
+use Rattle.hba_fbs.specs.Views.{view_of}
 
 -- the parts of a transfer, joined, are its bytes
 pub gathered_is : (prds : List Prd) (offset len : ℕ) (client : List ℕ) (parts : List (List ℕ)) → AreParts prds offset len client parts → concat parts ≡ gathered prds offset len client

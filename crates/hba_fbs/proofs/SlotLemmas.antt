@@ -1,9 +1,7 @@
 -- Free slots stay free, so each issued slot keeps its command.
-use Rattle.std.proofs.Common.{◌≡◌, ℕ, List, get_or, replicate, refl, ◌∙◌, ap, subst, inl, inr, Option, Some, None, arith}
+use Rattle.std.proofs.{Common.{◌≡◌, ℕ, List, get_or, replicate, refl, ◌∙◌, ap, subst, inl, inr, Option, Some, None, arith}, lemmas.Bool.cases_eq}
+use Rattle.std.proofs.{lemmas.{Bool.{cases_lt, eq-eqb}, List.{get_or-replicate, get_or_past}}, Math.ListN.{get_or-map, length-replicate}}
 use Rattle.std.specs.Prelude.{MatchOption}
-use Rattle.std.proofs.lemmas.Bool.{cases_eq, cases_lt, eq-eqb}
-use Rattle.std.proofs.lemmas.List.{get_or-replicate, get_or_past}
-use Rattle.std.proofs.Math.ListN.{get_or-map, length-replicate}
 use Rattle.slots.specs.Slots.{Issue, Slots, DeviceSlots, LeavesOthers, issue_at, no_own_slots, no_slots, owned_by, own_issue, slots_of}
 use Rattle.hba_commands.specs.declared.command.Command.{Command}
 use Rattle.hba_fbs.specs.Views.{HaveCommands}

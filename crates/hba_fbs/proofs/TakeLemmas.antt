@@ -1,16 +1,11 @@
 -- A FIS that is heard, from the clauses of the call that hears it.
 use Rattle.std.proofs.Common.{◌≡◌, ℕ, List, drop, sym, subst, Option, Some, None}
 use Rattle.std.specs.Prelude.{Result, Ok, IfOk}
-use Rattle.fis_view.specs.Seen.{frame_of}
-use Rattle.fis_view.specs.declared.view.Fis.{Fis}
-use Rattle.fis_view.specs.declared.view.FisFault.{FisFault}
+use Rattle.fis_view.specs.{Seen.frame_of, declared.view.{Fis.Fis, FisFault.FisFault}}
 use Rattle.host_memory.specs.Memory.{Memory}
-use Rattle.hba_fbs.specs.declared.report.TakeReport.{TakeReport}
+use Rattle.hba_fbs.specs.{declared.report.TakeReport.TakeReport, Posting.posted, Tables.{Delivers, is_sound}, Taking.{PostsIn, Takes, errors_in}}
+use Rattle.hba_fbs.specs.{Taking.{heard_now, heard_report, heard_view, place_in, row_for, settled, wrote_by}, Views.{LeavesOtherViews, Port, view_of}}
 use Rattle.slots.specs.Slots.{KeepsFree}
-use Rattle.hba_fbs.specs.Posting.{posted}
-use Rattle.hba_fbs.specs.Tables.{Delivers, is_sound}
-use Rattle.hba_fbs.specs.Taking.{PostsIn, Takes, errors_in, heard_now, heard_report, heard_view, place_in, row_for, settled, wrote_by}
-use Rattle.hba_fbs.specs.Views.{LeavesOtherViews, Port, view_of}
 
 pub whole_of : (seen : Result Fis FisFault) (fis : Fis) (bytes : List ℕ) → seen ≡ Ok fis → IfOk seen (λ f. frame_of f ≡ bytes) → frame_of fis ≡ bytes
 whole_of seen fis bytes is h = subst (λ (x : Result Fis FisFault). IfOk x (λ f. frame_of f ≡ bytes)) is h

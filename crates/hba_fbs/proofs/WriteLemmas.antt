@@ -1,16 +1,12 @@
 -- A write of PxCI that is not refused.
-use Rattle.std.proofs.Common.{◌≡◌, ℕ, Bool, true, false, not, ◌&&◌, refl, sym, ap, Option, Some, None}
-use Rattle.std.specs.Prelude.{if◌then◌else◌, ◌==◌}
-use Rattle.std.specs.Option.{option_or}
-use Rattle.std.proofs.lemmas.Bool.{eq-eqb, eqb-true, false≢true, true≢false}
+use Rattle.std.proofs.{Common.{◌≡◌, ℕ, Bool, true, false, not, ◌&&◌, refl, sym, ap, Option, Some, None}, lemmas.Bool.{eq-eqb, eqb-true, false≢true}}
+use Rattle.std.proofs.lemmas.Bool.{true≢false}
+use Rattle.std.specs.{Prelude.{if◌then◌else◌, ◌==◌}, Option.option_or}
 use Rattle.slots.specs.Slots.{DeviceSlots}
-use Rattle.hba_fbs.specs.declared.error.WriteError.{WriteError}
+use Rattle.hba_fbs.specs.{declared.{error.WriteError.WriteError, register.Register.TheVariants.Ci}, Issuing.{any_slot, is_busy}, Offering.Offer}
+use Rattle.hba_fbs.specs.Offering.{active_by, aimed_by, asked_by, commands_by, refusal_by, slots_refusal_by, view_by, view_issued_by}
+use Rattle.hba_fbs.specs.{Registers.{own_refusal, own_refusal_by}, Views.{DeviceView, Port, view_of}}
 use Rattle.hba_fbs.specs.declared.error.WriteError.TheVariants as refusal
-use Rattle.hba_fbs.specs.declared.register.Register.TheVariants.{Ci}
-use Rattle.hba_fbs.specs.Issuing.{any_slot, is_busy}
-use Rattle.hba_fbs.specs.Offering.{Offer, active_by, aimed_by, asked_by, commands_by, refusal_by, slots_refusal_by, view_by, view_issued_by}
-use Rattle.hba_fbs.specs.Registers.{own_refusal, own_refusal_by}
-use Rattle.hba_fbs.specs.Views.{DeviceView, Port, view_of}
 use Rattle.hba_fbs.proofs.IssueLemmas.{commands_none, issued_none, nothing_asked}
 
 not_one : (b : Bool) (e : WriteError) (o : Option WriteError) → (if b then Some e else o) ≡ None → b ≡ false

@@ -1,15 +1,11 @@
 -- What may go to the devices of a port whose caller chooses who goes next, and what that leaves (AHCI 1.3.1, 5.3, the port's
 -- states up to sending a command or its data; 9.2, Command-based Switching; 9.3, FIS-based Switching).
 use Rattle.std.specs.Prelude.{ℕ, ◌≡◌, ◌&&◌, Bool, true, not, if◌then◌else◌}
-use Rattle.slots.specs.Commands.{any_sent_beside, may_go, slots_where}
-use Rattle.slots.specs.Data.{receivers}
-use Rattle.slots.specs.Slots.{Issue, holds, is_unsent, issue_at, mask_below, mask_of}
-use Rattle.hba_fbs.specs.declared.turn.Turn.{Turn}
-use Rattle.hba_fbs.specs.declared.turn.Turn.TheVariants.{Rests, Feeds, Orders}
-use Rattle.hba_fbs.specs.Sending.{counted, faulty_devices, is_due, ready_devices, view_fed, view_sent}
-use Rattle.hba_fbs.specs.Taking.{is_running}
-use Rattle.hba_fbs.specs.Turning.{IsFed, IsOrdered}
-use Rattle.hba_fbs.specs.Views.{DeviceView, LeavesOtherViews, Port, view_of}
+use Rattle.slots.specs.{Commands.{any_sent_beside, may_go, slots_where}, Data.receivers, Slots.{Issue, holds, is_unsent, issue_at, mask_below}}
+use Rattle.slots.specs.Slots.{mask_of}
+use Rattle.hba_fbs.specs.{declared.turn.Turn.{Turn, TheVariants.{Rests, Feeds, Orders}}, Sending.{counted, faulty_devices, is_due, ready_devices}}
+use Rattle.hba_fbs.specs.{Sending.{view_fed, view_sent}, Taking.is_running, Turning.{IsFed, IsOrdered}, Views.{DeviceView, LeavesOtherViews, Port}}
+use Rattle.hba_fbs.specs.Views.{view_of}
 
 -- the devices that asked for data, and the slots whose commands were not sent, while the port runs: nothing goes to any other
 -- device, or from any other slot

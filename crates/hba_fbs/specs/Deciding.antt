@@ -1,20 +1,13 @@
 -- What the part of a host port that holds no memory decides on a FIS (AHCI 1.3.1, 5.3.13 and 9.3), and what it asks
 -- of whoever has the memory: the room of the PRD table, for the slot for which the device sends Data.
-use Rattle.std.specs.Prelude.{ℕ, ◌≡◌, ◌≤◌, ◌+◌, ◌-◌, ◌&&◌, Bool, true, false, nat_lt, if◌then◌else◌, length}
-use Rattle.std.specs.Prelude.{Option, Some, None}
+use Rattle.std.specs.Prelude.{ℕ, ◌≡◌, ◌≤◌, ◌+◌, ◌-◌, ◌&&◌, Bool, true, false, nat_lt, if◌then◌else◌, length, Option, Some, None}
 use Rattle.fis_view.specs.declared.view.Fis.{Fis}
 use Rattle.fis_view.specs.declared.view.Fis.TheVariants as kind
-use Rattle.slots.specs.Slots.{DeviceSlots, KeepsFree}
-use Rattle.slots.specs.declared.table.Context.{Context}
-use Rattle.hba_fbs.specs.declared.hearing.Heard.{Heard}
-use Rattle.hba_fbs.specs.declared.report.TakeReport.{TakeReport}
-use Rattle.hba_fbs.specs.declared.room.Room.{Room}
-use Rattle.hba_fbs.specs.declared.room.Room.TheVariants.{NoTable, Bytes, Whole}
-use Rattle.hba_fbs.specs.declared.state.DeviceState.{DeviceState}
-use Rattle.hba_fbs.specs.Hearing.{heard_bad, heard_fis, overflowed}
-use Rattle.hba_fbs.specs.Taking.{errors_in, heard_report, ignored_report, place_in}
-use Rattle.hba_fbs.specs.Taking.{posted_of, row_for, settled, view_after_hearing}
-use Rattle.hba_fbs.specs.Views.{DeviceView, LeavesOtherViews, Port, view_of}
+use Rattle.slots.specs.{Slots.{DeviceSlots, KeepsFree}, declared.table.Context.Context}
+use Rattle.hba_fbs.specs.declared.{hearing.Heard.Heard, report.TakeReport.TakeReport, room.Room.{Room, TheVariants.{NoTable, Bytes, Whole}}}
+use Rattle.hba_fbs.specs.{declared.state.DeviceState.DeviceState, Hearing.{heard_bad, heard_fis, overflowed}, Taking.{errors_in, heard_report}}
+use Rattle.hba_fbs.specs.{Taking.{ignored_report, place_in, posted_of, row_for, settled, view_after_hearing}, Views.{DeviceView, LeavesOtherViews}}
+use Rattle.hba_fbs.specs.Views.{Port, view_of}
 
 -- it can be used
 abbrev pub has_table : Room → Bool

@@ -1,11 +1,7 @@
 -- The bytes of a write that go out next: AHCI 1.3.1, 5.3 (the port's states up to sending data).
 use Rattle.std.specs.Prelude.{if◌then◌else◌, Option, Some, None}
-use Rattle.slots.specs.Data.{payload}
-use Rattle.slots.specs.Slots.{context_of, match_some}
-use Rattle.hba_fbs.specs.declared.due.Due.{Due}
-use Rattle.hba_fbs.specs.Sending.{next_receiver}
-use Rattle.hba_fbs.specs.Taking.{is_running}
-use Rattle.hba_fbs.specs.Views.{Port}
+use Rattle.slots.specs.{Data.payload, Slots.{context_of, match_some}}
+use Rattle.hba_fbs.specs.{declared.due.Due.Due, Sending.next_receiver, Taking.is_running, Views.Port}
 
 -- those of the lowest device that asked for data, while the port runs
 abbrev pub due_of : Port → Option Due

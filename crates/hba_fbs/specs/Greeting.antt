@@ -1,28 +1,18 @@
 -- What a port that is stopped takes: a Register FIS, by which a device says that it is there; and what hangs at the port before
 -- that (AHCI 1.3.1, 3.3.7 PxCMD.FRE, 3.3.8 PxTFD, 3.3.9 PxSIG, 5.3, the states of a port that does not run, and 10.1.2).
-use Rattle.std.specs.Prelude.{ℕ, ◌≡◌, ◌<◌, ◌==◌, ◌&&◌, ◌||◌, Bool, true, false, not, if◌then◌else◌, List, Option, Some, None}
-use Rattle.std.specs.Prelude.{Result, Ok, MatchOption}
+use Rattle.std.specs.Prelude.{ℕ, ◌≡◌, ◌<◌, ◌==◌, ◌&&◌, ◌||◌, Bool, true, false, not, if◌then◌else◌, List, Option, Some, None, Result, Ok, MatchOption}
 use Rattle.fis_view.specs.Table as table
-use Rattle.fis_view.specs.Table.{field}
-use Rattle.fis_view.specs.declared.view.Fis.{Fis}
+use Rattle.fis_view.specs.{Table.field, declared.view.{Fis.Fis, FisFault.FisFault}}
 use Rattle.fis_view.specs.declared.view.Fis.TheVariants as kind
-use Rattle.fis_view.specs.declared.view.FisFault.{FisFault}
 use Rattle.port_errors.specs.Errors.{without}
 use Rattle.rx_area.specs.Area as rx
 use Rattle.slots.specs.Slots.{no_own_slots}
-use Rattle.hba_fbs.specs.declared.greeting.Line.{Line}
+use Rattle.hba_fbs.specs.declared.{greeting.{Line.Line, Listens.Listens}, registers.Registers.Registers, report.TakeReport.TakeReport}
+use Rattle.hba_fbs.specs.{declared.state.DeviceState.DeviceState, Hearing.quietly, Posting.{is_ata_signature, is_signature, posted}}
+use Rattle.hba_fbs.specs.{Status.{after_reset, signed_by}, Taking.{heard_report, ignored_report}, Views.{DeviceView, LeavesOtherViews, Port, view_of}}
 use Rattle.hba_fbs.specs.declared.greeting.Line.TheVariants as line
-use Rattle.hba_fbs.specs.declared.greeting.Listens.{Listens}
 use Rattle.hba_fbs.specs.declared.greeting.Listens.TheVariants as listens
 use Rattle.hba_fbs.specs.declared.hearing.Happening.TheVariants as happening
-use Rattle.hba_fbs.specs.declared.registers.Registers.{Registers}
-use Rattle.hba_fbs.specs.declared.report.TakeReport.{TakeReport}
-use Rattle.hba_fbs.specs.declared.state.DeviceState.{DeviceState}
-use Rattle.hba_fbs.specs.Hearing.{quietly}
-use Rattle.hba_fbs.specs.Posting.{is_ata_signature, is_signature, posted}
-use Rattle.hba_fbs.specs.Status.{after_reset, signed_by}
-use Rattle.hba_fbs.specs.Taking.{heard_report, ignored_report}
-use Rattle.hba_fbs.specs.Views.{DeviceView, LeavesOtherViews, Port, view_of}
 
 -- ---- whether a FIS is taken
 

@@ -1,37 +1,25 @@
 -- What a FIS means for the device that sent it: AHCI 1.3.1, 5.3.13 (how a port takes each type of FIS) and
 -- chapter 9 (FIS-based Switching); Serial ATA 3.x, 10.5 (FIS types). The FIS and the device's own slots
 -- decide what is wrong with the FIS, and which happening it is; the happening says how the slots change.
-use Rattle.std.specs.Prelude.{ℕ, ◌-◌, ◌%◌, ◌^◌, ◌==◌, Bool, true, false, not, nat_lt, nat_le, if◌then◌else◌}
-use Rattle.std.specs.Prelude.{List, length, Option, Some, None, is_some, Result, Ok, Err}
+use Rattle.std.specs.Prelude.{ℕ, ◌-◌, ◌%◌, ◌^◌, ◌==◌, Bool, true, false, not, nat_lt, nat_le, if◌then◌else◌, List, length, Option, Some, None}
+use Rattle.std.specs.Prelude.{is_some, Result, Ok, Err}
 use Rattle.fis_view.specs.Table as table
-use Rattle.fis_view.specs.Table.{field}
-use Rattle.fis_view.specs.declared.view.Fis.{Fis}
+use Rattle.fis_view.specs.{Table.field, declared.view.Fis.Fis}
 use Rattle.fis_view.specs.declared.view.Fis.TheVariants as view
 use Rattle.port_errors.specs.declared.cause.DeviceCause.{DeviceCause}
 use Rattle.port_errors.specs.declared.cause.DeviceCause.TheVariants as cause
 use Rattle.port_errors.specs.declared.cause.PortCause.TheVariants as port_cause
-use Rattle.slots.specs.declared.answer.Answered.{Answered}
-use Rattle.slots.specs.declared.answer.Answered.TheVariants as answer
-use Rattle.slots.specs.declared.answer.Completed.{Completed}
-use Rattle.slots.specs.declared.answer.SetupError.{SetupError}
-use Rattle.slots.specs.declared.answer.SetupError.TheVariants as refused
-use Rattle.slots.specs.declared.table.Context.{Context}
-use Rattle.slots.specs.Slots.{DeviceSlots, match_some, own_issue, sent_pio}
-use Rattle.slots.specs.Commands.{after_complete, after_pio_done, answer_of, answered_as, completed, whole_pio}
-use Rattle.slots.specs.Setup.{after_setup_pio, dma_context, out_setup, pio_fault, pio_issue, setup_fault}
-use Rattle.slots.specs.Setup.{with_own_context}
+use Rattle.slots.specs.{declared.{answer.{Answered.Answered, Completed.Completed, SetupError.SetupError}, table.Context.Context}, Slots.DeviceSlots}
+use Rattle.slots.specs.{Slots.{match_some, own_issue, sent_pio}, Commands.{after_complete, after_pio_done, answer_of, answered_as, completed}}
+use Rattle.slots.specs.{Commands.whole_pio, Setup.{after_setup_pio, dma_context, out_setup, pio_fault, pio_issue, setup_fault, with_own_context}}
 use Rattle.slots.specs.Data.{after_activate, after_arrive, may_activate}
-use Rattle.hba_fbs.specs.declared.hearing.Fault.{Fault}
+use Rattle.slots.specs.declared.answer.Answered.TheVariants as answer
+use Rattle.slots.specs.declared.answer.SetupError.TheVariants as refused
+use Rattle.hba_fbs.specs.declared.{hearing.{Fault.Fault, Happening.Happening, Heard.Heard}, report.Wrote.Wrote, state.DeviceState.DeviceState}
+use Rattle.hba_fbs.specs.{declared.status.Block.Block, Posting.is_ata_signature, Status.{after_reset, is_busy, is_error, is_quiet, signed_by}}
+use Rattle.hba_fbs.specs.Status.{with_bits, with_block, with_file, with_status}
 use Rattle.hba_fbs.specs.declared.hearing.Fault.TheVariants as fault
-use Rattle.hba_fbs.specs.declared.hearing.Happening.{Happening}
 use Rattle.hba_fbs.specs.declared.hearing.Happening.TheVariants as happening
-use Rattle.hba_fbs.specs.declared.hearing.Heard.{Heard}
-use Rattle.hba_fbs.specs.declared.report.Wrote.{Wrote}
-use Rattle.hba_fbs.specs.declared.state.DeviceState.{DeviceState}
-use Rattle.hba_fbs.specs.declared.status.Block.{Block}
-use Rattle.hba_fbs.specs.Posting.{is_ata_signature}
-use Rattle.hba_fbs.specs.Status.{after_reset, is_busy, is_error, is_quiet, signed_by, with_bits, with_block}
-use Rattle.hba_fbs.specs.Status.{with_file, with_status}
 
 -- ---- happenings
 

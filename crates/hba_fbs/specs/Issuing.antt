@@ -1,17 +1,10 @@
 -- The commands that a write of PxCI issues: AHCI 1.3.1, sections 3.3.14 and 4.2.2.
-use Rattle.std.specs.Prelude.{ℕ, ◌==◌, ◌&&◌, Bool, not, if◌then◌else◌, List, length, map, Option, Some, None}
-use Rattle.std.specs.Prelude.{is_some, is_none, slice_index_or, slice_set}
-use Rattle.std.specs.List.{range_with_len}
-use Rattle.std.specs.Option.{option_or}
+use Rattle.std.specs.Prelude.{ℕ, ◌==◌, ◌&&◌, Bool, not, if◌then◌else◌, List, length, map, Option, Some, None, is_some, is_none, slice_index_or}
+use Rattle.std.specs.{Prelude.slice_set, List.range_with_len, Option.option_or}
 use Rattle.host_memory.specs.Memory.{Memory}
-use Rattle.slots.specs.Slots.{DeviceSlots, Issue, Slots, has_bit, holds, issue_at, lowest, match_some}
-use Rattle.slots.specs.Slots.{new_issue}
-use Rattle.slots.specs.Commands.{after_issue}
-use Rattle.hba_commands.specs.Commands.{command_at}
-use Rattle.hba_commands.specs.Headers.{header_at}
-use Rattle.hba_commands.specs.declared.command.Command.{Command}
-use Rattle.hba_fbs.specs.declared.registers.Registers.{Registers}
-use Rattle.hba_fbs.specs.Views.{DeviceView, last_command}
+use Rattle.slots.specs.{Slots.{DeviceSlots, Issue, Slots, has_bit, holds, issue_at, lowest, match_some, new_issue}, Commands.after_issue}
+use Rattle.hba_commands.specs.{Commands.command_at, Headers.header_at, declared.command.Command.Command}
+use Rattle.hba_fbs.specs.{declared.registers.Registers.Registers, Views.{DeviceView, last_command}}
 
 -- some slot whose bit is set passes the test
 abbrev pub any_slot : ℕ → (ℕ → Bool) → Bool

@@ -1,23 +1,16 @@
 -- A write of a register, for a port that holds no memory: whoever has the command list offers what it read there, by slot the
 -- device that the header names, and the command, None where header or table is bad (AHCI 1.3.1, sections 3.3.14, 4.2.2 and
 -- 9.3). The words are those of Issuing and Writing, with the offer in place of the memory.
-use Rattle.std.specs.Prelude.{ℕ, ◌≡◌, ◌<◌, ◌==◌, ◌&&◌, ◌||◌, Bool, not, if◌then◌else◌, List, Option, Some, None}
-use Rattle.std.specs.Prelude.{MatchOption, is_none}
+use Rattle.std.specs.Prelude.{ℕ, ◌≡◌, ◌<◌, ◌==◌, ◌&&◌, ◌||◌, Bool, not, if◌then◌else◌, List, Option, Some, None, MatchOption, is_none}
 use Rattle.std.specs.Option.{option_or}
-use Rattle.hba_commands.specs.Commands.{command_at}
-use Rattle.hba_commands.specs.declared.command.Command.{Command}
+use Rattle.hba_commands.specs.{Commands.command_at, declared.command.Command.Command}
 use Rattle.host_memory.specs.Memory.{Memory}
 use Rattle.slots.specs.Slots.{has_bit, lowest, match_some}
-use Rattle.hba_fbs.specs.declared.error.WriteError.{WriteError}
-use Rattle.hba_fbs.specs.declared.error.WriteError.TheVariants as refusal
-use Rattle.hba_fbs.specs.declared.register.Register.{Register}
-use Rattle.hba_fbs.specs.declared.register.Register.TheVariants.{Cmd, Sact, Ci, Fbs}
-use Rattle.hba_fbs.specs.declared.registers.Registers.{Registers}
-use Rattle.hba_fbs.specs.Issuing.{any_beside, any_slot, commands_with, is_busy, named_in, view_with}
-use Rattle.hba_fbs.specs.Offsets.{register_at}
-use Rattle.hba_fbs.specs.Registers.{falls, own_refusal_by, written}
-use Rattle.hba_fbs.specs.Views.{DeviceView, Port, stopped_view, view_of}
+use Rattle.hba_fbs.specs.declared.{error.WriteError.WriteError, register.Register.{Register, TheVariants.{Cmd, Sact, Ci, Fbs}}}
+use Rattle.hba_fbs.specs.{declared.registers.Registers.Registers, Issuing.{any_beside, any_slot, commands_with, is_busy, named_in, view_with}}
+use Rattle.hba_fbs.specs.{Offsets.register_at, Registers.{falls, own_refusal_by, written}, Views.{DeviceView, Port, stopped_view, view_of}}
 use Rattle.hba_fbs.specs.Writing.{apart_refusal, busy_refusal, cleared_by, errors_after, view_cleared}
+use Rattle.hba_fbs.specs.declared.error.WriteError.TheVariants as refusal
 
 pub record Offer : Type 0 where
   pub named : ℕ → ℕ

@@ -1,8 +1,6 @@
 -- The offsets of a port's registers: AHCI 1.3.1, section 3.3, Port Registers.
 use Rattle.std.specs.Prelude.{ℕ, ◌==◌, if◌then◌else◌, Option, Some, None}
-use Rattle.hba_fbs.specs.declared.register.Register.{Register}
-use Rattle.hba_fbs.specs.declared.register.Register.TheVariants.{Clb, Clbu, Fb, Fbu, Is, Ie, Cmd, Tfd, Sig}
-use Rattle.hba_fbs.specs.declared.register.Register.TheVariants.{Serr, Sact, Ci, Sntf, Fbs}
+use Rattle.hba_fbs.specs.declared.register.Register.{Register, TheVariants.{Clb, Clbu, Fb, Fbu, Is, Ie, Cmd, Tfd, Sig, Serr, Sact, Ci, Sntf, Fbs}}
 
 -- the register at an offset
 unfoldable pub register_at : ℕ → Option Register

@@ -1,14 +1,10 @@
 -- Commands that a caller issues for the device that it names, in the slots that it has read (AHCI 1.3.1, 3.3.13 PxSACT, 3.3.14
 -- PxCI, and 5.5). Neither PxFBS.DEV nor a command of another device nor a bit of PxSACT is looked at.
 use Rattle.std.specs.Prelude.{ℕ, ◌≡◌, not, if◌then◌else◌, Option, Some, None}
-use Rattle.slots.specs.Commands.{slots_where}
-use Rattle.slots.specs.Slots.{is_queued_issue}
-use Rattle.hba_fbs.specs.declared.error.IssueError.{IssueError}
+use Rattle.slots.specs.{Commands.slots_where, Slots.is_queued_issue}
+use Rattle.hba_fbs.specs.{declared.error.IssueError.IssueError, Bits.without, Issuing.{any_slot, commands_with, is_busy, view_with}, Offering.Offer}
+use Rattle.hba_fbs.specs.{Offering.{asked_by, is_bad_by}, Views.{LeavesOtherViews, Port, view_of}}
 use Rattle.hba_fbs.specs.declared.error.IssueError.TheVariants as refusal
-use Rattle.hba_fbs.specs.Bits.{without}
-use Rattle.hba_fbs.specs.Issuing.{any_slot, commands_with, is_busy, view_with}
-use Rattle.hba_fbs.specs.Offering.{Offer, asked_by, is_bad_by}
-use Rattle.hba_fbs.specs.Views.{LeavesOtherViews, Port, view_of}
 
 -- why none of these slots is issued: the first of these that applies
 abbrev pub issue_error : Port → Offer → ℕ → Option IssueError

@@ -1,16 +1,11 @@
 -- Posting (AHCI 1.3.1, 4.2.1, Received FIS Structure), and what a posted FIS sets in the port's registers
 -- (3.3.5 PxIS, 3.3.9 PxSIG, 3.3.12 PxSERR, 3.3.15 PxSNTF).
-use Rattle.std.specs.Prelude.{ℕ, ◌≡◌, ◌+◌, ◌*◌, ◌%◌, ◌^◌, ◌==◌, ◌&&◌, Bool, true, false, if◌then◌else◌, ◌/◌}
-use Rattle.std.specs.Prelude.{bit_or, List, take, drop, Result, Ok}
+use Rattle.std.specs.Prelude.{ℕ, ◌≡◌, ◌+◌, ◌*◌, ◌%◌, ◌^◌, ◌==◌, ◌&&◌, Bool, true, false, if◌then◌else◌, ◌/◌, bit_or, List, take, drop, Result, Ok}
 use Rattle.fis_view.specs.Table as table
-use Rattle.fis_view.specs.Table.{field}
-use Rattle.fis_view.specs.declared.view.Fis.{Fis}
+use Rattle.fis_view.specs.{Table.field, declared.view.{Fis.Fis, FisFault.FisFault}}
 use Rattle.fis_view.specs.declared.view.Fis.TheVariants as view
-use Rattle.fis_view.specs.declared.view.FisFault.{FisFault}
 use Rattle.rx_area.specs.Area as rx
-use Rattle.hba_fbs.specs.declared.registers.Registers.{Registers}
-use Rattle.hba_fbs.specs.Bits.{bit}
-use Rattle.hba_fbs.specs.Status.{is_quiet}
+use Rattle.hba_fbs.specs.{declared.registers.Registers.Registers, Bits.bit, Status.is_quiet}
 
 -- ---- the received area
 

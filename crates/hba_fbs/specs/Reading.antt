@@ -1,17 +1,10 @@
 -- What a register shows: AHCI 1.3.1, section 3.3.
 use Rattle.std.specs.Prelude.{ℕ, ◌+◌, ◌*◌, bit_or, if◌then◌else◌, Result, Ok, Err}
-use Rattle.slots.specs.Slots.{is_queued_issue, match_some}
-use Rattle.slots.specs.Commands.{is_unanswered, slots_where}
-use Rattle.port_errors.specs.Errors.{shown}
-use Rattle.port_errors.specs.declared.errors.FbsBits.{FbsBits}
-use Rattle.hba_fbs.specs.declared.error.NoRegister.{NoRegister}
-use Rattle.hba_fbs.specs.declared.register.Register.{Register}
-use Rattle.hba_fbs.specs.declared.register.Register.TheVariants.{Clb, Clbu, Fb, Fbu, Is, Ie, Cmd, Tfd, Sig}
-use Rattle.hba_fbs.specs.declared.register.Register.TheVariants.{Serr, Sact, Ci, Sntf, Fbs}
-use Rattle.hba_fbs.specs.Bits.{bit, sde, dwe_unit, ufs, unknown_fis}
-use Rattle.hba_fbs.specs.Offsets.{register_at}
-use Rattle.hba_fbs.specs.Registers.{cmd_of, fbs_of}
-use Rattle.hba_fbs.specs.Views.{Port, state_at, task_file}
+use Rattle.slots.specs.{Slots.{is_queued_issue, match_some}, Commands.{is_unanswered, slots_where}}
+use Rattle.port_errors.specs.{Errors.shown, declared.errors.FbsBits.FbsBits}
+use Rattle.hba_fbs.specs.declared.{error.NoRegister.NoRegister, register.Register.{Register, TheVariants.{Clb, Clbu, Fb, Fbu, Is, Ie, Cmd, Tfd, Sig}}}
+use Rattle.hba_fbs.specs.{declared.register.Register.TheVariants.{Serr, Sact, Ci, Sntf, Fbs}, Bits.{bit, sde, dwe_unit, ufs, unknown_fis}}
+use Rattle.hba_fbs.specs.{Offsets.register_at, Registers.{cmd_of, fbs_of}, Views.{Port, state_at, task_file}}
 
 -- SDE and DWE at their places in PxFBS
 abbrev pub fbs_errors : FbsBits → ℕ

@@ -1,14 +1,9 @@
 -- Why a FIS is ignored, and which slot a fault is about: AHCI 1.3.1, 5.3.13, 6.2 (Error Recovery), 9.2 and 9.3.
-use Rattle.std.specs.Prelude.{ℕ, ◌&&◌, Bool, not, if◌then◌else◌, Option, Some, None, is_none, is_some, Result}
-use Rattle.std.specs.Option.{option_map, option_or}
-use Rattle.fis_view.specs.declared.view.Fis.{Fis}
-use Rattle.fis_view.specs.declared.view.FisFault.{FisFault}
+use Rattle.std.specs.{Prelude.{ℕ, ◌&&◌, Bool, not, if◌then◌else◌, Option, Some, None, is_none, is_some, Result}, Option.{option_map, option_or}}
+use Rattle.fis_view.specs.declared.view.{Fis.Fis, FisFault.FisFault}
 use Rattle.slots.specs.Slots.{DeviceSlots, waiting}
-use Rattle.hba_fbs.specs.declared.reasons.Ignored.{Ignored}
+use Rattle.hba_fbs.specs.{declared.reasons.Ignored.Ignored, Posting.signs, Taking.passes_over, Views.{DeviceView, Port, view_of}}
 use Rattle.hba_fbs.specs.declared.reasons.Ignored.TheVariants as why
-use Rattle.hba_fbs.specs.Posting.{signs}
-use Rattle.hba_fbs.specs.Taking.{passes_over}
-use Rattle.hba_fbs.specs.Views.{DeviceView, Port, view_of}
 
 -- the first of these that applies; none for a FIS that is heard
 abbrev pub ignored_for : ℕ → Port → DeviceView → Result Fis FisFault → Option Ignored

@@ -1,17 +1,12 @@
 -- The port's own registers: AHCI 1.3.1, section 3.3, Port Registers. Here is when a write is refused because
 -- of them alone, and what an accepted write leaves in them.
-use Rattle.std.specs.Prelude.{ℕ, ◌≡◌, ◌+◌, ◌*◌, ◌-◌, ◌^◌, ◌/◌, ◌%◌, ◌<◌, ◌≤◌, ◌==◌, ◌&&◌, ◌||◌, Bool, true}
-use Rattle.std.specs.Prelude.{false, not, nat_lt, if◌then◌else◌, bit_or, bit_and, Option, Some, None}
-use Rattle.std.specs.Bool.{beq}
+use Rattle.std.specs.Prelude.{ℕ, ◌≡◌, ◌+◌, ◌*◌, ◌-◌, ◌^◌, ◌/◌, ◌%◌, ◌<◌, ◌≤◌, ◌==◌, ◌&&◌, ◌||◌, Bool, true, false, not, nat_lt, if◌then◌else◌, bit_or}
+use Rattle.std.specs.{Prelude.{bit_and, Option, Some, None}, Bool.beq}
 use Rattle.slots.specs.Slots.{has_bit}
-use Rattle.hba_fbs.specs.declared.error.WriteError.{WriteError}
+use Rattle.hba_fbs.specs.declared.{error.WriteError.WriteError, register.Register.{Register, TheVariants.{Clb, Clbu, Fb, Fbu, Is, Ie, Cmd, Tfd, Sig}}}
+use Rattle.hba_fbs.specs.{declared.{register.Register.TheVariants.{Serr, Sact, Ci, Sntf, Fbs}, registers.Registers.Registers}, Bits.{bit, without}}
+use Rattle.hba_fbs.specs.Bits.{st, fre, fr, cr, pma, fbscp, interrupts, unknown_fis, en, ado, dev_unit}
 use Rattle.hba_fbs.specs.declared.error.WriteError.TheVariants as refusal
-use Rattle.hba_fbs.specs.declared.register.Register.{Register}
-use Rattle.hba_fbs.specs.declared.register.Register.TheVariants.{Clb, Clbu, Fb, Fbu, Is, Ie, Cmd, Tfd, Sig}
-use Rattle.hba_fbs.specs.declared.register.Register.TheVariants.{Serr, Sact, Ci, Sntf, Fbs}
-use Rattle.hba_fbs.specs.declared.registers.Registers.{Registers}
-use Rattle.hba_fbs.specs.Bits.{bit, without, st, fre, fr, cr, pma, fbscp, interrupts, unknown_fis, en, ado}
-use Rattle.hba_fbs.specs.Bits.{dev_unit}
 
 -- the registers of a new port: no signature has come, and all else is 0
 abbrev pub opening_registers : Registers

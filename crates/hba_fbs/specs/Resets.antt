@@ -1,7 +1,5 @@
 -- Resets from outside the port: AHCI 1.3.1, sections 10.4.2 (Port Reset, by COMRESET) and 10.4.3 (HBA Reset).
-use Rattle.hba_fbs.specs.declared.registers.Registers.{Registers}
-use Rattle.hba_fbs.specs.Registers.{opening_registers}
-use Rattle.hba_fbs.specs.Views.{Port, opening_port}
+use Rattle.hba_fbs.specs.{declared.registers.Registers.Registers, Registers.opening_registers, Views.{Port, opening_port}}
 
 -- as it opens, with these registers; frames are counted on
 abbrev pub reopened : Port → Registers → Port

@@ -1,19 +1,13 @@
 -- A host port that holds no memory, as words, and what is tested of one that is restored.
-use Rattle.std.specs.Prelude.{◌≡◌, ℕ, Bool, not, ◌&&◌, ◌||◌, nat_lt, List, length, Option, is_none, is_some}
-use Rattle.std.specs.List.{AllByRecursion}
+use Rattle.std.specs.{Prelude.{◌≡◌, ℕ, Bool, not, ◌&&◌, ◌||◌, nat_lt, List, length, Option, is_none, is_some}, List.AllByRecursion}
 use Rattle.std.proofs.Common.{ap, sym, ◌∙◌}
-use Rattle.saved_state.specs.State.{IsToldApart, KeepsOption, all_apart, number_apart, option_apart, pair_apart, parts_apart, put_all, put_bool, put_number, put_option, put_pair, put_three, three_apart, bool_apart}
-use Rattle.slots.specs.Saved.{Free, IsByte, IsDword, put_table, table_apart}
-use Rattle.slots.specs.Slots.{Slots, issue_at, lowest}
-use Rattle.slots.specs.Table.{IsTable}
-use Rattle.port_errors.specs.Errors.{AreErrors, Errors}
-use Rattle.port_errors.specs.Saved.{errors_apart, put_errors}
-use Rattle.hba_commands.specs.declared.command.Command.{Command}
-use Rattle.hba_commands.specs.Saved.{IsWord, KeepsCommand, command_apart, put_command}
-use Rattle.hba_fbs.specs.declared.registers.Registers.{Registers}
-use Rattle.hba_fbs.specs.declared.state.DeviceState.{DeviceState}
-use Rattle.hba_fbs.specs.declared.status.Block.{Block}
-use Rattle.hba_fbs.specs.Views.{IsCorePort, Port, last_command}
+use Rattle.saved_state.specs.State.{IsToldApart, KeepsOption, all_apart, number_apart, option_apart, pair_apart, parts_apart, put_all, put_bool}
+use Rattle.saved_state.specs.State.{put_number, put_option, put_pair, put_three, three_apart, bool_apart}
+use Rattle.slots.specs.{Saved.{Free, IsByte, IsDword, put_table, table_apart}, Slots.{Slots, issue_at, lowest}, Table.IsTable}
+use Rattle.port_errors.specs.{Errors.{AreErrors, Errors}, Saved.{errors_apart, put_errors}}
+use Rattle.hba_commands.specs.{declared.command.Command.Command, Saved.{IsWord, KeepsCommand, command_apart, put_command}}
+use Rattle.hba_fbs.specs.{declared.{registers.Registers.Registers, state.DeviceState.DeviceState, status.Block.Block}, Views.{IsCorePort, Port}}
+use Rattle.hba_fbs.specs.Views.{last_command}
 
 byte_apart : IsToldApart put_number IsByte
 byte_apart a b x y k l e = number_apart a b x y e

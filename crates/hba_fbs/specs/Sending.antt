@@ -1,30 +1,15 @@
 -- What a host port sends next: AHCI 1.3.1, 5.3 (the port's states, from sending a command to sending its
 -- data) and chapter 9 (FIS-based Switching); Serial ATA 3.x, 10.5 (Register Host to Device and Data FISes).
-use Rattle.std.specs.Prelude.{ℕ, ◌≡◌, ◌+◌, ◌-◌, min, ◌&&◌, ◌||◌, Bool, true, false, not, is_none, is_some}
-use Rattle.std.specs.Prelude.{if◌then◌else◌, bit_or, List, ◌∷◌, map, replicate, slice_index, Option, Some}
-use Rattle.std.specs.Prelude.{None, MatchOption}
-use Rattle.std.specs.List.{range_with_len}
-use Rattle.fis_view.specs.declared.frame.Stamp.{Stamp}
-use Rattle.fis_view.specs.Frames.{Stamped}
-use Rattle.host_memory.specs.Memory.{Memory, client_start}
-use Rattle.host_memory.specs.Place.{place}
-use Rattle.host_memory.specs.declared.table.Prd.{Prd}
-use Rattle.port_errors.specs.Errors.{Errors, cause_of, with_port}
-use Rattle.port_errors.specs.Interrupts.{port_interrupts}
-use Rattle.port_errors.specs.declared.cause.PortCause.TheVariants.{Bus}
+use Rattle.std.specs.Prelude.{ℕ, ◌≡◌, ◌+◌, ◌-◌, min, ◌&&◌, ◌||◌, Bool, true, false, not, is_none, is_some, if◌then◌else◌, bit_or, List, ◌∷◌, map}
+use Rattle.std.specs.{Prelude.{replicate, slice_index, Option, Some, None, MatchOption}, List.range_with_len}
+use Rattle.fis_view.specs.{declared.frame.Stamp.Stamp, Frames.Stamped}
+use Rattle.host_memory.specs.{Memory.{Memory, client_start}, Place.place, declared.table.Prd.Prd}
+use Rattle.port_errors.specs.{Errors.{Errors, cause_of, with_port}, Interrupts.port_interrupts, declared.cause.PortCause.TheVariants.Bus}
 use Rattle.hba_commands.specs.declared.command.Command.{Command}
-use Rattle.slots.specs.Commands.{after_sent, next_slot}
-use Rattle.slots.specs.Data.{after_payload, payload}
-use Rattle.slots.specs.Slots.{DeviceSlots, Slots, context_of, has_bit, holds, is_control, issue_at}
-use Rattle.slots.specs.Slots.{lowest_below, mask_below, own_issue}
-use Rattle.slots.specs.Slots.{match_some}
-use Rattle.slots.specs.Work.{is_dma}
-use Rattle.hba_fbs.specs.declared.state.DeviceState.{DeviceState}
-use Rattle.hba_fbs.specs.declared.status.Block.{Block}
-use Rattle.hba_fbs.specs.Status.{is_busy, wants_data}
-use Rattle.hba_fbs.specs.Tables.{prds_of, sound_command}
-use Rattle.hba_fbs.specs.Taking.{is_running}
-use Rattle.hba_fbs.specs.Views.{DeviceView, LeavesOtherViews, Port, last_command, state_at, view_of}
+use Rattle.slots.specs.{Commands.{after_sent, next_slot}, Data.{after_payload, payload}, Slots.{DeviceSlots, Slots, context_of, has_bit, holds}}
+use Rattle.slots.specs.{Slots.{is_control, issue_at, lowest_below, mask_below, own_issue, match_some}, Work.is_dma}
+use Rattle.hba_fbs.specs.{declared.{state.DeviceState.DeviceState, status.Block.Block}, Status.{is_busy, wants_data}, Tables.{prds_of, sound_command}}
+use Rattle.hba_fbs.specs.{Taking.is_running, Views.{DeviceView, LeavesOtherViews, Port, last_command, state_at, view_of}}
 
 -- ---- data
 

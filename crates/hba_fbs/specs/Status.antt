@@ -2,8 +2,7 @@
 -- 10.5).
 use Rattle.std.specs.Prelude.{ℕ, ◌&&◌, Bool, false, not, bit_and, bit_or, Option, ◌||◌}
 use Rattle.slots.specs.Slots.{has_bit}
-use Rattle.hba_fbs.specs.declared.state.DeviceState.{DeviceState}
-use Rattle.hba_fbs.specs.declared.status.Block.{Block}
+use Rattle.hba_fbs.specs.declared.{state.DeviceState.DeviceState, status.Block.Block}
 
 -- ERR, bit 0
 abbrev pub is_error : ℕ → Bool

@@ -2,11 +2,8 @@
 -- PxTFD, 6.2.2.1 and 10.4.1).
 use Rattle.std.specs.Prelude.{ℕ, ◌≡◌, ◌+◌, ◌*◌, ◌<◌, false, if◌then◌else◌, bit_and, bit_or, None}
 use Rattle.slots.specs.Slots.{no_own_slots}
-use Rattle.hba_fbs.specs.declared.register.Register.TheVariants.{Cmd}
-use Rattle.hba_fbs.specs.declared.state.DeviceState.{DeviceState}
-use Rattle.hba_fbs.specs.Registers.{falls, written}
-use Rattle.hba_fbs.specs.Views.{DeviceView, LeavesOtherViews, Port, task_file, view_of}
-use Rattle.hba_fbs.specs.Writing.{errors_after}
+use Rattle.hba_fbs.specs.{declared.{register.Register.TheVariants.Cmd, state.DeviceState.DeviceState}, Registers.{falls, written}, Views.DeviceView}
+use Rattle.hba_fbs.specs.{Views.{LeavesOtherViews, Port, task_file, view_of}, Writing.errors_after}
 
 -- after ST falls: no command, no setup, no block and no fault is left, and the device is as busy as before
 abbrev pub fallen_state : DeviceState → DeviceState

@@ -1,18 +1,11 @@
 -- The PRD tables of issued commands (AHCI 1.3.1, 4.2.3.3), as they are when a Data FIS comes or goes: they say where its bytes
 -- lie.
-use Rattle.std.specs.Prelude.{ℕ, ◌≡◌, ◌+◌, ◌==◌, ◌&&◌, Bool, false, true, List, length, Option, Some, None, is_none}
-use Rattle.std.specs.Prelude.{is_some, if◌then◌else◌, MatchOption}
-use Rattle.host_memory.specs.Memory.{Memory}
-use Rattle.host_memory.specs.Place.{Scatters, Table, total_of}
-use Rattle.host_memory.specs.Reading.{prds_at, read_fault}
-use Rattle.host_memory.specs.declared.table.Prd.{Prd}
+use Rattle.std.specs.Prelude.{ℕ, ◌≡◌, ◌+◌, ◌==◌, ◌&&◌, Bool, false, true, List, length, Option, Some, None, is_none, is_some, if◌then◌else◌}
+use Rattle.std.specs.Prelude.{MatchOption}
+use Rattle.host_memory.specs.{Memory.Memory, Place.{Scatters, Table, total_of}, Reading.{prds_at, read_fault}, declared.table.Prd.Prd}
 use Rattle.hba_commands.specs.declared.command.Command.{Command}
-use Rattle.slots.specs.Slots.{DeviceSlots, context_of, issue_at, match_some, own_issue}
-use Rattle.slots.specs.Data.{receiving_slot}
-use Rattle.slots.specs.declared.table.Context.{Context}
-use Rattle.hba_fbs.specs.declared.report.Wrote.{Wrote}
-use Rattle.hba_fbs.specs.declared.tables.Receiving.{Receiving}
-use Rattle.hba_fbs.specs.Views.{Port, last_command}
+use Rattle.slots.specs.{Slots.{DeviceSlots, context_of, issue_at, match_some, own_issue}, Data.receiving_slot, declared.table.Context.Context}
+use Rattle.hba_fbs.specs.{declared.{report.Wrote.Wrote, tables.Receiving.Receiving}, Views.{Port, last_command}}
 
 -- the PRDs of a command as they are now, from byte 80h of its table on
 abbrev pub prds_of : Memory → Command → List Prd

@@ -1,32 +1,20 @@
 -- Taking a FIS: AHCI 1.3.1, 5.3.13 and 9.3 (FIS-based Switching: errors of one device and of the port).
-use Rattle.std.specs.Prelude.{ℕ, ◌≡◌, ◌%◌, ◌==◌, ◌&&◌, ◌||◌, Bool, true, false, not, if◌then◌else◌, bit_or, List}
-use Rattle.std.specs.Prelude.{drop, slice_index, Option, Some, None, is_none, is_some, Result, Ok, Err}
-use Rattle.fis_view.specs.Seen.{seen}
-use Rattle.fis_view.specs.declared.view.Fis.{Fis}
+use Rattle.std.specs.Prelude.{ℕ, ◌≡◌, ◌%◌, ◌==◌, ◌&&◌, ◌||◌, Bool, true, false, not, if◌then◌else◌, bit_or, List, drop, slice_index, Option, Some}
+use Rattle.std.specs.Prelude.{None, is_none, is_some, Result, Ok, Err}
+use Rattle.fis_view.specs.{Seen.seen, declared.view.{Fis.Fis, FisFault.FisFault}}
 use Rattle.fis_view.specs.declared.view.Fis.TheVariants as kind
-use Rattle.fis_view.specs.declared.view.FisFault.{FisFault}
 use Rattle.host_memory.specs.Memory.{Memory}
-use Rattle.port_errors.specs.Errors.{Errors, with_alone, with_device, with_port}
-use Rattle.port_errors.specs.Interrupts.{device_interrupts, port_interrupts}
-use Rattle.port_errors.specs.declared.cause.DeviceCause.{DeviceCause}
-use Rattle.port_errors.specs.declared.cause.PortCause.{PortCause}
+use Rattle.port_errors.specs.{Errors.{Errors, with_alone, with_device, with_port}, Interrupts.{device_interrupts, port_interrupts}}
+use Rattle.port_errors.specs.declared.cause.{DeviceCause.DeviceCause, PortCause.PortCause}
 use Rattle.rx_area.specs.Area as rx
 use Rattle.slots.specs.Slots.{DeviceSlots, KeepsFree, lowest, own_issue}
 use Rattle.rx_area.specs.declared.area.Posted.{Posted}
 use Rattle.rx_area.specs.declared.area.Posted.TheVariants as place
-use Rattle.hba_fbs.specs.declared.hearing.Fault.{Fault}
+use Rattle.hba_fbs.specs.declared.{hearing.{Fault.Fault, Happening.Happening, Heard.Heard}, registers.Registers.Registers}
+use Rattle.hba_fbs.specs.{declared.report.{TakeReport.TakeReport, Wrote.Wrote}, Bits.bit, Hearing.{heard_bad, heard_fis, is_admitted, moved}}
+use Rattle.hba_fbs.specs.{Posting.{Posts, posted, pss, signs}, Tables.{Delivers, is_sound}, Views.{DeviceView, LeavesOtherViews, Port, view_of}}
 use Rattle.hba_fbs.specs.declared.hearing.Fault.TheVariants as fault
-use Rattle.hba_fbs.specs.declared.hearing.Happening.{Happening}
 use Rattle.hba_fbs.specs.declared.hearing.Happening.TheVariants as happening
-use Rattle.hba_fbs.specs.declared.hearing.Heard.{Heard}
-use Rattle.hba_fbs.specs.declared.registers.Registers.{Registers}
-use Rattle.hba_fbs.specs.declared.report.TakeReport.{TakeReport}
-use Rattle.hba_fbs.specs.declared.report.Wrote.{Wrote}
-use Rattle.hba_fbs.specs.Bits.{bit}
-use Rattle.hba_fbs.specs.Hearing.{heard_bad, heard_fis, is_admitted, moved}
-use Rattle.hba_fbs.specs.Posting.{Posts, posted, pss, signs}
-use Rattle.hba_fbs.specs.Tables.{Delivers, is_sound}
-use Rattle.hba_fbs.specs.Views.{DeviceView, LeavesOtherViews, Port, view_of}
 
 -- ---- which FISes are heard
 

@@ -2,16 +2,11 @@
 -- slot's transfer, which whoever has the memory gathers, or a command.
 use Rattle.std.specs.Prelude.{ℕ, ◌≡◌, ◌≤◌, ◌<◌, ◌%◌, not, if◌then◌else◌, Some, MatchOption}
 use Rattle.hba_commands.specs.declared.command.Command.{Command}
-use Rattle.slots.specs.Commands.{MayBeSent}
-use Rattle.slots.specs.Data.{IsWriteOf, payload}
-use Rattle.slots.specs.Slots.{context_of, issue_at, match_some, own_issue, slots_of}
-use Rattle.hba_fbs.specs.declared.turn.Turn.{Turn}
-use Rattle.hba_fbs.specs.declared.turn.Turn.TheVariants.{Rests, Feeds, Orders}
+use Rattle.slots.specs.{Commands.MayBeSent, Data.{IsWriteOf, payload}, Slots.{context_of, issue_at, match_some, own_issue, slots_of}}
+use Rattle.hba_fbs.specs.{declared.turn.Turn.{Turn, TheVariants.{Rests, Feeds, Orders}}, Sending.{Nothing, Order, Outgoing, counted, data_with}}
+use Rattle.hba_fbs.specs.{Sending.{next_receiver, next_to_send, view_fed, view_sent}, Tables.sound_command, Taking.is_running, Views.DeviceView}
+use Rattle.hba_fbs.specs.Views.{LeavesOtherViews, Port, last_command, view_of}
 use Rattle.host_memory.specs.Memory.{Memory}
-use Rattle.hba_fbs.specs.Sending.{Nothing, Order, Outgoing, counted, data_with, next_receiver, next_to_send, view_fed, view_sent}
-use Rattle.hba_fbs.specs.Tables.{sound_command}
-use Rattle.hba_fbs.specs.Taking.{is_running}
-use Rattle.hba_fbs.specs.Views.{DeviceView, LeavesOtherViews, Port, last_command, view_of}
 
 -- data of a device's slot
 abbrev pub feeds : ℕ → ℕ × ℕ × ℕ → Turn

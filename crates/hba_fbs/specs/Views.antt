@@ -1,14 +1,11 @@
 -- A host port as its callers see it, and the part of it that belongs to one device: AHCI 1.3.1, chapter 9,
 -- FIS-based Switching.
-use Rattle.std.specs.Prelude.{ℕ, ◌≡◌, ◌≢◌, ◌+◌, ◌*◌, ◌<◌, false, bit_and, List, replicate, slice_index_or}
-use Rattle.std.specs.Prelude.{Option, None}
+use Rattle.std.specs.Prelude.{ℕ, ◌≡◌, ◌≢◌, ◌+◌, ◌*◌, ◌<◌, false, bit_and, List, replicate, slice_index_or, Option, None}
 use Rattle.slots.specs.Slots.{Slots, DeviceSlots, issue_at, no_slots, no_own_slots, slots_of}
-use Rattle.port_errors.specs.Errors.{Errors, cause_of, no_errors, without}
-use Rattle.port_errors.specs.declared.cause.DeviceCause.{DeviceCause}
+use Rattle.port_errors.specs.{Errors.{Errors, cause_of, no_errors, without}, declared.cause.DeviceCause.DeviceCause}
 use Rattle.hba_commands.specs.declared.command.Command.{Command}
-use Rattle.hba_fbs.specs.declared.registers.Registers.{Registers}
-use Rattle.hba_fbs.specs.declared.state.DeviceState.{DeviceState}
-use Rattle.hba_fbs.specs.Registers.{AreOwn, AreRegisters, opening_registers}
+use Rattle.hba_fbs.specs.{declared.{registers.Registers.Registers, state.DeviceState.DeviceState}, Registers.{AreOwn, AreRegisters}}
+use Rattle.hba_fbs.specs.Registers.{opening_registers}
 
 pub record Port : Type 0 where
   -- the port's own registers

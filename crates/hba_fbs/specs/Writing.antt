@@ -1,23 +1,16 @@
 -- A write of a register: when it is refused, and what an accepted write leaves (AHCI 1.3.1, section 3.3 and
 -- chapter 9; for PxFBS.DEC section 9.3, error handling).
-use Rattle.std.specs.Prelude.{ℕ, ◌≡◌, ◌<◌, ◌==◌, ◌&&◌, ◌||◌, Bool, false, not, if◌then◌else◌, List, Option}
-use Rattle.std.specs.Prelude.{Some, None, MatchOption}
+use Rattle.std.specs.Prelude.{ℕ, ◌≡◌, ◌<◌, ◌==◌, ◌&&◌, ◌||◌, Bool, false, not, if◌then◌else◌, List, Option, Some, None, MatchOption}
 use Rattle.std.specs.Option.{option_map_or, option_or}
 use Rattle.host_memory.specs.Memory.{Memory}
 use Rattle.slots.specs.Slots.{has_bit, match_some}
 use Rattle.port_errors.specs.Errors.{Errors, after_clear, cleared_device, no_errors}
 use Rattle.hba_commands.specs.declared.command.Command.{Command}
-use Rattle.hba_fbs.specs.declared.error.WriteError.{WriteError}
+use Rattle.hba_fbs.specs.declared.{error.WriteError.WriteError, register.Register.{Register, TheVariants.{Cmd, Sact, Ci, Fbs}}}
+use Rattle.hba_fbs.specs.{declared.registers.Registers.Registers, Bits.dec, Issuing.{aimed, any_beside, any_slot, commands_issued, is_bad, is_busy}}
+use Rattle.hba_fbs.specs.{Issuing.{names_other, view_issued}, Offsets.register_at, Registers.{falls, own_refusal, written}, Views.{DeviceView, Port}}
+use Rattle.hba_fbs.specs.Views.{stopped_view, view_of}
 use Rattle.hba_fbs.specs.declared.error.WriteError.TheVariants as refusal
-use Rattle.hba_fbs.specs.declared.register.Register.{Register}
-use Rattle.hba_fbs.specs.declared.register.Register.TheVariants.{Cmd, Sact, Ci, Fbs}
-use Rattle.hba_fbs.specs.declared.registers.Registers.{Registers}
-use Rattle.hba_fbs.specs.Bits.{dec}
-use Rattle.hba_fbs.specs.Issuing.{aimed, any_beside, any_slot, commands_issued, is_bad, is_busy}
-use Rattle.hba_fbs.specs.Issuing.{names_other, view_issued}
-use Rattle.hba_fbs.specs.Offsets.{register_at}
-use Rattle.hba_fbs.specs.Registers.{falls, own_refusal, written}
-use Rattle.hba_fbs.specs.Views.{DeviceView, Port, stopped_view, view_of}
 
 -- ---- refusals
 

@@ -1,20 +1,11 @@
 -- When a device's view and a history agree: what is issued, which bytes were transferred, which slot waits,
 -- and the last setup with what is left of it (AHCI 1.3.1, 9.3, FIS-based Switching; Serial ATA 3.x, 10.5).
-use Rattle.std.specs.Prelude.{ℕ, ◌≡◌, ◌+◌, ◌<◌, ◌==◌, Bool, false, true, Option, Some, None}
-use Rattle.std.specs.Prelude.{is_some, MatchOption}
-use Rattle.std.specs.Option.{option_map}
-use Rattle.slots.specs.Bytes.{is_over}
-use Rattle.slots.specs.Setup.{came}
-use Rattle.slots.specs.Slots.{Issue, holds, is_pio, is_waiting, own_issue}
-use Rattle.slots.specs.declared.table.Context.{Context}
+use Rattle.std.specs.{Prelude.{ℕ, ◌≡◌, ◌+◌, ◌<◌, ◌==◌, Bool, false, true, Option, Some, None, is_some, MatchOption}, Option.option_map}
+use Rattle.slots.specs.{Bytes.is_over, Setup.came, Slots.{Issue, holds, is_pio, is_waiting, own_issue}, declared.table.Context.Context}
 use Rattle.slots.specs.declared.work.Work.{Work}
-use Rattle.hba_fbs.specs.Views.{DeviceView, view_of}
-use Rattle.hba_fbs.specs.declared.status.Block.{Block}
-use Rattle.hba_laws.specs.Client.{Touches, own}
-use Rattle.hba_laws.specs.History.{History, Setup, Transfer, bytes_of, carried, filled, is_at}
-use Rattle.hba_laws.specs.History.{is_set_up, issued, last_setup}
-use Rattle.hba_laws.specs.History.{waiting_in}
-use Rattle.hba_laws.specs.Hosts.{Host}
+use Rattle.hba_fbs.specs.{Views.{DeviceView, view_of}, declared.status.Block.Block}
+use Rattle.hba_laws.specs.{Client.{Touches, own}, History.{History, Setup, Transfer, bytes_of, carried, filled, is_at, is_set_up, issued, last_setup}}
+use Rattle.hba_laws.specs.{History.waiting_in, Hosts.Host}
 
 abbrev pub work_of_transfer : Transfer → Work
 work_of_transfer t = t.work

@@ -1,24 +1,16 @@
 -- Isolation of bytes (AHCI 1.3.1, chapter 9, FIS-based Switching). The history of a device, and so what each
 -- of its slots is filled with, follows from what belongs to it, its own events, and what memory brings to
 -- these.
-use Rattle.std.specs.Prelude.{ℕ, ◌≡◌, ◌<◌, if◌then◌else◌, zero, suc, true, List, [], ◌∷◌, ◌++◌, map, drop}
-use Rattle.std.specs.Prelude.{Option, Some, None, is_some}
-use Rattle.std.specs.List.{AllZip}
+use Rattle.std.specs.{Prelude.{ℕ, ◌≡◌, ◌<◌, if◌then◌else◌, zero, suc, true, List, [], ◌∷◌, ◌++◌, map, drop, Option, Some, None, is_some}, List.AllZip}
 use Rattle.fis_view.specs.Seen.{seen}
 use Rattle.hba_commands.specs.declared.command.Command.{Command}
-use Rattle.host_memory.specs.Memory.{Memory}
-use Rattle.host_memory.specs.declared.table.Prd.{Prd}
-use Rattle.slots.specs.Data.{payload}
-use Rattle.slots.specs.Slots.{holds, match_some, own_issue}
-use Rattle.hba_fbs.specs.Tables.{prds_of}
-use Rattle.hba_fbs.specs.Taking.{admitted, heard}
-use Rattle.hba_laws.specs.Delivering.{begun_by, event_heard, history_after, is_control_issue}
+use Rattle.host_memory.specs.{Memory.Memory, declared.table.Prd.Prd}
+use Rattle.slots.specs.{Data.payload, Slots.{holds, match_some, own_issue}}
+use Rattle.hba_fbs.specs.{Tables.prds_of, Taking.{admitted, heard}}
+use Rattle.hba_laws.specs.{Delivering.{begun_by, event_heard, history_after, is_control_issue}, History.{Event, History, filled, issued}, Hosts.Gave}
+use Rattle.hba_laws.specs.{Hosts.{Host, HostEvent, Runs}, Isolation.{OwnEvent, Came, Issued, Went, Cleared, Emptied, Rewritten, RunsByDevices}}
+use Rattle.hba_laws.specs.{Isolation.{next_own, own_events, part_after, skips}, Parts.{DevicePart, part_of}}
 use Rattle.hba_laws.specs.History as event
-use Rattle.hba_laws.specs.History.{Event, History, filled, issued}
-use Rattle.hba_laws.specs.Hosts.{Gave, Host, HostEvent, Runs}
-use Rattle.hba_laws.specs.Isolation.{OwnEvent, Came, Issued, Went, Cleared, Emptied, Rewritten}
-use Rattle.hba_laws.specs.Isolation.{RunsByDevices, next_own, own_events, part_after, skips}
-use Rattle.hba_laws.specs.Parts.{DevicePart, part_of}
 
 -- ---- own events, with what memory brings to them
 

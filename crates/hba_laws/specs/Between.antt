@@ -1,22 +1,14 @@
 -- The words in which lemmas are stated that proofs of other crates use (`proofs/Door.antt`), and the words that these need.
 -- No clause says them.
-use Rattle.std.specs.Prelude.{Bool, None, Option, Some, cond, eqb, false, is_some, length, nat_lt, suc, true, zero, ℕ, ◌<◌}
-use Rattle.std.specs.Prelude.{◌∷◌, ◌≡◌, []}
+use Rattle.std.specs.Prelude.{Bool, None, Option, Some, cond, eqb, false, is_some, length, nat_lt, suc, true, zero, ℕ, ◌<◌, ◌∷◌, ◌≡◌, []}
 use Rattle.host_memory.specs.Memory.{Memory}
-use Rattle.slots.specs.declared.table.Context.{Context}
-use Rattle.slots.specs.Between.{Owns}
-use Rattle.slots.specs.Data.{payload, payload_len}
-use Rattle.slots.specs.Slots.{DeviceSlots, Issue, context_of, is_control, issue_at, own_issue, slots_of, waiting}
-use Rattle.slots.specs.Table.{IsContextOf, IsIssue}
+use Rattle.slots.specs.{declared.table.Context.Context, Between.Owns, Data.{payload, payload_len}, Slots.{DeviceSlots, Issue, context_of, is_control}}
+use Rattle.slots.specs.{Slots.{issue_at, own_issue, slots_of, waiting}, Table.{IsContextOf, IsIssue}}
 use Rattle.hba_commands.specs.declared.command.Command.{Command}
-use Rattle.hba_fbs.specs.Issuing.{issue_with}
-use Rattle.hba_fbs.specs.Sending.{Outgoing}
+use Rattle.hba_fbs.specs.{Issuing.issue_with, Sending.Outgoing, Tables.prds_of, Views.{Port, last_command}}
 use Rattle.hba_fbs.specs.Sending as out
-use Rattle.hba_fbs.specs.Tables.{prds_of}
-use Rattle.hba_fbs.specs.Views.{Port, last_command}
-use Rattle.hba_laws.specs.Client.{By, Filling, Puts, Stops, Touches}
-use Rattle.hba_laws.specs.History.{Carried, Event, History, Issued, Setup, Transfer, is_set_up, issued, last_setup}
-use Rattle.hba_laws.specs.History.{next_number, unless}
+use Rattle.hba_laws.specs.{Client.{By, Filling, Puts, Stops, Touches}, History.{Carried, Event, History, Issued, Setup, Transfer, is_set_up, issued}}
+use Rattle.hba_laws.specs.History.{last_setup, next_number, unless}
 
 -- ---- histories
 

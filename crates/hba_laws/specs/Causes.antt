@@ -1,15 +1,9 @@
 -- How long the cause of a fault stands: AHCI 1.3.1, section 9.3 (FIS-based Switching: errors of one device
 -- and of the port).
 use Rattle.std.specs.Prelude.{ℕ, ◌≡◌, ◌<◌, ◌==◌, ◌||◌, Bool, false, List, [], ◌∷◌, Some}
-use Rattle.port_errors.specs.declared.cause.DeviceCause.{DeviceCause}
-use Rattle.port_errors.specs.declared.cause.Stop.{Stop}
-use Rattle.hba_fbs.specs.declared.register.Register.{Register}
-use Rattle.hba_fbs.specs.declared.register.Register.TheVariants.{Fbs}
-use Rattle.hba_fbs.specs.Taking.{port_of}
-use Rattle.hba_fbs.specs.Views.{view_of}
-use Rattle.hba_fbs.specs.Writing.{cleared_by, is_device}
-use Rattle.hba_laws.specs.Hosts.{Flushed, Host, HostEvent, Runs, Took, Wrote}
-use Rattle.hba_laws.specs.Isolation.{lowers_st}
+use Rattle.port_errors.specs.declared.cause.{DeviceCause.DeviceCause, Stop.Stop}
+use Rattle.hba_fbs.specs.{declared.register.Register.{Register, TheVariants.Fbs}, Taking.port_of, Views.view_of, Writing.{cleared_by, is_device}}
+use Rattle.hba_laws.specs.{Hosts.{Flushed, Host, HostEvent, Runs, Took, Wrote}, Isolation.lowers_st}
 
 -- ---- what ends a cause
 

@@ -1,13 +1,10 @@
 -- The client bytes of a host with many devices, and what a completed read finds there (AHCI 1.3.1, 4.2.3.3,
 -- Physical Region Descriptor Table, and 5.3, data transfer; Serial ATA 3.x, 10.5, Data FIS).
-use Rattle.std.specs.Prelude.{ℕ, ◌≡◌, ◌+◌, ◌-◌, ◌<◌, ◌≤◌, ◌==◌, ◌&&◌, nat_le, nat_lt, Bool, true}
-use Rattle.std.specs.Prelude.{false, if◌then◌else◌}
-use Rattle.std.specs.Prelude.{List, [], ◌∷◌, length, slice_index, Option, Some, None, MatchOption}
+use Rattle.std.specs.Prelude.{ℕ, ◌≡◌, ◌+◌, ◌-◌, ◌<◌, ◌≤◌, ◌==◌, ◌&&◌, nat_le, nat_lt, Bool, true, false, if◌then◌else◌, List, [], ◌∷◌, length}
+use Rattle.std.specs.Prelude.{slice_index, Option, Some, None, MatchOption}
 use Rattle.host_memory.specs.Place.{place, written}
-use Rattle.slots.specs.Slots.{match_some}
-use Rattle.slots.specs.Work.{is_read}
-use Rattle.hba_laws.specs.History.{Event, Carried, Emptied, History, Setup, Transfer}
-use Rattle.hba_laws.specs.History.{completes, filled, is_set_up, issued, last_setup, next_number}
+use Rattle.slots.specs.{Slots.match_some, Work.is_read}
+use Rattle.hba_laws.specs.History.{Event, Carried, Emptied, History, Setup, Transfer, completes, filled, is_set_up, issued, last_setup, next_number}
 
 -- what touches the devices or the client bytes: an event of one device, an event of all devices as ST falls,
 -- and bytes that software writes

@@ -1,16 +1,10 @@
 -- How long the cause of a fault stands at a host port that holds no memory: AHCI 1.3.1, section 9.3 (FIS-based
 -- Switching: errors of one device and of the port).
 use Rattle.std.specs.Prelude.{ℕ, ◌≡◌, ◌<◌, ◌==◌, ◌||◌, Bool, false, true, List, [], ◌∷◌, Some}
-use Rattle.port_errors.specs.declared.cause.DeviceCause.{DeviceCause}
-use Rattle.port_errors.specs.declared.cause.Stop.{Stop}
-use Rattle.hba_fbs.specs.declared.register.Register.{Register}
-use Rattle.hba_fbs.specs.declared.register.Register.TheVariants.{Fbs}
-use Rattle.hba_fbs.specs.Registers.{falls}
-use Rattle.hba_fbs.specs.Taking.{port_of}
-use Rattle.hba_fbs.specs.Views.{Port, view_of}
+use Rattle.port_errors.specs.declared.cause.{DeviceCause.DeviceCause, Stop.Stop}
+use Rattle.hba_fbs.specs.{declared.register.Register.{Register, TheVariants.Fbs}, Registers.falls, Taking.port_of, Views.{Port, view_of}}
 use Rattle.hba_fbs.specs.Writing.{cleared_by, is_device}
-use Rattle.hba_laws.specs.Cores.{Commanded, CoreEvent, Flushed, Hung, Relinked, Restarted, RunsBy, Took, Wrote}
-use Rattle.hba_laws.specs.Isolation.{lowers_st}
+use Rattle.hba_laws.specs.{Cores.{Commanded, CoreEvent, Flushed, Hung, Relinked, Restarted, RunsBy, Took, Wrote}, Isolation.lowers_st}
 
 -- PxFBS.DEC clears this device
 abbrev pub clears_one : ℕ → Port → Register → ℕ → Bool

@@ -3,40 +3,22 @@
 -- Serial ATA 3.x, 10.5). The histories are those of a host with a memory. Of memory they have the PRD tables that the
 -- caller keeps, into which nothing here looks, and the bytes that it sends.
 use Rattle.std.specs.Prelude.{ℕ, ◌≡◌, ◌+◌, ◌<◌, ◌≤◌, ◌==◌, ◌||◌, Bool, true, false, if◌then◌else◌, is_some, List, [], ◌∷◌, ◌++◌, drop, length, map}
-use Rattle.std.specs.Prelude.{Option, Some, None, MatchOption}
-use Rattle.std.specs.List.{AllZip}
-use Rattle.fis_view.specs.Frames.{IsFrame}
-use Rattle.fis_view.specs.Seen.{seen}
+use Rattle.std.specs.{Prelude.{Option, Some, None, MatchOption}, List.AllZip}
+use Rattle.fis_view.specs.{Frames.IsFrame, Seen.seen}
 use Rattle.host_memory.specs.declared.table.Prd.{Prd}
 use Rattle.slots.specs.Slots.{has_bit, issue_at, match_some, own_issue}
-use Rattle.hba_fbs.specs.declared.register.Register.{Register}
-use Rattle.hba_fbs.specs.declared.register.Register.TheVariants.{Cmd, Ci, Fbs}
-use Rattle.hba_fbs.specs.declared.report.TakeReport.{TakeReport}
-use Rattle.hba_fbs.specs.declared.report.Wrote.{Wrote}
-use Rattle.hba_fbs.specs.declared.room.Room.{Room}
-use Rattle.hba_fbs.specs.declared.turn.Turn.{Turn}
-use Rattle.hba_fbs.specs.declared.turn.Turn.TheVariants.{Feeds, Orders, Rests}
-use Rattle.hba_fbs.specs.Choosing.{MayChoose}
-use Rattle.hba_fbs.specs.Deciding.{decided}
-use Rattle.hba_fbs.specs.Offering.{Offer, aimed_by, asked_by}
-use Rattle.hba_fbs.specs.Registers.{falls}
-use Rattle.hba_fbs.specs.Taking.{admitted, ignores, port_of}
-use Rattle.hba_fbs.specs.Turning.{turn_of}
-use Rattle.hba_fbs.specs.Views.{Port, opening_port, view_of}
-use Rattle.hba_fbs.specs.Writing.{cleared_by, is_device}
-use Rattle.hba_laws.specs.Agreement.{IsTold}
-use Rattle.hba_laws.specs.Alike.{AreFilledAlike, told_issued, told_order, told_own}
-use Rattle.hba_laws.specs.Client.{IsWithin}
+use Rattle.hba_fbs.specs.declared.{register.Register.{Register, TheVariants.{Cmd, Ci, Fbs}}, report.{TakeReport.TakeReport, Wrote.Wrote}}
+use Rattle.hba_fbs.specs.{declared.{room.Room.Room, turn.Turn.{Turn, TheVariants.{Feeds, Orders, Rests}}}, Choosing.MayChoose, Deciding.decided}
+use Rattle.hba_fbs.specs.{Offering.{Offer, aimed_by, asked_by}, Registers.falls, Taking.{admitted, ignores, port_of}, Turning.turn_of, Views.Port}
+use Rattle.hba_fbs.specs.{Views.{opening_port, view_of}, Writing.{cleared_by, is_device}}
+use Rattle.hba_laws.specs.{Agreement.IsTold, Alike.{AreFilledAlike, told_issued, told_order, told_own}, Client.IsWithin, Cores.{AreCores, Arrived}}
+use Rattle.hba_laws.specs.Cores.{Chose, Commanded, CoreEvent, CoreOwn, Failed, Fed, Flushed, Gave, Gone, Greeted, Hearkens, Hung, IsPart, Overridden}
+use Rattle.hba_laws.specs.Cores.{Overrode, Own, Placed, Relinked, Restarted, RunsBy, RunsByOnes, Sent, Took, own_by, part_by, used}
+use Rattle.hba_laws.specs.{Delivering.{begun_by, event_heard, event_sent}, History.{Event, History, completes, is_set_up, issued, next_number}}
+use Rattle.hba_laws.specs.{Isolation.skips, Parts.DevicePart}
 use Rattle.hba_laws.specs.Cores as core
-use Rattle.hba_laws.specs.Cores.{AreCores, Arrived, Chose, Commanded, CoreEvent, CoreOwn, Failed, Fed, Flushed, Gave}
-use Rattle.hba_laws.specs.Cores.{Gone, Greeted, Hearkens, Hung, IsPart, Overridden, Overrode, Own, Placed, Relinked}
-use Rattle.hba_laws.specs.Cores.{Restarted, RunsBy, RunsByOnes, Sent, Took, own_by, part_by, used}
-use Rattle.hba_laws.specs.Delivering.{begun_by, event_heard, event_sent}
 use Rattle.hba_laws.specs.History as event
-use Rattle.hba_laws.specs.History.{Event, History, completes, is_set_up, issued, next_number}
 use Rattle.hba_laws.specs.Isolation as isolation
-use Rattle.hba_laws.specs.Isolation.{skips}
-use Rattle.hba_laws.specs.Parts.{DevicePart}
 
 -- ---- histories
 

@@ -1,44 +1,24 @@
 -- A host port without a memory, as a list of events: what it decides, and what it is told of memory for that. The
 -- memory's part is, at a FIS, the room of the PRD table; at a write of PxCI, the devices and the commands that the command
 -- list has in the slots (AHCI 1.3.1, chapters 5 and 9).
-use Rattle.std.specs.Prelude.{ℕ, ◌≡◌, ◌+◌, ◌<◌, ◌==◌, ◌&&◌, ◌||◌, Bool, true, false, not, if◌then◌else◌, List, []}
-use Rattle.std.specs.Prelude.{◌∷◌, ◌++◌, length, Option, Some, None, is_none, is_some}
-use Rattle.fis_view.specs.Seen.{seen}
-use Rattle.fis_view.specs.declared.view.Fis.{Fis}
+use Rattle.std.specs.Prelude.{ℕ, ◌≡◌, ◌+◌, ◌<◌, ◌==◌, ◌&&◌, ◌||◌, Bool, true, false, not, if◌then◌else◌, List, [], ◌∷◌, ◌++◌, length, Option, Some}
+use Rattle.std.specs.Prelude.{None, is_none, is_some}
+use Rattle.fis_view.specs.{Seen.seen, declared.view.Fis.Fis}
 use Rattle.host_memory.specs.declared.table.Prd.{Prd}
-use Rattle.slots.specs.Data.{payload}
-use Rattle.slots.specs.Slots.{Issue, issue_at}
-use Rattle.slots.specs.Table.{IsTable}
-use Rattle.hba_fbs.specs.declared.register.Register.{Register}
-use Rattle.hba_fbs.specs.declared.greeting.Line.{Line}
-use Rattle.hba_fbs.specs.declared.greeting.Listens.TheVariants.{Greets}
-use Rattle.hba_fbs.specs.declared.register.Register.TheVariants.{Cmd, Ci, Fbs}
-use Rattle.hba_fbs.specs.declared.report.TakeReport.{TakeReport}
-use Rattle.hba_fbs.specs.declared.room.Room.{Room}
-use Rattle.hba_fbs.specs.declared.room.Room.TheVariants.{NoTable, Whole}
-use Rattle.hba_fbs.specs.declared.turn.Turn.{Turn}
-use Rattle.hba_fbs.specs.declared.turn.Turn.TheVariants.{Feeds, Orders, Rests}
-use Rattle.hba_fbs.specs.Choosing.{Chooses, MayChoose, may_feed, may_order}
-use Rattle.hba_fbs.specs.Deciding.{Decides, Passes, decided, decided_view, room_if}
-use Rattle.hba_fbs.specs.Greeting.{Hangs, Greets as GreetsBy, greeted_in, line_view, listens_with}
-use Rattle.hba_fbs.specs.Issuing.{asked}
-use Rattle.hba_fbs.specs.Offering.{AcceptsBy, Offer, aimed_by, asked_by, offer_of, refusal_by}
-use Rattle.hba_fbs.specs.Placing.{Places, issue_error}
-use Rattle.hba_fbs.specs.Registers.{falls, own_refusal_by}
-use Rattle.hba_fbs.specs.Resets.{link_reset, whole_reset}
-use Rattle.hba_fbs.specs.Sending.{Outgoing, Unreadable, outgoing, stopped_by_bus, view_fed}
-use Rattle.hba_fbs.specs.Stopping.{Overrides, SetsCmd, overridden_view}
-use Rattle.hba_fbs.specs.Tables.{is_sound}
-use Rattle.hba_fbs.specs.Taking.{admitted, ignores, is_running, port_of, stops_with}
-use Rattle.hba_fbs.specs.Turning.{Turns, turn_of}
-use Rattle.hba_fbs.specs.Views.{Flushes, IsCorePort, Port, last_command, view_of}
-use Rattle.hba_fbs.specs.Writing.{cleared_by, is_device}
-use Rattle.hba_laws.specs.Alike.{bytes_out, tables_in}
-use Rattle.hba_laws.specs.Hosts as host
-use Rattle.hba_laws.specs.Hosts.{Does, Host, HostEvent}
-use Rattle.hba_laws.specs.Isolation.{OwnEvent, Cleared, Emptied, Issued, RunsByDevices, Went, after_order, lowers_st, may_leave}
-use Rattle.hba_laws.specs.Isolation.{own_over, part_after, part_after_all, row_with, skips}
+use Rattle.slots.specs.{Data.payload, Slots.{Issue, issue_at}, Table.IsTable}
+use Rattle.hba_fbs.specs.declared.{register.Register.{Register, TheVariants.{Cmd, Ci, Fbs}}, greeting.{Line.Line, Listens.TheVariants.Greets}}
+use Rattle.hba_fbs.specs.declared.{report.TakeReport.TakeReport, room.Room.{Room, TheVariants.{NoTable, Whole}}, turn.Turn.{Turn, TheVariants.Feeds}}
+use Rattle.hba_fbs.specs.{declared.turn.Turn.TheVariants.{Orders, Rests}, Choosing.{Chooses, MayChoose, may_feed, may_order}, Deciding.Decides}
+use Rattle.hba_fbs.specs.{Deciding.{Passes, decided, decided_view, room_if}, Greeting.{Hangs, Greets as GreetsBy, greeted_in, line_view}}
+use Rattle.hba_fbs.specs.{Greeting.listens_with, Issuing.asked, Offering.{AcceptsBy, Offer, aimed_by, asked_by, offer_of, refusal_by}, Placing.Places}
+use Rattle.hba_fbs.specs.{Placing.issue_error, Registers.{falls, own_refusal_by}, Resets.{link_reset, whole_reset}, Sending.{Outgoing, Unreadable}}
+use Rattle.hba_fbs.specs.{Sending.{outgoing, stopped_by_bus, view_fed}, Stopping.{Overrides, SetsCmd, overridden_view}, Tables.is_sound}
+use Rattle.hba_fbs.specs.{Taking.{admitted, ignores, is_running, port_of, stops_with}, Turning.{Turns, turn_of}, Views.{Flushes, IsCorePort, Port}}
+use Rattle.hba_fbs.specs.{Views.{last_command, view_of}, Writing.{cleared_by, is_device}}
+use Rattle.hba_laws.specs.{Alike.{bytes_out, tables_in}, Hosts.{Does, Host, HostEvent}, Isolation.{OwnEvent, Cleared, Emptied, Issued, RunsByDevices}}
+use Rattle.hba_laws.specs.Isolation.{Went, after_order, lowers_st, may_leave, own_over, part_after, part_after_all, row_with, skips}
 use Rattle.hba_laws.specs.Parts.{DevicePart, commands_of, part_of, with_view}
+use Rattle.hba_laws.specs.Hosts as host
 
 -- ---- a FIS
 

@@ -1,41 +1,24 @@
 -- What a host port delivers: the history of each device over a list of events, and what that history says of
 -- the slots that become free and of the client bytes (AHCI 1.3.1, 5.3 and 9.3; Serial ATA 3.x, 10.5; ACS-3,
 -- NCQ and PIO data-in commands).
-use Rattle.std.specs.Prelude.{ℕ, ◌≡◌, ◌+◌, ◌<◌, Bool, false, true, if◌then◌else◌, List, [], ◌∷◌}
-use Rattle.std.specs.Prelude.{◌++◌, length, drop, is_some, map}
-use Rattle.std.specs.Prelude.{slice_index, Option, Some, None, MatchOption, zero, suc}
-use Rattle.fis_view.specs.Frames.{IsFrame}
-use Rattle.fis_view.specs.Seen.{seen}
-use Rattle.host_memory.specs.Memory.{Memory, client_start}
-use Rattle.host_memory.specs.Place.{place}
+use Rattle.std.specs.Prelude.{ℕ, ◌≡◌, ◌+◌, ◌<◌, Bool, false, true, if◌then◌else◌, List, [], ◌∷◌, ◌++◌, length, drop, is_some, map, slice_index}
+use Rattle.std.specs.Prelude.{Option, Some, None, MatchOption, zero, suc}
+use Rattle.fis_view.specs.{Frames.IsFrame, Seen.seen}
+use Rattle.host_memory.specs.{Memory.{Memory, client_start}, Place.place}
 use Rattle.hba_commands.specs.declared.command.Command.{Command}
-use Rattle.slots.specs.Slots.{Issue, Slots, has_bit, holds, is_control, issue_at, match_some}
-use Rattle.slots.specs.Work.{is_dma, is_read}
+use Rattle.slots.specs.{Slots.{Issue, Slots, has_bit, holds, is_control, issue_at, match_some}, Work.{is_dma, is_read}}
 use Rattle.slots.specs.declared.answer.Answered.{Answered}
 use Rattle.slots.specs.declared.answer.Answered.TheVariants as answer
-use Rattle.hba_fbs.specs.declared.hearing.Happening.{Happening}
+use Rattle.hba_fbs.specs.declared.{hearing.{Happening.Happening, Heard.Heard}, register.Register.{Register, TheVariants.{Cmd, Ci, Fbs}}}
+use Rattle.hba_fbs.specs.{declared.{report.TakeReport.TakeReport, status.Block.Block}, Issuing.{aimed, asked}, Registers.falls, Sending.Outgoing}
+use Rattle.hba_fbs.specs.{Sending.{gathered, outgoing}, Tables.prds_of, Taking.{admitted, heard_now, ignores, port_of}, Views.last_command}
+use Rattle.hba_fbs.specs.{Views.opening_port, Writing.cleared_by}
 use Rattle.hba_fbs.specs.declared.hearing.Happening.TheVariants as happening
-use Rattle.hba_fbs.specs.declared.hearing.Heard.{Heard}
-use Rattle.hba_fbs.specs.declared.register.Register.{Register}
-use Rattle.hba_fbs.specs.declared.register.Register.TheVariants.{Cmd, Ci, Fbs}
-use Rattle.hba_fbs.specs.declared.report.TakeReport.{TakeReport}
-use Rattle.hba_fbs.specs.declared.status.Block.{Block}
-use Rattle.hba_fbs.specs.Issuing.{aimed, asked}
-use Rattle.hba_fbs.specs.Registers.{falls}
-use Rattle.hba_fbs.specs.Sending.{Outgoing, gathered, outgoing}
 use Rattle.hba_fbs.specs.Sending as out
-use Rattle.hba_fbs.specs.Tables.{prds_of}
-use Rattle.hba_fbs.specs.Taking.{admitted, heard_now, ignores, port_of}
-use Rattle.hba_fbs.specs.Views.{last_command, opening_port}
-use Rattle.hba_fbs.specs.Writing.{cleared_by}
-use Rattle.hba_laws.specs.Agreement.{AreHistoriesOf, IsHistoryOf}
-use Rattle.hba_laws.specs.Client.{AreWithin, By, Filling, IsKept, IsReading, Puts, Stops, Touches}
-use Rattle.hba_laws.specs.Client.{client, filling, own}
+use Rattle.hba_laws.specs.{Agreement.{AreHistoriesOf, IsHistoryOf}, Client.{AreWithin, By, Filling, IsKept, IsReading, Puts, Stops, Touches, client}}
+use Rattle.hba_laws.specs.{Client.{filling, own}, History.{Event, History, Transfer, completes, filled, issued}, Hosts.{Flushed, Gave, Host}}
+use Rattle.hba_laws.specs.{Hosts.{HostEvent, Put, Rewrote, Runs, Stored, TakesFrame, Took, Wrote}, Sound.{AreHosts, IsHost}}
 use Rattle.hba_laws.specs.History as event
-use Rattle.hba_laws.specs.History.{Event, History, Transfer, completes, filled, issued}
-use Rattle.hba_laws.specs.Hosts.{Flushed, Gave, Host, HostEvent, Put, Rewrote, Runs, Stored}
-use Rattle.hba_laws.specs.Hosts.{TakesFrame, Took, Wrote}
-use Rattle.hba_laws.specs.Sound.{AreHosts, IsHost}
 
 -- ---- a frame is received
 

@@ -2,14 +2,10 @@
 -- are filled and with what, and which event completes it (AHCI 1.3.1, 5.3 and 9.3; Serial ATA 3.x, 10.5, FIS
 -- types; ACS-3, NCQ, DMA and PIO commands). These definitions read a history back to the issue of a slot.
 -- They use no flag, no cursor and no running sum.
-use Rattle.std.specs.Prelude.{ℕ, ◌+◌, ◌-◌, ◌≤◌, ◌==◌, ◌&&◌, ◌||◌, nat_le, nat_lt, not, Bool, false}
-use Rattle.std.specs.Prelude.{if◌then◌else◌}
-use Rattle.std.specs.Prelude.{List, [], ◌∷◌, length, slice_get, Option, Some, None, is_some}
-use Rattle.std.specs.List.{range_with_len, list_all}
+use Rattle.std.specs.Prelude.{ℕ, ◌+◌, ◌-◌, ◌≤◌, ◌==◌, ◌&&◌, ◌||◌, nat_le, nat_lt, not, Bool, false, if◌then◌else◌, List, [], ◌∷◌, length, slice_get}
+use Rattle.std.specs.{Prelude.{Option, Some, None, is_some}, List.{range_with_len, list_all}}
 use Rattle.host_memory.specs.declared.table.Prd.{Prd}
-use Rattle.slots.specs.Slots.{has_bit, is_pio, match_some}
-use Rattle.slots.specs.Work.{is_queued, needs_all}
-use Rattle.slots.specs.declared.work.Work.{Work}
+use Rattle.slots.specs.{Slots.{has_bit, is_pio, match_some}, Work.{is_queued, needs_all}, declared.work.Work.Work}
 use Rattle.hba_fbs.specs.Status.{is_quiet}
 
 -- what a command moves: its kind, its byte count, and the PRDs that say where the bytes lie, as they are at

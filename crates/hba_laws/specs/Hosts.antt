@@ -1,17 +1,10 @@
 -- What happens at a host port and in the memory beside it, as a list of events: AHCI 1.3.1, chapter 5 (what
 -- the port does) and chapter 9 (FIS-based Switching).
-use Rattle.std.specs.Prelude.{ℕ, ◌≡◌, ◌+◌, ◌*◌, ◌-◌, ◌<◌, ◌≤◌, true, false, List, [], ◌∷◌, length, Option}
-use Rattle.std.specs.Prelude.{None}
+use Rattle.std.specs.Prelude.{ℕ, ◌≡◌, ◌+◌, ◌*◌, ◌-◌, ◌<◌, ◌≤◌, true, false, List, [], ◌∷◌, length, Option, None}
 use Rattle.fis_view.specs.Frames.{Stamped}
-use Rattle.host_memory.specs.Memory.{Memory, client_start, overwritten}
-use Rattle.host_memory.specs.Place.{LiesInClient}
-use Rattle.hba_fbs.specs.declared.register.Register.{Register}
-use Rattle.hba_fbs.specs.declared.report.TakeReport.{TakeReport}
-use Rattle.hba_fbs.specs.Posting.{area_at}
-use Rattle.hba_fbs.specs.Sending.{Gives, outgoing}
-use Rattle.hba_fbs.specs.Taking.{Hears, Ignores, ignores, port_of}
-use Rattle.hba_fbs.specs.Views.{Flushes, Port}
-use Rattle.hba_fbs.specs.Writing.{Accepts, refusal_of}
+use Rattle.host_memory.specs.{Memory.{Memory, client_start, overwritten}, Place.LiesInClient}
+use Rattle.hba_fbs.specs.{declared.{register.Register.Register, report.TakeReport.TakeReport}, Posting.area_at, Sending.{Gives, outgoing}}
+use Rattle.hba_fbs.specs.{Taking.{Hears, Ignores, ignores, port_of}, Views.{Flushes, Port}, Writing.{Accepts, refusal_of}}
 
 -- a port, and the memory that it shares with its software
 pub record Host : Type 0 where

@@ -1,34 +1,19 @@
 -- Which device each event of a host port belongs to, and isolation (AHCI 1.3.1, chapter 9, FIS-based
 -- Switching): what belongs to a device is the fold of its own events alone.
-use Rattle.std.specs.Prelude.{ℕ, ◌≡◌, ◌<◌, ◌==◌, ◌&&◌, ◌||◌, Bool, true, false, not, if◌then◌else◌, List, []}
-use Rattle.std.specs.Prelude.{◌∷◌, ◌++◌, Option, Some, None, Result, is_none, is_some}
-use Rattle.std.specs.Option.{option_map, option_or}
-use Rattle.fis_view.specs.Frames.{Stamped}
-use Rattle.fis_view.specs.Seen.{seen}
-use Rattle.fis_view.specs.declared.view.Fis.{Fis}
-use Rattle.fis_view.specs.declared.view.FisFault.{FisFault}
+use Rattle.std.specs.Prelude.{ℕ, ◌≡◌, ◌<◌, ◌==◌, ◌&&◌, ◌||◌, Bool, true, false, not, if◌then◌else◌, List, [], ◌∷◌, ◌++◌, Option, Some, None, Result}
+use Rattle.std.specs.{Prelude.{is_none, is_some}, Option.{option_map, option_or}}
+use Rattle.fis_view.specs.{Frames.Stamped, Seen.seen, declared.view.{Fis.Fis, FisFault.FisFault}}
 use Rattle.hba_commands.specs.declared.command.Command.{Command}
 use Rattle.host_memory.specs.Memory.{Memory}
 use Rattle.rx_area.specs.Area.{row_after}
-use Rattle.slots.specs.Commands.{may_begin}
-use Rattle.slots.specs.Data.{payload}
-use Rattle.slots.specs.Slots.{Issue, holds, is_control, lowest, match_some, own_issue, waiting}
-use Rattle.hba_fbs.specs.declared.register.Register.{Register}
-use Rattle.hba_fbs.specs.declared.register.Register.TheVariants.{Cmd, Ci, Fbs}
-use Rattle.hba_fbs.specs.declared.registers.Registers.{Registers}
-use Rattle.hba_fbs.specs.Issuing.{aimed, asked, issued_slots}
-use Rattle.hba_fbs.specs.Registers.{falls}
-use Rattle.hba_fbs.specs.Sending.{Data, Nothing, Order, Outgoing, Unreadable, data_fis, gathered, is_ready}
-use Rattle.hba_fbs.specs.Sending.{outgoing, view_fed, view_sent}
-use Rattle.hba_fbs.specs.Tables.{prds_of}
-use Rattle.hba_fbs.specs.Taking.{admitted, heard_now, heard_view, ignores, is_ignored, is_running}
-use Rattle.hba_fbs.specs.Taking.{passes_over, port_of, stops_with}
-use Rattle.hba_fbs.specs.Views.{DeviceView, Port, flushed_view, stopped_view}
+use Rattle.slots.specs.{Commands.may_begin, Data.payload, Slots.{Issue, holds, is_control, lowest, match_some, own_issue, waiting}}
+use Rattle.hba_fbs.specs.{declared.{register.Register.{Register, TheVariants.{Cmd, Ci, Fbs}}, registers.Registers.Registers}, Issuing.{aimed, asked}}
+use Rattle.hba_fbs.specs.{Issuing.issued_slots, Registers.falls, Sending.{Data, Nothing, Order, Outgoing, Unreadable, data_fis, gathered, is_ready}}
+use Rattle.hba_fbs.specs.{Sending.{outgoing, view_fed, view_sent}, Tables.prds_of, Taking.{admitted, heard_now, heard_view, ignores, is_ignored}}
+use Rattle.hba_fbs.specs.{Taking.{is_running, passes_over, port_of, stops_with}, Views.{DeviceView, Port, flushed_view, stopped_view}}
 use Rattle.hba_fbs.specs.Writing.{cleared_by, is_device}
-use Rattle.hba_laws.specs.Hosts.{Does, Flushed, Gave, Host, HostEvent, Put, Rewrote, Runs, Stored, Took}
-use Rattle.hba_laws.specs.Hosts.{Wrote}
-use Rattle.hba_laws.specs.Parts.{DevicePart, part_of, with_view}
-use Rattle.hba_laws.specs.Sound.{AreHosts, IsHost}
+use Rattle.hba_laws.specs.{Hosts.{Does, Flushed, Gave, Host, HostEvent, Put, Rewrote, Runs, Stored, Took, Wrote}, Parts.{DevicePart, part_of}}
+use Rattle.hba_laws.specs.{Parts.with_view, Sound.{AreHosts, IsHost}}
 
 -- ---- events of the port
 

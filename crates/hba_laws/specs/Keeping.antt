@@ -5,10 +5,7 @@ use Rattle.host_memory.specs.Reading.{LieApart}
 use Rattle.hba_commands.specs.declared.command.Command.{Command}
 use Rattle.slots.specs.Slots.{issue_at}
 use Rattle.hba_fbs.specs.Views.{last_command}
-use Rattle.hba_laws.specs.Delivering.{AreSpared}
-use Rattle.hba_laws.specs.Hosts.{Host, HostEvent, Runs}
-use Rattle.hba_laws.specs.Sound.{AreHosts}
-use Rattle.hba_laws.specs.Tables.{SparesBytes, moves_area}
+use Rattle.hba_laws.specs.{Delivering.AreSpared, Hosts.{Host, HostEvent, Runs}, Sound.AreHosts, Tables.{SparesBytes, moves_area}}
 
 -- the PRDs of a command lie apart from the received area, and the software does not write them
 pub record KeepsPrds (command : Command) (host : Host) (event : HostEvent) : Type 0 where

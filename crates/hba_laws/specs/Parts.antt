@@ -4,8 +4,7 @@ use Rattle.std.specs.Prelude.{ℕ, Bool, if◌then◌else◌, List, Option, Some
 use Rattle.hba_commands.specs.declared.command.Command.{Command}
 use Rattle.rx_area.specs.Area.{row_of}
 use Rattle.slots.specs.Slots.{DeviceSlots, own_issue}
-use Rattle.hba_fbs.specs.Posting.{area_at}
-use Rattle.hba_fbs.specs.Views.{DeviceView, last_command, view_of}
+use Rattle.hba_fbs.specs.{Posting.area_at, Views.{DeviceView, last_command, view_of}}
 use Rattle.hba_laws.specs.Hosts.{Host}
 
 -- a device's view, the commands of its slots and its row of the received area

@@ -1,16 +1,12 @@
 -- The bytes of a write: Data to a device is what client memory has at the places of the write's PRDs (AHCI
 -- 1.3.1, 4.2.3.3, Physical Region Descriptor Table, and 5.3, data transfer; Serial ATA 3.x, 10.5, Data FIS;
 -- ACS-3, WRITE FPDMA QUEUED).
-use Rattle.std.specs.Prelude.{ℕ, ◌≡◌, ◌≢◌, ◌+◌, ◌-◌, ◌<◌, ◌≤◌, true, false, List, [], ◌∷◌, ◌++◌}
-use Rattle.std.specs.Prelude.{length, slice_get, Some}
-use Rattle.host_memory.specs.Place.{place}
-use Rattle.host_memory.specs.declared.table.Prd.{Prd}
+use Rattle.std.specs.Prelude.{ℕ, ◌≡◌, ◌≢◌, ◌+◌, ◌-◌, ◌<◌, ◌≤◌, true, false, List, [], ◌∷◌, ◌++◌, length, slice_get, Some}
+use Rattle.host_memory.specs.{Place.place, declared.table.Prd.Prd}
 use Rattle.slots.specs.Work.{is_read}
-use Rattle.hba_laws.specs.Agreement.{AreHistoriesOf}
-use Rattle.hba_laws.specs.Client.{AreWithin, By, IsReading, Puts, Touches, client, is_in, own}
-use Rattle.hba_laws.specs.Delivering.{AreSpared, HaveTables, IsClient, IsSound, touches_after}
-use Rattle.hba_laws.specs.History.{Carried, Transfer, filled, is_set_up, issued, next_number}
-use Rattle.hba_laws.specs.Hosts.{Host, HostEvent, Runs}
+use Rattle.hba_laws.specs.{Agreement.AreHistoriesOf, Client.{AreWithin, By, IsReading, Puts, Touches, client, is_in, own}, Delivering.AreSpared}
+use Rattle.hba_laws.specs.{Delivering.{HaveTables, IsClient, IsSound, touches_after}, History.{Carried, Transfer, filled, is_set_up, issued}}
+use Rattle.hba_laws.specs.{History.next_number, Hosts.{Host, HostEvent, Runs}}
 
 -- this is issued in slot s of device n, and is not a read
 pub record IsWriting (n s : ℕ) (t : Transfer) (past : Touches) : Type 0 where

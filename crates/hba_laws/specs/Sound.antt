@@ -4,8 +4,7 @@ use Rattle.std.specs.Prelude.{ℕ, ◌≡◌, true, List, [], ◌∷◌, length}
 use Rattle.host_memory.specs.Memory.{IsHostMemory, is_memory_size, zeroed}
 use Rattle.port_errors.specs.Errors.{AreErrors}
 use Rattle.slots.specs.Table.{IsTable}
-use Rattle.hba_fbs.specs.Registers.{AreRegisters}
-use Rattle.hba_fbs.specs.Views.{IsPort, opening_port}
+use Rattle.hba_fbs.specs.{Registers.AreRegisters, Views.{IsPort, opening_port}}
 use Rattle.hba_laws.specs.Hosts.{Does, Host, HostEvent, Runs}
 
 -- what a port, its slots, its errors and its memory keep

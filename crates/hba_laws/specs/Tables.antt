@@ -1,15 +1,10 @@
 -- The structure area over a run (AHCI 1.3.1, section 4.2), and what the PRD tables in it say (4.2.3.3).
 use Rattle.std.specs.Prelude.{ℕ, ◌≡◌, ◌+◌, ◌*◌, ◌==◌, Bool, true, false, not, List, [], ◌∷◌, Option, Some}
-use Rattle.hba_commands.specs.Commands.{command_at}
-use Rattle.hba_commands.specs.declared.command.Command.{Command}
-use Rattle.host_memory.specs.Memory.{Memory}
-use Rattle.host_memory.specs.Reading.{AgreeFrom, LieApart}
+use Rattle.hba_commands.specs.{Commands.command_at, declared.command.Command.Command}
+use Rattle.host_memory.specs.{Memory.Memory, Reading.{AgreeFrom, LieApart}}
 use Rattle.slots.specs.Slots.{DeviceSlots}
-use Rattle.hba_fbs.specs.Registers.{written}
-use Rattle.hba_fbs.specs.Tables.{is_readable, prds_of, sound_command}
-use Rattle.hba_fbs.specs.Views.{last_command}
-use Rattle.hba_laws.specs.Hosts.{Host, HostEvent, Runs, Stored, Wrote}
-use Rattle.hba_laws.specs.Sound.{AreHosts}
+use Rattle.hba_fbs.specs.{Registers.written, Tables.{is_readable, prds_of, sound_command}, Views.last_command}
+use Rattle.hba_laws.specs.{Hosts.{Host, HostEvent, Runs, Stored, Wrote}, Sound.AreHosts}
 
 -- ---- what changes an area
 

@@ -1,11 +1,10 @@
 -- What stands at some addresses of an area is told by the bytes there, for the crates above too.
-use Rattle.std.proofs.Common.{◌≡◌, ℕ, zero, suc, ◌+◌, ◌-◌, ◌*◌, ◌<◌, ◌≤◌, ◌↔◌, List, ◌++◌, length, take, drop, nat_lt, refl, sym, ap, ◌∙◌, arith, inl, inr, append_assoc, length-append, length-drop}
+use Rattle.std.proofs.Common.{◌≡◌, ℕ, zero, suc, ◌+◌, ◌-◌, ◌*◌, ◌<◌, ◌≤◌, ◌↔◌, List, ◌++◌, length, take, drop, nat_lt, refl, sym, ap, ◌∙◌, arith, inl}
+use Rattle.std.proofs.{Common.{inr, append_assoc, length-append, length-drop}, lemmas.List.{length-take-le, get_or-take, get_or-drop}}
+use Rattle.std.proofs.lemmas.{List.{get_or_append_left, get_or-append_right}, Bool.{cases_lt, lt-ltb, le-ltb}}
 use Rattle.std.specs.Prelude.{slice_index}
-use Rattle.std.proofs.lemmas.List.{length-take-le, get_or-take, get_or-drop, get_or_append_left, get_or-append_right}
-use Rattle.std.proofs.lemmas.Bool.{cases_lt, lt-ltb, le-ltb}
 use Rattle.byteorder.specs.Endian.{little_from}
-use Rattle.host_memory.specs.Memory.{overwritten}
-use Rattle.host_memory.specs.Reading.{AgreeFrom, LieApart, SaysTheSame, dword_at, prd_at, prds_at, entry_fault, first_fault}
+use Rattle.host_memory.specs.{Memory.overwritten, Reading.{AgreeFrom, LieApart, SaysTheSame, dword_at, prd_at, prds_at, entry_fault, first_fault}}
 
 -- ---- numbers and entries
 

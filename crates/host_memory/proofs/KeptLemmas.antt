@@ -1,17 +1,10 @@
 -- Tables that a memory keeps, as it reads more of them and as bytes are written.
-use Rattle.std.proofs.Common.{◌≡◌, ℕ, ◌+◌, ◌*◌, ◌≤◌, Bool, true, false, ◌⊎◌, List, [], ◌++◌, ◌∷◌, length, Some, None, refl, sym, ap, ◌∙◌, arith, inl, inr}
-use Rattle.std.specs.Prelude.{is_none, if◌then◌else◌}
-use Rattle.std.specs.List.{All}
-use Rattle.std.proofs.lemmas.List.Elements.{All-push, All-weaker}
-use Rattle.host_memory.specs.declared.table.PrdError.{PrdError}
-use Rattle.host_memory.specs.declared.kept.Kept.{Kept}
-use Rattle.host_memory.specs.Kept.{IsKept, readable_total}
-use Rattle.host_memory.specs.Ends.{begin_in, ends_from}
-use Rattle.host_memory.specs.Memory.{overwritten}
-use Rattle.host_memory.specs.Reading.{IsPrdTable, LieApart, prds_at, read_fault}
-use Rattle.host_memory.proofs.AgreeLemmas.{stays_the_same}
-use Rattle.host_memory.proofs.SoundLemmas.{sound_table}
-use Rattle.host_memory.proofs.SpotLemmas.{total_is}
+use Rattle.std.proofs.Common.{◌≡◌, ℕ, ◌+◌, ◌*◌, ◌≤◌, Bool, true, false, ◌⊎◌, List, [], ◌++◌, ◌∷◌, length, Some, None, refl, sym, ap, ◌∙◌, arith, inl}
+use Rattle.std.proofs.{Common.inr, lemmas.List.Elements.{All-push, All-weaker}}
+use Rattle.std.specs.{Prelude.{is_none, if◌then◌else◌}, List.All}
+use Rattle.host_memory.specs.{declared.{table.PrdError.PrdError, kept.Kept.Kept}, Kept.{IsKept, readable_total}, Ends.{begin_in, ends_from}}
+use Rattle.host_memory.specs.{Memory.overwritten, Reading.{IsPrdTable, LieApart, prds_at, read_fault}}
+use Rattle.host_memory.proofs.{AgreeLemmas.stays_the_same, SoundLemmas.sound_table, SpotLemmas.total_is}
 
 -- a kept table is a table, as long as it is
 pub kept_table : (s : List ℕ) (len from to : ℕ) (kept : Kept) → IsKept s len from to kept → IsPrdTable s len kept.at kept.count kept.ends.items

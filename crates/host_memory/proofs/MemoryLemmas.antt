@@ -1,6 +1,5 @@
 -- Facts on new memory, for the crates above too.
-use Rattle.std.proofs.Common.{◌≡◌, ℕ, ◌-◌, ◌%◌, ◌<◌, ◌≤◌, List, length, get_or, ap, ◌∙◌, arith}
-use Rattle.std.proofs.lemmas.List.{length-replicate, get_or-replicate}
+use Rattle.std.proofs.{Common.{◌≡◌, ℕ, ◌-◌, ◌%◌, ◌<◌, ◌≤◌, List, length, get_or, ap, ◌∙◌, arith}, lemmas.List.{length-replicate, get_or-replicate}}
 use Rattle.host_memory.specs.Memory.{IsHostMemory, client_start, zeros}
 
 -- how many zeros there are

@@ -1,10 +1,9 @@
 -- What the tests for shared bytes tell.
-use Rattle.std.proofs.Common.{◌≡◌, ℕ, zero, suc, ◌+◌, ◌<◌, min, max, Bool, true, false, nat_lt, ◌≤◌, List, [], ◌∷◌, Some, slice_get, refl, sym, ap, ◌∙◌, arith, inl, inr}
+use Rattle.std.proofs.Common.{◌≡◌, ℕ, zero, suc, ◌+◌, ◌<◌, min, max, Bool, true, false, nat_lt, ◌≤◌, List, [], ◌∷◌, Some, slice_get, refl, sym, ap}
+use Rattle.std.proofs.{Common.{◌∙◌, arith, inl, inr}, lemmas.Bool.{cases_lt, or_cases, or_left, or_right, ltb-true, lt-ltb, le-ltb, both_ways}}
 use Rattle.std.specs.List.{list_any}
-use Rattle.std.proofs.lemmas.Bool.{cases_lt, or_cases, or_left, or_right, ltb-true, lt-ltb, le-ltb, both_ways}
-use Rattle.host_memory.specs.declared.table.Prd.{Prd}
-use Rattle.host_memory.specs.Place.{place, ShareByte, HaveOverlap, AreApart, ShareAPlace}
-use Rattle.host_memory.specs.Reading.{share_byte, shares_with, share_with, have_overlap, lie_in_order}
+use Rattle.host_memory.specs.{declared.table.Prd.Prd, Place.{place, ShareByte, HaveOverlap, AreApart, ShareAPlace}, Reading.{share_byte, shares_with}}
+use Rattle.host_memory.specs.Reading.{share_with, have_overlap, lie_in_order}
 use Rattle.host_memory.proofs.PlaceLemmas.{place_has, place_from}
 
 -- two entries share a byte exactly where the later begin lies before the earlier end

@@ -1,13 +1,11 @@
 -- Facts on the parts of a run of a transfer's bytes.
-use Rattle.std.proofs.Common.{◌≡◌, ℕ, zero, suc, ◌+◌, ◌-◌, ◌<◌, ◌≤◌, min, max, Bool, true, false, nat_lt, List, [], ◌∷◌, length, drop, map, get_or, refl, sym, ap, ◌∙◌, arith, inl, inr, length-append, length-drop}
+use Rattle.std.proofs.Common.{◌≡◌, ℕ, zero, suc, ◌+◌, ◌-◌, ◌<◌, ◌≤◌, min, max, Bool, true, false, nat_lt, List, [], ◌∷◌, length, drop, map, get_or}
+use Rattle.std.proofs.{Common.{refl, sym, ap, ◌∙◌, arith, inl, inr, length-append, length-drop}, lemmas.List.{length-take-le, get_or-take}}
+use Rattle.std.proofs.lemmas.{List.{get_or-drop, get_or_append_left, get_or-append_right}, Bool.{cond-true, cond-false, lt-ltb, le-ltb, ltb-true}}
+use Rattle.std.proofs.lemmas.Bool.{cases_lt, cases_Bool}
 use Rattle.std.specs.List.{concat, filter, range_with_len}
-use Rattle.std.proofs.lemmas.List.{length-take-le, get_or-take, get_or-drop, get_or_append_left, get_or-append_right}
-use Rattle.std.proofs.lemmas.Bool.{cond-true, cond-false, lt-ltb, le-ltb, ltb-true, cases_lt, cases_Bool}
-use Rattle.host_memory.specs.declared.table.Prd.{Prd}
-use Rattle.host_memory.specs.Memory.{client_start}
-use Rattle.host_memory.specs.Place.{total_of, place, AreInside, LiesInClient}
-use Rattle.host_memory.specs.Reading.{prd_at, prds_at}
-use Rattle.host_memory.specs.Parts.{AreParts, HoldParts, begin_of, touches, part_in, one_for_each, parts_of, stretch_of}
+use Rattle.host_memory.specs.{declared.table.Prd.Prd, Memory.client_start, Place.{total_of, place, AreInside, LiesInClient}, Reading.prd_at}
+use Rattle.host_memory.specs.{Reading.prds_at, Parts.{AreParts, HoldParts, begin_of, touches, part_in, one_for_each, parts_of, stretch_of}}
 use Rattle.host_memory.proofs.PlaceLemmas.{place_here, place_later}
 
 -- ---- the parts, entry by entry

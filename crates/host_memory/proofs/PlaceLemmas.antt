@@ -1,8 +1,7 @@
 -- Facts on the places of a transfer's bytes, for the crates above too.
 use Rattle.std.proofs.Common.{◌≡◌, ◌≢◌, ℕ, zero, suc, ◌+◌, ◌-◌, ◌<◌, ◌≤◌, nat_lt, List, [], ◌∷◌, Some, slice_get, refl, sym, ap, ◌∙◌, arith, inl, inr}
 use Rattle.std.proofs.lemmas.Bool.{cond-true, cond-false, lt-ltb, le-ltb, cases_lt}
-use Rattle.host_memory.specs.declared.table.Prd.{Prd}
-use Rattle.host_memory.specs.Place.{total_of, place, LiesInClient, AreInside, IsByteOf, AreApart, HasOwnPlaces}
+use Rattle.host_memory.specs.{declared.table.Prd.Prd, Place.{total_of, place, LiesInClient, AreInside, IsByteOf, AreApart, HasOwnPlaces}}
 use Rattle.host_memory.specs.Between.{HasByte}
 
 -- byte i lies in the first entry where it is below its count

@@ -1,12 +1,9 @@
 -- The entries of a table in memory, one by one.
 use Rattle.std.proofs.Common.{◌≡◌, ℕ, suc, ◌+◌, ◌-◌, ◌*◌, ◌<◌, ◌≤◌, List, ◌∷◌, zero, Option, Some, None, refl, arith, if◌then◌else◌, inl, inr}
-use Rattle.std.proofs.lemmas.Bool.Decides.{nat_tests}
+use Rattle.std.proofs.lemmas.Bool.{Decides.nat_tests, cases_Bool, cond-true, cond-false}
 use Rattle.std.specs.Option.{option_or}
-use Rattle.std.proofs.lemmas.Bool.{cases_Bool, cond-true, cond-false}
-use Rattle.host_memory.specs.declared.table.PrdError.{PrdError}
-use Rattle.host_memory.specs.declared.table.PrdError.TheVariants.{BadEntry, OutsideClient, Overlap}
-use Rattle.host_memory.specs.Place.{total_of, LiesInClient, AreInside}
-use Rattle.host_memory.specs.Reading.{prd_at, prds_at, is_bad, is_outside, entry_fault, first_fault}
+use Rattle.host_memory.specs.{declared.table.PrdError.{PrdError, TheVariants.{BadEntry, OutsideClient, Overlap}}, Place.{total_of, LiesInClient}}
+use Rattle.host_memory.specs.{Place.AreInside, Reading.{prd_at, prds_at, is_bad, is_outside, entry_fault, first_fault}}
 
 -- the entries from the i-th on are that entry and those after it
 pub prds_next : (s : List ℕ) (at n i : ℕ) → i < n → prds_at s (at + 16 * i) (n - i) ≡ prd_at s (at + 16 * i) ∷ prds_at s (at + 16 * (i + 1)) (n - (i + 1))

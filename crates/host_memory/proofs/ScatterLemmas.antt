@@ -1,14 +1,11 @@
 -- Bytes that are scattered over the places of a table, entry by entry.
-use Rattle.std.proofs.Common.{◌≡◌, ◌≢◌, ℕ, ◌+◌, ◌-◌, ◌<◌, ◌≤◌, min, List, [], ◌∷◌, ◌++◌, get_or, take, drop, length, refl, sym, ◌∙◌, ap, arith, inl, inr, length-append, length-drop}
-use Rattle.std.proofs.lemmas.Bool.{cases_lt}
-use Rattle.std.proofs.lemmas.List.{get_or-take, get_or-drop, get_or_append_left, get_or-append_right, length-take-le, take_all}
-use Rattle.host_memory.specs.declared.table.Prd.{Prd}
-use Rattle.host_memory.specs.Memory.{client_start, overwritten}
-use Rattle.host_memory.specs.Parts.{left_at}
-use Rattle.host_memory.specs.Place.{total_of, place, AreInside, AreApart, Scatters}
-use Rattle.host_memory.proofs.AgreeLemmas.{overwritten_beside, length-overwritten}
-use Rattle.host_memory.proofs.PlaceLemmas.{place_here, place_later, place_inside, place_injective}
-use Rattle.host_memory.proofs.SpotLemmas.{left_here, left_later}
+use Rattle.std.proofs.Common.{◌≡◌, ◌≢◌, ℕ, ◌+◌, ◌-◌, ◌<◌, ◌≤◌, min, List, [], ◌∷◌, ◌++◌, get_or, take, drop, length, refl, sym, ◌∙◌, ap, arith, inl}
+use Rattle.std.proofs.{Common.{inr, length-append, length-drop}, lemmas.{Bool.cases_lt, List.{get_or-take, get_or-drop, get_or_append_left}}}
+use Rattle.std.proofs.lemmas.List.{get_or-append_right, length-take-le, take_all}
+use Rattle.host_memory.specs.{declared.table.Prd.Prd, Memory.{client_start, overwritten}, Parts.left_at, Place.{total_of, place, AreInside, AreApart}}
+use Rattle.host_memory.specs.Place.{Scatters}
+use Rattle.host_memory.proofs.{AgreeLemmas.{overwritten_beside, length-overwritten}, PlaceLemmas.{place_here, place_later, place_inside}}
+use Rattle.host_memory.proofs.{PlaceLemmas.place_injective, SpotLemmas.{left_here, left_later}}
 
 -- nothing is written yet
 pub scatters_none : (ps : List Prd) (offset : ℕ) (bytes old : List ℕ) → Scatters ps offset (take 0 bytes) old old

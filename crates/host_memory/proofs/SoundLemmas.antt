@@ -1,15 +1,10 @@
 -- What the refusal of a table tells of it.
 use Rattle.std.proofs.Common.{◌≡◌, ℕ, ◌+◌, ◌*◌, ◌≤◌, Bool, true, false, ◌||◌, List, length, Option, Some, None, refl, sym, ◌∙◌, inl, inr}
-use Rattle.std.specs.Prelude.{nat_lt, if◌then◌else◌}
-use Rattle.std.specs.Option.{option_or}
 use Rattle.std.proofs.lemmas.Bool.{cases_Bool, or_left, or_right, ltb-false, false≢true}
-use Rattle.host_memory.specs.declared.table.PrdError.{PrdError}
-use Rattle.host_memory.specs.declared.table.PrdError.TheVariants.{OutsideStructure, Overlap}
-use Rattle.host_memory.specs.Place.{HaveOverlap}
-use Rattle.host_memory.specs.Ends.{ends_from}
+use Rattle.std.specs.{Prelude.{nat_lt, if◌then◌else◌}, Option.option_or}
+use Rattle.host_memory.specs.{declared.table.PrdError.{PrdError, TheVariants.{OutsideStructure, Overlap}}, Place.HaveOverlap, Ends.ends_from}
 use Rattle.host_memory.specs.Reading.{IsPrdTable, prds_at, read_fault}
-use Rattle.host_memory.proofs.OverlapLemmas.{HaveOverlap-from, apart_from_overlap}
-use Rattle.host_memory.proofs.PrdLemmas.{inside_from_faults, no_overlap_fault}
+use Rattle.host_memory.proofs.{OverlapLemmas.{HaveOverlap-from, apart_from_overlap}, PrdLemmas.{inside_from_faults, no_overlap_fault}}
 
 -- what no refusal, and one for an overlap, leave of three tests in a row
 pub record PassesAll (outside : Bool) (fault : Option PrdError) (shared : Bool) : Type 0 where

@@ -1,17 +1,9 @@
 -- Where a byte of a transfer lies, by the ends of the entries.
-use Rattle.std.proofs.Common.{◌≡◌, ℕ, zero, suc, ◌+◌, ◌-◌, ◌*◌, ◌<◌, ◌≤◌, nat_lt, List, [], ◌∷◌, ◌++◌, append_assoc, length, take, drop, get_or, refl, sym, ap, ◌∙◌, arith, inl, inr}
-use Rattle.std.proofs.lemmas.Bool.{cases_lt, cond-true, cond-false, lt-ltb, le-ltb}
-use Rattle.host_memory.specs.declared.table.Prd.{Prd}
-use Rattle.host_memory.specs.declared.table.Run.{Run}
-use Rattle.host_memory.specs.declared.table.Spot.{Spot}
-use Rattle.host_memory.specs.Ends.{ends_from, begin_in, IsSpot}
-use Rattle.host_memory.specs.Memory.{client_start}
-use Rattle.host_memory.specs.Parts.{parts_of, left_at, IsRun, HoldParts}
-use Rattle.host_memory.specs.Place.{total_of, place, LiesInClient, AreInside}
-use Rattle.host_memory.specs.Reading.{prd_at, prds_at}
-use Rattle.host_memory.proofs.PlaceLemmas.{place_here, place_later}
-use Rattle.host_memory.proofs.PrdLemmas.{prds_next}
-use Rattle.host_memory.proofs.PartsLemmas.{parts_later}
+use Rattle.std.proofs.Common.{◌≡◌, ℕ, zero, suc, ◌+◌, ◌-◌, ◌*◌, ◌<◌, ◌≤◌, nat_lt, List, [], ◌∷◌, ◌++◌, append_assoc, length, take, drop, get_or, refl}
+use Rattle.std.proofs.{Common.{sym, ap, ◌∙◌, arith, inl, inr}, lemmas.Bool.{cases_lt, cond-true, cond-false, lt-ltb, le-ltb}}
+use Rattle.host_memory.specs.{declared.table.{Prd.Prd, Run.Run, Spot.Spot}, Ends.{ends_from, begin_in, IsSpot}, Memory.client_start, Parts.parts_of}
+use Rattle.host_memory.specs.{Parts.{left_at, IsRun, HoldParts}, Place.{total_of, place, LiesInClient, AreInside}, Reading.{prd_at, prds_at}}
+use Rattle.host_memory.proofs.{PlaceLemmas.{place_here, place_later}, PrdLemmas.prds_next, PartsLemmas.parts_later}
 
 -- ---- entries from one on
 

@@ -1,17 +1,12 @@
 -- A table that was written reads back.
-use Rattle.std.proofs.Common.{◌≡◌, ℕ, suc, ◌+◌, ◌-◌, ◌*◌, ◌%◌, ◌^◌, ◌<◌, ◌≤◌, List, [], ◌∷◌, ◌++◌, take, drop, length, refl, sym, ap, ◌∙◌, arith, append_assoc, All}
-use Rattle.std.proofs.lemmas.List.{length-append, length-take-le, drop-drop, append-nil, take-append-drop}
-use Rattle.std.specs.List.{AllByRecursion}
+use Rattle.std.proofs.Common.{◌≡◌, ℕ, suc, ◌+◌, ◌-◌, ◌*◌, ◌%◌, ◌^◌, ◌<◌, ◌≤◌, List, [], ◌∷◌, ◌++◌, take, drop, length, refl, sym, ap, ◌∙◌, arith}
+use Rattle.std.proofs.{Common.{append_assoc, All}, lemmas.List.{length-append, length-take-le, drop-drop, append-nil, take-append-drop}}
+use Rattle.std.proofs.{Math.Seq.{take-append_seam, drop-append_seam, drop-append-add}, lemmas.Bool.{le-ltb}}
+use Rattle.std.specs.{List.AllByRecursion, Prelude.{false, true, None, nat_lt, ◌==◌}}
 use borrow.Rule.Slice.PartMut.{put_mid}
-use Rattle.std.proofs.Math.Seq.{take-append_seam, drop-append_seam, drop-append-add}
-use Rattle.byteorder.specs.Endian.{little_bytes, little_number}
-use Rattle.byteorder.specs.Numbers.{little_number-reads_back}
-use Rattle.host_memory.specs.declared.table.Prd.{Prd}
-use Rattle.std.specs.Prelude.{false, true, None, nat_lt, ◌==◌}
-use Rattle.std.proofs.lemmas.Bool.{le-ltb}
-use Rattle.host_memory.specs.Memory.{overwritten, client_start}
-use Rattle.host_memory.specs.Reading.{dword_at, upper_at, prd_at, prds_at, entry_fault, first_fault, have_overlap, read_fault}
-use Rattle.host_memory.specs.Writing.{CanBeWritten, IsUsable, entry_bytes, table_bytes}
+use Rattle.byteorder.specs.{Endian.{little_bytes, little_number}, Numbers.{little_number-reads_back}}
+use Rattle.host_memory.specs.{declared.table.Prd.Prd, Memory.{overwritten, client_start}, Reading.{dword_at, upper_at, prd_at, prds_at, entry_fault}}
+use Rattle.host_memory.specs.{Reading.{first_fault, have_overlap, read_fault}, Writing.{CanBeWritten, IsUsable, entry_bytes, table_bytes}}
 
 -- each entry has 16 bytes
 pub length-table_bytes : (prds : List Prd) → length (table_bytes prds) ≡ 16 * length prds

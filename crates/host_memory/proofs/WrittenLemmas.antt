@@ -1,12 +1,10 @@
 -- A scatter is single bytes, written one after another. For the crates above too.
-use Rattle.std.proofs.Common.{◌≡◌, ◌≢◌, ℕ, zero, suc, ◌+◌, ◌-◌, ◌<◌, ◌≤◌, ◌↔◌, ◌⊎◌, true, false, eqb, List, [], ◌∷◌, length, set, Some, refl, sym, ap, subst, ◌∙◌, arith, inl, inr, get_or-set_same, get_or-set_other, length-set}
+use Rattle.std.proofs.Common.{◌≡◌, ◌≢◌, ℕ, zero, suc, ◌+◌, ◌-◌, ◌<◌, ◌≤◌, ◌↔◌, ◌⊎◌, true, false, eqb, List, [], ◌∷◌, length, set, Some, refl, sym, ap}
+use Rattle.std.proofs.{Common.{subst, ◌∙◌, arith, inl, inr, get_or-set_same, get_or-set_other, length-set}, lemmas.Bool.{cases_lt, cases_eq, eq-eqb}}
+use Rattle.std.proofs.lemmas.{Bool.ne_eqb, List.ext_get_or, Option.{same_Some, slice_get-get_or}}
 use Rattle.std.specs.Prelude.{slice_get, slice_index}
-use Rattle.std.proofs.lemmas.Bool.{cases_lt, cases_eq, eq-eqb, ne_eqb}
-use Rattle.std.proofs.lemmas.List.{ext_get_or}
-use Rattle.std.proofs.lemmas.Option.{same_Some, slice_get-get_or}
-use Rattle.host_memory.specs.declared.table.Prd.{Prd}
-use Rattle.host_memory.specs.Memory.{client_start}
-use Rattle.host_memory.specs.Place.{total_of, place, AreInside, AreApart, Scatters, one_by_one, written}
+use Rattle.host_memory.specs.{declared.table.Prd.Prd, Memory.client_start, Place.{total_of, place, AreInside, AreApart, Scatters, one_by_one}}
+use Rattle.host_memory.specs.Place.{written}
 use Rattle.host_memory.proofs.PlaceLemmas.{place_inside, place_injective}
 
 -- ---- the byte whose place an address is

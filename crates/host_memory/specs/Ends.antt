@@ -1,8 +1,7 @@
 -- Where the bytes of each entry end in a transfer: AHCI 1.3.1, section 4.2.3.3, Physical Region Descriptor
 -- Table. The transfer fills the entries one after another, so each entry begins where the one before it ends.
 use Rattle.std.specs.Prelude.{◌≡◌, ℕ, ◌+◌, ◌<◌, ◌≤◌, List, [], ◌∷◌, slice_index, length, zero, suc}
-use Rattle.host_memory.specs.declared.table.Prd.{Prd}
-use Rattle.host_memory.specs.declared.table.Spot.{Spot}
+use Rattle.host_memory.specs.declared.table.{Prd.Prd, Spot.Spot}
 
 -- the ends of these entries, where the first entry begins at this byte
 abbrev pub ends_from : ℕ → List Prd → List ℕ

@@ -1,12 +1,7 @@
 -- The tables that a memory keeps as it read them.
-use Rattle.std.specs.Prelude.{◌≡◌, ℕ, ◌+◌, ◌*◌, ◌≤◌, List, length, Option, Some, None, is_none, if◌then◌else◌}
-use Rattle.std.specs.List.{All}
-use Rattle.host_memory.specs.declared.kept.Kept.{Kept}
-use Rattle.host_memory.specs.declared.kept.Tables.{Tables}
-use Rattle.host_memory.specs.Ends.{ends_from}
-use Rattle.host_memory.specs.Memory.{IsHostMemory}
-use Rattle.host_memory.specs.Place.{total_of}
-use Rattle.host_memory.specs.Reading.{prds_at, read_fault}
+use Rattle.std.specs.{Prelude.{◌≡◌, ℕ, ◌+◌, ◌*◌, ◌≤◌, List, length, Option, Some, None, is_none, if◌then◌else◌}, List.All}
+use Rattle.host_memory.specs.{declared.kept.{Kept.Kept, Tables.Tables}, Ends.ends_from, Memory.IsHostMemory, Place.total_of, Reading.prds_at}
+use Rattle.host_memory.specs.Reading.{read_fault}
 
 -- It can be read in these areas, its entries end there, and it lies from one address on and before another.
 pub record IsKept (structure : List ℕ) (client_len from to : ℕ) (kept : Kept) : Type 0 where

@@ -1,8 +1,6 @@
 -- What a borrower of an area leaves in memory after writing to it.
-use Rattle.std.specs.Prelude.{ℕ, List, ◌++◌, take, drop, length}
-use Rattle.std.specs.Borrow.{Lends, MutBor, Fml, Array, u8}
-use Rattle.host_memory.specs.Memory.{Memory}
-use Rattle.host_memory.specs.contracts.memory.HostMemory.{the_row}
+use Rattle.std.specs.{Prelude.{ℕ, List, ◌++◌, take, drop, length}, Borrow.{Lends, MutBor, Fml, Array, u8}}
+use Rattle.host_memory.specs.{Memory.Memory, contracts.memory.HostMemory.the_row}
 
 -- The area with these bytes left in it. A slice keeps its length, so bytes is as long as area, and is what is
 -- left. The cut only defines it for lists of every length.

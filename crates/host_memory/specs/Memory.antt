@@ -1,8 +1,7 @@
 -- The memory that the driver and the host port share: one area for the structures of AHCI 1.3.1, section 4.2
 -- (command list 4.2.2, command tables 4.2.3, received FISes 4.2.1), and one for the data of transfers. The
 -- sizes are our own.
-use Rattle.std.specs.Prelude.{◌≡◌, ℕ, ◌+◌, ◌-◌, ◌%◌, ◌≤◌, Bool, ◌&&◌, ◌==◌, nat_le, List, ◌++◌, length, take}
-use Rattle.std.specs.Prelude.{drop, replicate}
+use Rattle.std.specs.Prelude.{◌≡◌, ℕ, ◌+◌, ◌-◌, ◌%◌, ◌≤◌, Bool, ◌&&◌, ◌==◌, nat_le, List, ◌++◌, length, take, drop, replicate}
 
 -- the bytes of the two areas
 pub record Memory : Type 0 where

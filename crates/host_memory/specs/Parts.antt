@@ -1,13 +1,8 @@
 -- A run of a transfer's bytes as the stretches of memory that hold it, one for each entry that it touches
 -- (AHCI 1.3.1, section 4.2.3.3, Physical Region Descriptor Table).
-use Rattle.std.specs.Prelude.{◌≡◌, ℕ, ◌+◌, ◌-◌, ◌*◌, ◌<◌, ◌≤◌, min, max, Bool, nat_lt, if◌then◌else◌, List}
-use Rattle.std.specs.Prelude.{[], ◌∷◌, slice_index, length, take, drop, map, zero, suc}
-use Rattle.std.specs.List.{concat, filter, range_with_len}
-use Rattle.host_memory.specs.declared.table.Prd.{Prd}
-use Rattle.host_memory.specs.declared.table.Run.{Run}
-use Rattle.host_memory.specs.Memory.{client_start}
-use Rattle.host_memory.specs.Place.{total_of, place, AreInside}
-use Rattle.host_memory.specs.Reading.{prd_at, prds_at}
+use Rattle.std.specs.Prelude.{◌≡◌, ℕ, ◌+◌, ◌-◌, ◌*◌, ◌<◌, ◌≤◌, min, max, Bool, nat_lt, if◌then◌else◌, List, [], ◌∷◌, slice_index, length, take, drop}
+use Rattle.std.specs.{Prelude.{map, zero, suc}, List.{concat, filter, range_with_len}}
+use Rattle.host_memory.specs.{declared.table.{Prd.Prd, Run.Run}, Memory.client_start, Place.{total_of, place, AreInside}, Reading.{prd_at, prds_at}}
 
 -- this many bytes of the client area, from byte from of an entry on
 abbrev pub stretch_of : List ℕ → Prd → ℕ → ℕ → List ℕ

@@ -1,9 +1,8 @@
 -- Where the bytes of a transfer lie: AHCI 1.3.1, section 4.2.3.3, Physical Region Descriptor Table. The
 -- entries of a table name runs of memory. The bytes of the transfer fill them in order, one after another.
-use Rattle.std.specs.Prelude.{◌≡◌, ◌≢◌, ℕ, ◌+◌, ◌-◌, ◌<◌, ◌≤◌, ◌↔◌, ◌==◌, nat_lt, if◌then◌else◌, List, []}
-use Rattle.std.specs.Prelude.{◌∷◌, slice_get, slice_index, slice_set, length, Some}
-use Rattle.host_memory.specs.declared.table.Prd.{Prd}
-use Rattle.host_memory.specs.Memory.{client_start}
+use Rattle.std.specs.Prelude.{◌≡◌, ◌≢◌, ℕ, ◌+◌, ◌-◌, ◌<◌, ◌≤◌, ◌↔◌, ◌==◌, nat_lt, if◌then◌else◌, List, [], ◌∷◌, slice_get, slice_index, slice_set}
+use Rattle.std.specs.Prelude.{length, Some}
+use Rattle.host_memory.specs.{declared.table.Prd.Prd, Memory.client_start}
 
 -- the length of a transfer: the sum of the entries' byte counts
 abbrev pub total_of : List Prd → ℕ

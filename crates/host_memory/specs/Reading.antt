@@ -1,19 +1,10 @@
 -- The bytes of a table: AHCI 1.3.1, section 4.2.3.3, Physical Region Descriptor Table.
-use Rattle.std.specs.Prelude.{◌≡◌, ℕ, ◌+◌, ◌*◌, ◌%◌, ◌^◌, ◌<◌, ◌≤◌, ◌⊎◌, ◌↔◌, min, max, Bool, true, false}
-use Rattle.std.specs.Prelude.{not, ◌||◌, ◌==◌, nat_lt, if◌then◌else◌, List, [], ◌∷◌, length, drop}
-use Rattle.std.specs.Prelude.{slice_index, Option, Some, None, zero, suc}
-use Rattle.std.specs.List.{list_any}
-use Rattle.std.specs.Option.{option_or}
+use Rattle.std.specs.Prelude.{◌≡◌, ℕ, ◌+◌, ◌*◌, ◌%◌, ◌^◌, ◌<◌, ◌≤◌, ◌⊎◌, ◌↔◌, min, max, Bool, true, false, not, ◌||◌, ◌==◌, nat_lt, if◌then◌else◌}
+use Rattle.std.specs.{Prelude.{List, [], ◌∷◌, length, drop, slice_index, Option, Some, None, zero, suc}, List.list_any, Option.option_or}
 use Rattle.byteorder.specs.Endian.{little_number}
-use Rattle.host_memory.specs.declared.table.Prd.{Prd}
-use Rattle.host_memory.specs.declared.table.Ends.{Ends}
-use Rattle.host_memory.specs.declared.table.Ends.TheVariants.{Own, Kept}
-use Rattle.host_memory.specs.declared.table.PrdError.{PrdError}
-use Rattle.host_memory.specs.declared.table.PrdError.TheVariants.{OutsideStructure, BadEntry, OutsideClient}
-use Rattle.host_memory.specs.declared.table.PrdError.TheVariants.{Overlap}
-use Rattle.host_memory.specs.Ends.{ends_from}
-use Rattle.host_memory.specs.Memory.{client_start, overwritten}
-use Rattle.host_memory.specs.Place.{AreInside, AreApart}
+use Rattle.host_memory.specs.declared.table.{Prd.Prd, Ends.{Ends, TheVariants.{Own, Kept}}, PrdError.{PrdError, TheVariants.OutsideStructure}}
+use Rattle.host_memory.specs.{declared.table.PrdError.TheVariants.{BadEntry, OutsideClient, Overlap}, Ends.ends_from, Memory.client_start}
+use Rattle.host_memory.specs.{Memory.overwritten, Place.{AreInside, AreApart}}
 
 -- the dword at this index, the least significant byte first
 abbrev pub dword_at : List ℕ → ℕ → ℕ

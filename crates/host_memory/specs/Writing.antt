@@ -1,8 +1,7 @@
 -- The bytes that are written for a table: AHCI 1.3.1, section 4.2.3.3.
 use Rattle.std.specs.Prelude.{ℕ, ◌≡◌, ◌-◌, ◌%◌, ◌≤◌, List, [], ◌∷◌, ◌++◌}
 use Rattle.byteorder.specs.Endian.{little_bytes}
-use Rattle.host_memory.specs.declared.table.Prd.{Prd}
-use Rattle.host_memory.specs.Place.{LiesInClient}
+use Rattle.host_memory.specs.{declared.table.Prd.Prd, Place.LiesInClient}
 
 -- an entry that fits the field of 22 bits: 1 byte to 4 MiB
 abbrev pub CanBeWritten : Prd → Type 0

@@ -1,13 +1,10 @@
 -- How many requests are under way, and what that says of all.
-use Rattle.std.proofs.Common.{◌≡◌, ◌<◌, ◌≤◌, ◌+◌, ◌-◌, ℕ, zero, suc, Bool, true, false, cond, List, [], ◌∷◌, length, replicate, refl, sym, ap, ◌∙◌, inl, inr, arith}
-use Rattle.std.specs.Prelude.{◌||◌, filter, nat_lt, slice_index_or, slice_set}
-use Rattle.std.specs.List.{list_any}
-use Rattle.std.proofs.lemmas.Bool.{cases_lt}
+use Rattle.std.proofs.Common.{◌≡◌, ◌<◌, ◌≤◌, ◌+◌, ◌-◌, ℕ, zero, suc, Bool, true, false, cond, List, [], ◌∷◌, length, replicate, refl, sym, ap, ◌∙◌}
+use Rattle.std.proofs.{Common.{inl, inr, arith}, lemmas.Bool.cases_lt}
+use Rattle.std.specs.{Prelude.{◌||◌, filter, nat_lt, slice_index_or, slice_set}, List.list_any}
 use Rattle.hba_driver.specs.declared.request.Ticket.{Ticket}
-use Rattle.host_thread.specs.declared.plan.Ended.{Ended}
-use Rattle.host_thread.specs.declared.plan.State.{State}
+use Rattle.host_thread.specs.{declared.plan.{Ended.Ended, State.State}, Runs.{AreGiven, count_submitted, is_open, is_submitted, is_waiting}}
 use Rattle.host_thread.specs.declared.plan.State.TheVariants as state
-use Rattle.host_thread.specs.Runs.{AreGiven, count_submitted, is_open, is_submitted, is_waiting}
 use Rattle.host_thread.proofs.Requests.{waits_there}
 
 abbrev one_if : Bool → ℕ

@@ -1,22 +1,15 @@
 -- A request that is Done was completed by its own device.
 use Rattle.std.proofs.Common.{◌≡◌, ◌<◌, ◌+◌, ℕ, zero, suc, List, [], ◌∷◌, ◌++◌, length, get_or, refl, sym, ap, ◌∙◌, subst, append_assoc, drop, arith}
-use Rattle.std.specs.Prelude.{slice_index_or}
-use Rattle.std.specs.List.{Contains}
+use Rattle.std.specs.{Prelude.slice_index_or, List.Contains}
 use Rattle.host_memory.specs.Memory.{IsHostMemory, Memory}
-use Rattle.hba_driver.specs.declared.mode.Mode.TheVariants.{Switching}
-use Rattle.hba_driver.specs.declared.request.Completion.{Completion}
-use Rattle.hba_driver.specs.declared.request.Outcome.TheVariants.{Done}
-use Rattle.hba_driver.specs.declared.request.Request.{Request}
-use Rattle.hba_driver.specs.Delivered.{HasCome}
-use Rattle.hba_driver.specs.HostTurns.{DoesAll, Host, HostTurn, Took, Pushed, Ticked, Submitted, Polled, Put, given_in}
+use Rattle.hba_driver.specs.declared.{mode.Mode.TheVariants.Switching, request.{Completion.Completion, Outcome.TheVariants.Done, Request.Request}}
+use Rattle.hba_driver.specs.{Delivered.HasCome, HostTurns.{DoesAll, Host, HostTurn, Took, Pushed, Ticked, Submitted, Polled, Put, given_in}}
 use Rattle.hba_driver.specs.Reported.{IsTurnOf, WasReported}
 use Rattle.hba_driver.proofs.Door.{done_was_reported, first_turn, later_turn, turns_deliver}
 use Rattle.host_thread.specs.declared.plan.Ended.TheVariants as ended
-use Rattle.host_thread.specs.declared.plan.Planned.{Planned}
-use Rattle.host_thread.specs.declared.plan.State.{State}
+use Rattle.host_thread.specs.{declared.plan.{Planned.Planned, State.State}, Dones.{AreDone, IsDone}, Runs.{HostView, IsNext, IsRun, IsTrue}}
+use Rattle.host_thread.specs.Runs.{WasPolled, WasTaken, starting}
 use Rattle.host_thread.specs.declared.plan.State.TheVariants as state
-use Rattle.host_thread.specs.Dones.{AreDone, IsDone}
-use Rattle.host_thread.specs.Runs.{HostView, IsNext, IsRun, IsTrue, WasPolled, WasTaken, starting}
 use Rattle.host_thread.proofs.Tickets.{ticket_is}
 
 -- a turn that is there is a turn of the run

@@ -1,24 +1,17 @@
 -- What is said of all requests once one is taken, refused or polled.
 use Rattle.std.proofs.Common.{◌≡◌, ◌<◌, ◌+◌, ℕ, Bool, false, List, [], ◌∷◌, ◌++◌, length, refl, sym, ap, ◌∙◌, subst, inl, inr, arith}
-use Rattle.std.specs.Prelude.{◌==◌, slice_index_or, slice_set}
-use Rattle.std.specs.List.{list_any}
-use Rattle.std.proofs.lemmas.Bool.{cases_eq}
-use Rattle.std.proofs.lemmas.List.{get_or-set_other, get_or-set_same, length-append, length-set}
-use Rattle.std.proofs.lemmas.List.Elements.{All-contains_itself, Contains-append_right}
-use Rattle.std.specs.List.{Contains}
+use Rattle.std.proofs.lemmas.{Bool.cases_eq, List.{get_or-set_other, get_or-set_same, length-append, length-set, Elements.{All-contains_itself}}}
+use Rattle.std.proofs.lemmas.List.Elements.{Contains-append_right}
+use Rattle.std.specs.{Prelude.{◌==◌, slice_index_or, slice_set}, List.{list_any, Contains}}
 use Rattle.host_memory.specs.Memory.{Memory}
-use Rattle.hba_driver.specs.declared.request.Completion.{Completion}
-use Rattle.hba_driver.specs.declared.request.SubmitError.{SubmitError}
-use Rattle.hba_driver.specs.declared.request.Ticket.{Ticket}
-use Rattle.hba_driver.specs.HostTurns.{DoesAll, Host, HostTurn, Polled, given_in, polled_in}
+use Rattle.hba_driver.specs.{declared.request.{Completion.Completion, SubmitError.SubmitError, Ticket.Ticket}, HostTurns.{DoesAll, Host, HostTurn}}
+use Rattle.hba_driver.specs.HostTurns.{Polled, given_in, polled_in}
 use Rattle.host_thread.specs.declared.plan.Ended.TheVariants as ended
-use Rattle.host_thread.specs.declared.plan.Planned.{Planned}
-use Rattle.host_thread.specs.declared.plan.State.{State}
+use Rattle.host_thread.specs.{declared.plan.{Planned.Planned, State.State}, Runs.{AreGiven, AreTrue, IsNext, IsPast, IsTrue, WasRefused, WasTaken}}
+use Rattle.host_thread.specs.Runs.{starting, taken_before, was_taken}
 use Rattle.host_thread.specs.declared.plan.State.TheVariants as state
-use Rattle.host_thread.specs.Runs.{AreGiven, AreTrue, IsNext, IsPast, IsTrue, WasRefused, WasTaken, starting, taken_before, was_taken}
 use Rattle.host_thread.proofs.Requests.{EachIsTrue, Stays, any_default, each_true_more, each_true_set, past_polled, past_waiting, waits_there}
-use Rattle.host_thread.proofs.Takings.{given_append, given_none, polled_none, taken_one, taken_same}
-use Rattle.host_thread.proofs.Tickets.{one_place, other_polled}
+use Rattle.host_thread.proofs.{Takings.{given_append, given_none, polled_none, taken_one, taken_same}, Tickets.{one_place, other_polled}}
 
 one_is_there : {X : Type 0} (xs : List X) (x : X) → Contains (xs ++ x ∷ []) x
 one_is_there xs x = Contains-append_right xs (x ∷ []) x (All-contains_itself (x ∷ []) 0 x (omega arith))

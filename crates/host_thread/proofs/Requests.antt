@@ -1,20 +1,15 @@
 -- What is said of requests, and whose turn it is.
-use Rattle.std.proofs.Common.{◌≡◌, ◌<◌, ◌≤◌, ◌+◌, ℕ, zero, suc, Bool, true, false, List, [], ◌∷◌, ◌++◌, length, replicate, refl, sym, ap, ◌∙◌, subst, ◌⊎◌, inl, inr, append_assoc, arith}
-use Rattle.std.specs.Prelude.{◌==◌, ◌||◌, slice_index_or, slice_set}
-use Rattle.std.specs.List.{list_any}
-use Rattle.std.proofs.lemmas.Bool.{cases_eq, cases_lt}
-use Rattle.std.proofs.lemmas.List.{get_or-replicate, get_or-set_other, get_or-set_same, length-replicate, length-set}
-use Rattle.std.proofs.lemmas.List.Elements.{Contains-append_left}
+use Rattle.std.proofs.Common.{◌≡◌, ◌<◌, ◌≤◌, ◌+◌, ℕ, zero, suc, Bool, true, false, List, [], ◌∷◌, ◌++◌, length, replicate, refl, sym, ap, ◌∙◌, subst}
+use Rattle.std.proofs.{Common.{◌⊎◌, inl, inr, append_assoc, arith}, lemmas.{Bool.{cases_eq, cases_lt}, List.{get_or-replicate, get_or-set_other}}}
+use Rattle.std.proofs.lemmas.List.{get_or-set_same, length-replicate, length-set, Elements.{Contains-append_left}}
+use Rattle.std.specs.{Prelude.{◌==◌, ◌||◌, slice_index_or, slice_set}, List.list_any}
 use Rattle.host_memory.specs.Memory.{Memory}
-use Rattle.hba_driver.specs.HostTurns.{HostTurn, Submitted, Polled, given_in, polled_in}
-use Rattle.hba_driver.specs.declared.request.Outcome.{Outcome}
-use Rattle.hba_driver.specs.declared.request.SubmitError.{SubmitError}
-use Rattle.hba_driver.specs.declared.request.Ticket.{Ticket}
+use Rattle.hba_driver.specs.{HostTurns.{HostTurn, Submitted, Polled, given_in, polled_in}, declared.request.Outcome.Outcome}
+use Rattle.hba_driver.specs.declared.request.{SubmitError.SubmitError, Ticket.Ticket}
 use Rattle.host_thread.specs.declared.plan.Ended.TheVariants as ended
-use Rattle.host_thread.specs.declared.plan.Planned.{Planned}
-use Rattle.host_thread.specs.declared.plan.State.{State}
+use Rattle.host_thread.specs.{declared.plan.{Planned.Planned, State.State}, Runs.{AreGiven, AreTrue, HasBegun, HasEnded, IsNext, IsPast, IsTrue}}
+use Rattle.host_thread.specs.Runs.{WasRefused, WasTaken, is_submitted, is_waiting, taken_before, was_taken}
 use Rattle.host_thread.specs.declared.plan.State.TheVariants as state
-use Rattle.host_thread.specs.Runs.{AreGiven, AreTrue, HasBegun, HasEnded, IsNext, IsPast, IsTrue, WasRefused, WasTaken, is_submitted, is_waiting, taken_before, was_taken}
 use Rattle.host_thread.proofs.Takings.{given_none, polled_none, taken_all, taken_low, taken_same}
 
 -- ---- lists

@@ -1,28 +1,19 @@
 -- What one step leaves of a run of the host's worker.
-use Rattle.std.proofs.Common.{◌≡◌, ◌<◌, ℕ, false, List, [], ◌∷◌, ◌++◌, length, map, replicate, Some, None, refl, sym, ap, ◌∙◌, subst, append-nil, arith}
-use Rattle.std.specs.Prelude.{slice_index_or, slice_set}
-use Rattle.std.specs.List.{flat_map}
-use Rattle.std.specs.Option.{option_to_list}
-use Rattle.std.proofs.lemmas.Grind.{flat_map-append}
-use Rattle.std.proofs.lemmas.List.{get_or-replicate, length-replicate, map-append}
+use Rattle.std.proofs.Common.{◌≡◌, ◌<◌, ℕ, false, List, [], ◌∷◌, ◌++◌, length, map, replicate, Some, None, refl, sym, ap, ◌∙◌, subst, append-nil}
+use Rattle.std.proofs.{Common.arith, lemmas.{Grind.{flat_map-append}, List.{get_or-replicate, length-replicate, map-append}}}
+use Rattle.std.specs.{Prelude.{slice_index_or, slice_set}, List.flat_map, Option.option_to_list}
 use Rattle.fis_view.specs.Frames.{Stamped}
 use Rattle.host_memory.specs.Memory.{IsHostMemory, Memory}
 use Rattle.hba_fbs.specs.declared.report.TakeReport.{TakeReport}
-use Rattle.hba_driver.specs.declared.request.Completion.{Completion}
-use Rattle.hba_driver.specs.declared.request.SubmitError.{SubmitError}
-use Rattle.hba_driver.specs.declared.request.Ticket.{Ticket}
-use Rattle.hba_driver.specs.Events.{put_by}
-use Rattle.hba_driver.specs.HostTurns.{DoesAll, Host, HostTurn, Took, Pushed, Ticked, Submitted, Polled, Polls, Pushes, Submits, Ticks, Tooks, given_in, polled_in}
-use Rattle.hba_driver.specs.Submits.{submit_refusal}
+use Rattle.hba_driver.specs.{declared.request.{Completion.Completion, SubmitError.SubmitError, Ticket.Ticket}, Events.put_by, HostTurns.DoesAll}
+use Rattle.hba_driver.specs.HostTurns.{Host, HostTurn, Took, Pushed, Ticked, Submitted, Polled, Polls, Pushes, Submits, Ticks, Tooks, given_in}
+use Rattle.hba_driver.specs.{HostTurns.polled_in, Submits.submit_refusal}
 use Rattle.host_thread.specs.declared.plan.Ended.TheVariants as ended
-use Rattle.host_thread.specs.declared.plan.Planned.{Planned}
-use Rattle.host_thread.specs.declared.plan.State.{State}
+use Rattle.host_thread.specs.{declared.plan.{Planned.Planned, State.State}, Runs.{HostView, IsNext, IsRun, GoesOn, Same, AreTrue, IsTrue, WasRefused}}
+use Rattle.host_thread.specs.Runs.{WasTaken, is_for_now, starting, took_by, pushed_by}
 use Rattle.host_thread.specs.declared.plan.State.TheVariants as state
-use Rattle.host_thread.specs.Runs.{HostView, IsNext, IsRun, GoesOn, Same, AreTrue, IsTrue, WasRefused, WasTaken, is_for_now, starting, took_by, pushed_by}
-use Rattle.host_thread.proofs.Ends.{polled_beside, polled_in_place, refused_in, taken_in}
-use Rattle.host_thread.proofs.Requests.{IsDue, all_true_more, any_default, due_few, next_due, none_given}
-use Rattle.host_thread.proofs.Takings.{taken_all}
-use Rattle.host_thread.proofs.Tickets.{not_polled}
+use Rattle.host_thread.proofs.{Ends.{polled_beside, polled_in_place, refused_in, taken_in}, Requests.{IsDue, all_true_more, any_default, due_few}}
+use Rattle.host_thread.proofs.{Requests.{next_due, none_given}, Takings.taken_all, Tickets.not_polled}
 
 -- ---- turns, and then turns
 

@@ -1,12 +1,11 @@
 -- How many requests were taken, and how many tickets were given and polled.
-use Rattle.std.proofs.Common.{◌≡◌, ◌<◌, ◌≤◌, ◌+◌, ◌-◌, ℕ, zero, suc, Bool, true, false, cond, List, [], ◌∷◌, ◌++◌, length, refl, sym, ap, ◌∙◌, append_assoc, append-nil, arith}
-use Rattle.std.specs.Prelude.{slice_index_or, slice_set}
-use Rattle.std.proofs.lemmas.List.{get_or-set_other, get_or-set_same, length-set}
+use Rattle.std.proofs.Common.{◌≡◌, ◌<◌, ◌≤◌, ◌+◌, ◌-◌, ℕ, zero, suc, Bool, true, false, cond, List, [], ◌∷◌, ◌++◌, length, refl, sym, ap, ◌∙◌}
+use Rattle.std.proofs.{Common.{append_assoc, append-nil, arith}, lemmas.List.{get_or-set_other, get_or-set_same, length-set}}
 use Rattle.std.proofs.lemmas.List.Filters.{length-filter_more}
+use Rattle.std.specs.Prelude.{slice_index_or, slice_set}
 use Rattle.hba_driver.specs.HostTurns.{HostTurn, Took, Pushed, Ticked, Submitted, Polled, Put, given_in, polled_by, polled_in}
-use Rattle.host_thread.specs.declared.plan.State.{State}
+use Rattle.host_thread.specs.{declared.plan.State.State, Runs.{AreGiven, is_waiting, taken_before, was_taken}}
 use Rattle.host_thread.specs.declared.plan.State.TheVariants as state
-use Rattle.host_thread.specs.Runs.{AreGiven, is_waiting, taken_before, was_taken}
 
 -- ---- turns, and then turns
 

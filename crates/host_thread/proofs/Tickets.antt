@@ -1,24 +1,14 @@
 -- Under which ticket a request was taken, and which tickets were polled.
-use Rattle.std.proofs.Common.{◌≡◌, ◌<◌, ◌+◌, ◌≢◌, ℕ, Bool, false, List, [], ◌∷◌, ◌++◌, Option, Some, None, length, get_or, replicate, refl, sym, ap, ◌∙◌, subst, inl, inr, arith}
-use Rattle.std.specs.Prelude.{◌==◌, ◌||◌, slice_index_or}
-use Rattle.std.specs.List.{list_any, range_with_len}
-use Rattle.std.proofs.lemmas.Bool.{cases_lt}
-use Rattle.std.proofs.lemmas.Bool.Decides.{nat_tests}
-use Rattle.std.proofs.lemmas.List.{get_or-replicate, get_or_at, get_or_past, length-append, length-replicate}
-use Rattle.std.proofs.lemmas.List.Folds.{list_any-append}
-use Rattle.std.proofs.lemmas.List.FromFn.{get_or-range_with_len}
+use Rattle.std.proofs.Common.{◌≡◌, ◌<◌, ◌+◌, ◌≢◌, ℕ, Bool, false, List, [], ◌∷◌, ◌++◌, Option, Some, None, length, get_or, replicate, refl, sym, ap}
+use Rattle.std.proofs.{Common.{◌∙◌, subst, inl, inr, arith}, lemmas.{Bool.{cases_lt, Decides.nat_tests}, List.{get_or-replicate, get_or_at}}}
+use Rattle.std.proofs.lemmas.List.{get_or_past, length-append, length-replicate, Folds.{list_any-append}, FromFn.{get_or-range_with_len}}
+use Rattle.std.specs.{Prelude.{◌==◌, ◌||◌, slice_index_or}, List.{list_any, range_with_len}}
 use Rattle.host_memory.specs.Memory.{Memory}
-use Rattle.hba_driver.specs.declared.request.Completion.{Completion}
-use Rattle.hba_driver.specs.declared.request.Ticket.{Ticket}
-use Rattle.hba_driver.specs.declared.request.Request.{Request}
-use Rattle.hba_driver.specs.Drivers.{AreRequests, Entry, entry_at}
-use Rattle.hba_driver.specs.HostTurns.{DoesAll, Host, HostTurn, Took, Pushed, Ticked, Submitted, Polled, Put, given_in, polled_in}
-use Rattle.hba_driver.specs.Laws.{TurnsKeep}
+use Rattle.hba_driver.specs.{declared.request.{Completion.Completion, Ticket.Ticket, Request.Request}, Drivers.{AreRequests, Entry, entry_at}}
+use Rattle.hba_driver.specs.{HostTurns.{DoesAll, Host, HostTurn, Took, Pushed, Ticked, Submitted, Polled, Put, given_in, polled_in}, Laws.TurnsKeep}
 use Rattle.hba_driver.proofs.Door.{each_run_keeps, poll_facts, requests_turn}
-use Rattle.host_thread.specs.declared.plan.Planned.{Planned}
-use Rattle.host_thread.specs.declared.plan.State.{State}
+use Rattle.host_thread.specs.{declared.plan.{Planned.Planned, State.State}, Runs.{AreTrue, IsNext, IsTrue, starting, taken_before, was_taken}}
 use Rattle.host_thread.specs.declared.plan.State.TheVariants as state
-use Rattle.host_thread.specs.Runs.{AreTrue, IsNext, IsTrue, starting, taken_before, was_taken}
 use Rattle.host_thread.proofs.Takings.{given_append, polled_append, taken_apart}
 
 -- ---- a new driver has no request

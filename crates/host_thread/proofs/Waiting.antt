@@ -1,14 +1,10 @@
 -- Why no request is given to the driver.
 use Rattle.std.proofs.Common.{◌≡◌, ◌<◌, ◌≤◌, ℕ, true, false, Some, length, sym, ap, ◌∙◌, subst, inl, inr, arith}
-use Rattle.std.specs.Prelude.{slice_index_or}
-use Rattle.std.specs.List.{list_any}
-use Rattle.hba_driver.specs.declared.request.SubmitError.{SubmitError}
-use Rattle.hba_driver.specs.Submits.{submit_refusal}
-use Rattle.host_thread.specs.declared.plan.Planned.{Planned}
+use Rattle.std.specs.{Prelude.slice_index_or, List.list_any}
+use Rattle.hba_driver.specs.{declared.request.SubmitError.SubmitError, Submits.submit_refusal}
+use Rattle.host_thread.specs.{declared.plan.Planned.Planned, Runs.{AreGiven, HostView, IsRefusedForNow, MayWait, is_for_now, is_submitted}}
 use Rattle.host_thread.specs.declared.plan.State.TheVariants as state
-use Rattle.host_thread.specs.Runs.{AreGiven, HostView, IsRefusedForNow, MayWait, is_for_now, is_submitted}
-use Rattle.host_thread.proofs.Counting.{one_next}
-use Rattle.host_thread.proofs.Requests.{any_default}
+use Rattle.host_thread.proofs.{Counting.one_next, Requests.any_default}
 
 module _ (w : HostView) (next : ℕ) (all : length w.states ≡ length w.plan) (given : AreGiven next w.states) where
   -- none is left

@@ -5,17 +5,11 @@
 -- (specs/Delivered.antt).
 use Rattle.std.specs.Prelude.{◌≡◌, ℕ, ◌<◌, List, length, slice_index_or}
 use Rattle.host_memory.specs.Memory.{Memory}
-use Rattle.hba_driver.specs.declared.mode.Mode.TheVariants.{Switching}
-use Rattle.hba_driver.specs.declared.request.Completion.{Completion}
-use Rattle.hba_driver.specs.declared.request.Outcome.TheVariants.{Done}
-use Rattle.hba_driver.specs.Delivered.{HasCome, TookDelivers, touches_of}
-use Rattle.hba_driver.specs.HostTurns.{DoesAll, Host, HostTurn, Polled}
-use Rattle.hba_driver.specs.Reported.{IsTurnOf, WasReported}
+use Rattle.hba_driver.specs.{declared.{mode.Mode.TheVariants.Switching, request.{Completion.Completion, Outcome.TheVariants.Done}}, Delivered.HasCome}
+use Rattle.hba_driver.specs.{Delivered.{TookDelivers, touches_of}, HostTurns.{DoesAll, Host, HostTurn, Polled}, Reported.{IsTurnOf, WasReported}}
 use Rattle.host_thread.specs.declared.plan.Ended.TheVariants as ended
-use Rattle.host_thread.specs.declared.plan.Planned.{Planned}
-use Rattle.host_thread.specs.declared.plan.State.{State}
+use Rattle.host_thread.specs.{declared.plan.{Planned.Planned, State.State}, Runs.starting}
 use Rattle.host_thread.specs.declared.plan.State.TheVariants as state
-use Rattle.host_thread.specs.Runs.{starting}
 
 -- In these turns the request was polled as Done. Before that a frame of its device was taken whose report says that
 -- the command of its slot is done, while exactly this request was issued there. The report has exactly the slots that

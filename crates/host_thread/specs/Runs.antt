@@ -1,28 +1,19 @@
 -- What the host's thread does. There is one list of turns of the host. The lists of its seats are
 -- projections of it, and port, driver and memory are its outcome. What the thread says of each
 -- request of its plan is in these turns, in the order of the plan and after its barriers.
-use Rattle.std.specs.Prelude.{◌≡◌, ℕ, ◌<◌, ◌≤◌, ◌==◌, ◌⊎◌, ⊤, Bool, true, false, List, ◌++◌, [], ◌∷◌, filter}
-use Rattle.std.specs.Prelude.{length, map, slice_index_or, take, Option, Some}
-use Rattle.std.specs.List.{Contains, flat_map, list_any}
-use Rattle.std.specs.Option.{option_to_list}
+use Rattle.std.specs.Prelude.{◌≡◌, ℕ, ◌<◌, ◌≤◌, ◌==◌, ◌⊎◌, ⊤, Bool, true, false, List, ◌++◌, [], ◌∷◌, filter, length, map, slice_index_or, take}
+use Rattle.std.specs.{Prelude.{Option, Some}, List.{Contains, flat_map, list_any}, Option.option_to_list}
 use Rattle.atomic_table.specs.Seated.{TableId}
 use Rattle.fis_view.specs.Frames.{Stamped}
 use Rattle.host_memory.specs.Memory.{IsHostMemory, Memory}
 use Rattle.ruled_links.specs.Links.{Seat}
 use Rattle.multiplier.specs.Orders.{InStampedOrder}
-use Rattle.hba_driver.specs.declared.request.Completion.{Completion}
-use Rattle.hba_driver.specs.declared.request.Outcome.{Outcome}
-use Rattle.hba_driver.specs.declared.request.SubmitError.{SubmitError}
-use Rattle.hba_driver.specs.declared.request.SubmitError.TheVariants as refusal
-use Rattle.hba_driver.specs.declared.request.Ticket.{Ticket}
-use Rattle.hba_driver.specs.Events.{opening_host, put_by}
-use Rattle.hba_driver.specs.HostTurns.{DoesAll, Host, HostTurn, Took, Pushed, Submitted, Polled, given_in}
-use Rattle.hba_driver.specs.HostTurns.{polled_in}
+use Rattle.hba_driver.specs.{declared.request.{Completion.Completion, Outcome.Outcome, SubmitError.SubmitError, Ticket.Ticket}, Events.opening_host}
+use Rattle.hba_driver.specs.{Events.put_by, HostTurns.{DoesAll, Host, HostTurn, Took, Pushed, Submitted, Polled, given_in, polled_in}}
 use Rattle.hba_driver.specs.Submits.{submit_refusal}
-use Rattle.host_thread.specs.declared.plan.Ended.{Ended}
+use Rattle.hba_driver.specs.declared.request.SubmitError.TheVariants as refusal
+use Rattle.host_thread.specs.declared.plan.{Ended.Ended, Planned.Planned, State.State}
 use Rattle.host_thread.specs.declared.plan.Ended.TheVariants as ended
-use Rattle.host_thread.specs.declared.plan.Planned.{Planned}
-use Rattle.host_thread.specs.declared.plan.State.{State}
 use Rattle.host_thread.specs.declared.plan.State.TheVariants as state
 
 -- ---- the worker, as contracts see it

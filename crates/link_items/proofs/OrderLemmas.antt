@@ -1,13 +1,12 @@
 -- The laws of the orders.
-use Rattle.std.proofs.Common.{◌≡◌, ◌≢◌, ◌==◌, ◌≤◌, ◌<◌, ℕ, suc, ◌+◌, ◌⊎◌, Bool, true, false, List, [], ◌∷◌, ◌++◌, length, map, drop, refl, sym, ap, subst, ◌∙◌, inl, inr, length-append, arith}
-use Rattle.std.specs.Prelude.{All, filter, slice_index, if◌then◌else◌, ◌&&◌}
-use Rattle.std.specs.List.{range_with_len}
-use Rattle.std.proofs.lemmas.List.Elements.{filter-append, All-append, All-nil, All-cons}
+use Rattle.std.proofs.Common.{◌≡◌, ◌≢◌, ◌==◌, ◌≤◌, ◌<◌, ℕ, suc, ◌+◌, ◌⊎◌, Bool, true, false, List, [], ◌∷◌, ◌++◌, length, map, drop, refl, sym, ap}
+use Rattle.std.proofs.{Common.{subst, ◌∙◌, inl, inr, length-append, arith}, lemmas.List.Elements.{filter-append, All-append, All-nil, All-cons}}
 use Rattle.std.proofs.lemmas.Bool.{eq-eqb, eqb-true, ne_eqb, and_parts}
+use Rattle.std.specs.{Prelude.{All, filter, slice_index, if◌then◌else◌, ◌&&◌}, List.range_with_len}
 use Rattle.fis_view.specs.Frames.{Stamped}
 use Rattle.multiplier.specs.Orders.{of_connection, of_port, control_port, IsNextOfDevice, IsNextAtHost}
-use Rattle.link_items.specs.Beginnings.{some_element, device_prefixes, stamped_prefixes}
-use Rattle.link_items.specs.OrderLaws.{DeviceGoesOn, DeviceCounts, DeviceNumbers, HostGoesOn, HostBounds, HostNumbers}
+use Rattle.link_items.specs.{Beginnings.{some_element, device_prefixes, stamped_prefixes}, OrderLaws.{DeviceGoesOn, DeviceCounts, DeviceNumbers}}
+use Rattle.link_items.specs.OrderLaws.{HostGoesOn, HostBounds, HostNumbers}
 
 -- where an element of a list that is one longer stands: at the end, or before it
 stands : {A : Type 0} (before rest xs : List A) (x y : A) → before ++ y ∷ rest ≡ xs ++ x ∷ []

@@ -1,9 +1,7 @@
 -- What can come next on a link, and the few numbers that decide it.
-use Rattle.std.specs.Prelude.{◌≡◌, ◌↔◌, ℕ, ◌+◌, ◌<◌, ◌≤◌, List, [], ◌∷◌, ◌++◌, length, map, slice_index, All}
-use Rattle.std.specs.List.{range_with_len}
+use Rattle.std.specs.{Prelude.{◌≡◌, ◌↔◌, ℕ, ◌+◌, ◌<◌, ◌≤◌, List, [], ◌∷◌, ◌++◌, length, map, slice_index, All}, List.range_with_len}
 use Rattle.fis_view.specs.Frames.{Stamped}
-use Rattle.multiplier.specs.Orders.{of_connection, of_port, control_port, IsNextOfDevice, InDeviceOrder}
-use Rattle.multiplier.specs.Orders.{IsNextAtHost, InStampedOrder, IsWithin}
+use Rattle.multiplier.specs.Orders.{of_connection, of_port, control_port, IsNextOfDevice, InDeviceOrder, IsNextAtHost, InStampedOrder, IsWithin}
 
 -- ---- a device
 

@@ -1,38 +1,24 @@
 -- What is done at one port leaves what is at another.
 use Rattle.std.proofs.Common.{◌≡◌, ℕ, Bool, true, false, List, get_or, length, set, None, Result, Ok, Err, refl, ap, ◌∙◌, inl, inr}
-use Rattle.std.specs.Prelude.{if◌then◌else◌, ◌==◌, ◌||◌, MatchOption, MatchResult, IsOk, OnErr, OnOk, nat_lt}
-use Rattle.std.specs.Bool.{MatchBool}
-use Rattle.std.specs.Result.{IsErrOf}
+use Rattle.std.specs.{Prelude.{if◌then◌else◌, ◌==◌, ◌||◌, MatchOption, MatchResult, IsOk, OnErr, OnOk, nat_lt}, Bool.MatchBool, Result.IsErrOf}
 use Rattle.std.specs.declared.alloc.AllocError.{AllocError}
 use Rattle.block_engine.specs.Engine as engine
 use Rattle.block_engine.specs.declared.request.Answer.{Answer}
-use Rattle.ahci_controller.specs.declared.feeding.Fed.{Fed}
+use Rattle.ahci_controller.specs.declared.{feeding.Fed.Fed, next.Next.Next}
 use Rattle.ahci_controller.specs.declared.feeding.Fed.TheVariants as fed
-use Rattle.ahci_controller.specs.declared.next.Next.{Next}
 use Rattle.ahci_controller.specs.declared.next.Next.TheVariants as next
 use Rattle.sata_disk.specs.State.{DiskState}
 use Rattle.ahci_machine.specs.Acts as acts
-use Rattle.ahci_machine.specs.Acts.{DoesBy, GoesBy, ServesNext, feeding, with_bay, with_controller}
-use Rattle.ahci_machine.specs.Answers.{AnswersDisk, AnswersMachine, MissesMachine, IsStale, MissesFor, SuppliesData, SuppliesMachine, disk_at, is_own, is_wanted, taken_bay}
-use Rattle.ahci_machine.specs.Bays.{begun, with_unit}
-use Rattle.ahci_machine.specs.Gathers.{GatheringState}
-use Rattle.ahci_machine.specs.Ports.{PlugsIn, PlugsMachine, PullsMachine, PullsOut, Puts, TakesUnit, filled, has_bay, is_empty, on_bay}
-use Rattle.ahci_machine.specs.Registers.{link_stays, message_of, renewed}
-use Rattle.ahci_machine.specs.States.{MachineState, bay_at, empty_bay, gathering_at}
-use Rattle.ahci_machine.specs.declared.act.Act.{Act}
+use Rattle.ahci_machine.specs.{Acts.{DoesBy, GoesBy, ServesNext, feeding, with_bay, with_controller}, Answers.{AnswersDisk, AnswersMachine}}
+use Rattle.ahci_machine.specs.Answers.{MissesMachine, IsStale, MissesFor, SuppliesData, SuppliesMachine, disk_at, is_own, is_wanted, taken_bay}
+use Rattle.ahci_machine.specs.{Bays.{begun, with_unit}, Gathers.GatheringState, Ports.{PlugsIn, PlugsMachine, PullsMachine, PullsOut, Puts}}
+use Rattle.ahci_machine.specs.{Ports.{TakesUnit, filled, has_bay, is_empty, on_bay}, Registers.{link_stays, message_of, renewed}, States.MachineState}
+use Rattle.ahci_machine.specs.{States.{bay_at, empty_bay, gathering_at}, declared.{act.Act.Act, answers.{MediumError.MediumError, Told.Told}}}
+use Rattle.ahci_machine.specs.declared.{answers.MediumError.TheVariants.OtherDisk, bay.{Bay.Bay, Unit.{Unit as Inside, TheVariants.{Disk, Empty}}}}
+use Rattle.ahci_machine.specs.declared.{ports.PortFault.{PortFault, TheVariants.{NoPort, Taken, NotThere as Absent}}, request.MediumId.MediumId}
+use Rattle.ahci_machine.specs.declared.request.Wanted.{Wanted, TheVariants.{Command, Data}}
 use Rattle.ahci_machine.specs.declared.act.Act.TheVariants as act
-use Rattle.ahci_machine.specs.declared.answers.MediumError.{MediumError}
-use Rattle.ahci_machine.specs.declared.answers.Told.{Told}
-use Rattle.ahci_machine.specs.declared.answers.MediumError.TheVariants.{OtherDisk}
-use Rattle.ahci_machine.specs.declared.bay.Bay.{Bay}
-use Rattle.ahci_machine.specs.declared.bay.Unit.{Unit as Inside}
-use Rattle.ahci_machine.specs.declared.bay.Unit.TheVariants.{Disk, Empty}
-use Rattle.ahci_machine.specs.declared.ports.PortFault.{PortFault}
-use Rattle.ahci_machine.specs.declared.ports.PortFault.TheVariants.{NoPort, Taken, NotThere as Absent}
 use Rattle.fan_out.specs.declared.seat.NotThere.{NotThere}
-use Rattle.ahci_machine.specs.declared.request.MediumId.{MediumId}
-use Rattle.ahci_machine.specs.declared.request.Wanted.{Wanted}
-use Rattle.ahci_machine.specs.declared.request.Wanted.TheVariants.{Command, Data}
 use Rattle.machine_laws.proofs.Cases.{by_bool, by_option, other_bay}
 use Rattle.machine_laws.specs.Deeds.{Moved, Wrote, Supplied, Missed, Answered, Put, Plugged, Pulled, Removed, FrameTaken, FrameOffered}
 use Rattle.machine_laws.specs.Ports.{PortsAreApart, is_move_at}

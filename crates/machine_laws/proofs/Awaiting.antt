@@ -1,22 +1,16 @@
 -- Where no move is left, each command of a disk waits for somebody.
-use Rattle.std.proofs.Common.{◌≡◌, ℕ, ◌<◌, ◌^◌, ◌⊎◌, inl, inr, Bool, true, false, None, length, refl, sym, ap, subst, ◌∙◌}
-use Rattle.std.proofs.lemmas.Bool.{ltb-false, ltb-true}
-use Rattle.std.proofs.lemmas.List.{get_or_past}
+use Rattle.std.proofs.{Common.{◌≡◌, ℕ, ◌<◌, ◌^◌, ◌⊎◌, inl, inr, Bool, true, false, None, length, refl, sym, ap, subst, ◌∙◌}, lemmas.Bool.{ltb-false}}
+use Rattle.std.proofs.lemmas.{Bool.{ltb-true}, List.get_or_past}
 use Rattle.std.specs.Prelude.{nat_lt}
 use Rattle.block_disk.specs.Table.{is_under_way}
 use Rattle.block_engine.specs.Engine.{AsksNothing, IsEngineStart, discards}
 use Rattle.block_queue.specs.Line.{command_at}
 use Rattle.fan_out.specs.FanOuts.{wants_at}
-use Rattle.sata_disk.specs.Sending.{IsOut}
-use Rattle.sata_disk.specs.State.{DiskState, commands}
+use Rattle.sata_disk.specs.{Sending.IsOut, State.{DiskState, commands}}
 use Rattle.sata_disk_laws.specs.Laws.{IsSilent, Owed, SilenceIsOwed}
-use Rattle.ahci_machine.specs.Resting.{IsQuietBay, OfDisk}
-use Rattle.ahci_machine.specs.States.{MachineState, bay_at, empty_bay}
-use Rattle.ahci_machine.specs.declared.bay.Bay.{Bay}
-use Rattle.ahci_machine.specs.declared.bay.Unit.{Unit as Inside}
+use Rattle.ahci_machine.specs.{Resting.{IsQuietBay, OfDisk}, States.{MachineState, bay_at, empty_bay}, declared.bay.{Bay.Bay, Unit.Unit as Inside}}
 use Rattle.ahci_machine.specs.declared.bay.Unit.TheVariants.{Disk}
-use Rattle.machine_laws.specs.Disks.{IsReached}
-use Rattle.machine_laws.specs.Rest.{Discarded, Numbers, Others, RestIsOwed, Room, WaitsFor}
+use Rattle.machine_laws.specs.{Disks.IsReached, Rest.{Discarded, Numbers, Others, RestIsOwed, Room, WaitsFor}}
 
 of_disk : (unit : Inside) (d : DiskState) (holds : DiskState → Type 0) → unit ≡ Disk d → OfDisk unit holds → holds d
 of_disk unit d holds is h = subst (λ (u : Inside). OfDisk u holds) is h

@@ -1,26 +1,15 @@
 -- What is done at the ports leaves the controller, what is gathered for it, and the frame that it is given.
 use Rattle.std.proofs.Common.{◌≡◌, ℕ, Bool, true, false, List, set, Option, Result, Ok, Err, refl, ap, ◌∙◌}
-use Rattle.std.specs.Prelude.{if◌then◌else◌, MatchResult, IsOk, OnErr, OnOk}
-use Rattle.std.specs.Bool.{MatchBool}
-use Rattle.std.specs.Result.{IsErrOf}
+use Rattle.std.specs.{Prelude.{if◌then◌else◌, MatchResult, IsOk, OnErr, OnOk}, Bool.MatchBool, Result.IsErrOf}
 use Rattle.fis_view.specs.Frames.{Stamped}
 use Rattle.fan_out.specs.declared.seat.NotThere.{NotThere}
 use Rattle.block_engine.specs.declared.request.Answer.{Answer}
 use Rattle.sata_disk.specs.State.{DiskState}
-use Rattle.ahci_controller.specs.States.{ControllerState}
-use Rattle.ahci_controller.specs.declared.next.Next.{Next}
-use Rattle.ahci_machine.specs.Answers.{AnswersDisk, AnswersMachine, disk_at}
-use Rattle.ahci_machine.specs.Bays.{begun, with_unit}
-use Rattle.ahci_machine.specs.Gathers.{GatheringState}
-use Rattle.ahci_machine.specs.Ports.{PlugsIn, PlugsMachine, PullsMachine, PullsOut, Puts, TakesUnit, filled, has_bay, is_empty, on_bay}
-use Rattle.ahci_machine.specs.States.{MachineState, bay_at}
-use Rattle.ahci_machine.specs.declared.answers.MediumError.{MediumError}
-use Rattle.ahci_machine.specs.declared.answers.MediumError.TheVariants.{OtherDisk}
-use Rattle.ahci_machine.specs.declared.bay.Bay.{Bay}
-use Rattle.ahci_machine.specs.declared.bay.Unit.{Unit as Inside}
-use Rattle.ahci_machine.specs.declared.bay.Unit.TheVariants.{Empty}
-use Rattle.ahci_machine.specs.declared.ports.PortFault.{PortFault}
-use Rattle.ahci_machine.specs.declared.ports.PortFault.TheVariants.{NoPort, Taken, NotThere as Absent}
+use Rattle.ahci_controller.specs.{States.ControllerState, declared.next.Next.Next}
+use Rattle.ahci_machine.specs.{Answers.{AnswersDisk, AnswersMachine, disk_at}, Bays.{begun, with_unit}, Gathers.GatheringState, Ports.PlugsIn}
+use Rattle.ahci_machine.specs.{Ports.{PlugsMachine, PullsMachine, PullsOut, Puts, TakesUnit, filled, has_bay, is_empty, on_bay}, States.MachineState}
+use Rattle.ahci_machine.specs.{States.bay_at, declared.{answers.MediumError.{MediumError, TheVariants.OtherDisk}, bay.{Bay.Bay, Unit.Unit as Inside}}}
+use Rattle.ahci_machine.specs.declared.{bay.Unit.TheVariants.Empty, ports.PortFault.{PortFault, TheVariants.{NoPort, Taken, NotThere as Absent}}}
 use Rattle.ahci_machine.specs.declared.request.MediumId.{MediumId}
 use Rattle.machine_laws.proofs.Cases.{by_bool, by_option}
 

@@ -1,39 +1,26 @@
 -- What each deed is to the controller of a machine is a run of it.
-use Rattle.std.proofs.Common.{◌≡◌, ℕ, ◌+◌, Bool, true, false, List, [], ◌∷◌, length, Option, None, Some, Result, Ok, Err, refl, sym, ap, subst, ◌∙◌, inl, inr}
-use Rattle.std.specs.Prelude.{MatchOption, nat_lt}
-use Rattle.std.specs.Bool.{MatchBool}
-use Rattle.std.specs.declared.alloc.AllocError.{AllocError}
+use Rattle.std.proofs.Common.{◌≡◌, ℕ, ◌+◌, Bool, true, false, List, [], ◌∷◌, length, Option, None, Some, Result, Ok, Err, refl, sym, ap, subst, ◌∙◌}
+use Rattle.std.proofs.Common.{inl, inr}
+use Rattle.std.specs.{Prelude.{MatchOption, nat_lt}, Bool.MatchBool, declared.alloc.AllocError.AllocError}
 use Rattle.fis_view.specs.Frames.{Stamped}
-use Rattle.hba_fbs.specs.declared.turn.Turn.{Turn}
-use Rattle.hba_fbs.specs.declared.turn.Turn.TheVariants.{Feeds, Rests}
+use Rattle.hba_fbs.specs.declared.turn.Turn.{Turn, TheVariants.{Feeds, Rests}}
 use Rattle.hba_laws.specs.Cores.{HasBytes}
-use Rattle.ahci_controller.specs.Feeding.{GathersIf}
-use Rattle.ahci_controller.specs.Next.{is_fed, turn_to}
-use Rattle.ahci_controller.specs.States.{ControllerState}
-use Rattle.ahci_controller.specs.Taking.{hindrance}
-use Rattle.ahci_controller.specs.declared.feeding.Fed.{Fed}
+use Rattle.ahci_controller.specs.{Feeding.GathersIf, Next.{is_fed, turn_to}, States.ControllerState, Taking.hindrance, declared.feeding.Fed.Fed}
+use Rattle.ahci_controller.specs.declared.{next.Next.Next, taking.Hindrance.Hindrance}
 use Rattle.ahci_controller.specs.declared.feeding.Fed.TheVariants as fed
-use Rattle.ahci_controller.specs.declared.next.Next.{Next}
 use Rattle.ahci_controller.specs.declared.next.Next.TheVariants as next
-use Rattle.ahci_controller.specs.declared.taking.Hindrance.{Hindrance}
 use Rattle.controller_laws.specs.Events as call
 use Rattle.controller_laws.specs.Events.{Event, IsController, IsWhole}
 use Rattle.ahci_machine.specs.Acts as acts
-use Rattle.ahci_machine.specs.Acts.{with_controller, with_gathering}
-use Rattle.ahci_machine.specs.Answers.{IsStale, MissesFor, MissesMachine, SuppliesData, SuppliesMachine, is_own, is_wanted, taken_bay}
-use Rattle.ahci_machine.specs.Gathers.{GatheringState}
-use Rattle.ahci_machine.specs.States.{HasRules, MachineState, bay_at, gathering_at}
-use Rattle.ahci_machine.specs.declared.act.Act.{Act}
+use Rattle.ahci_machine.specs.{Acts.{with_controller, with_gathering}, Answers.{IsStale, MissesFor, MissesMachine, SuppliesData, SuppliesMachine}}
+use Rattle.ahci_machine.specs.{Answers.{is_own, is_wanted, taken_bay}, Gathers.GatheringState, States.{HasRules, MachineState, bay_at, gathering_at}}
+use Rattle.ahci_machine.specs.declared.{act.Act.Act, answers.Told.Told, request.Wanted.{Wanted, TheVariants.{Command, Data}}}
 use Rattle.ahci_machine.specs.declared.act.Act.TheVariants as act
-use Rattle.ahci_machine.specs.declared.answers.Told.{Told}
-use Rattle.ahci_machine.specs.declared.request.Wanted.{Wanted}
-use Rattle.ahci_machine.specs.declared.request.Wanted.TheVariants.{Command, Data}
-use Rattle.machine_laws.proofs.Beside.{Beside, inner}
+use Rattle.machine_laws.proofs.{Beside.{Beside, inner}, Cases.{by_bool, by_option}, Due.there_is}
 use Rattle.machine_laws.proofs.Beside as beside
-use Rattle.machine_laws.proofs.Cases.{by_bool, by_option}
-use Rattle.machine_laws.proofs.Due.{there_is}
-use Rattle.machine_laws.specs.Controllers.{ControllerGoesOn, GathersDue, IsGathered, IsLength, data_calls, is_kept_for, lost_calls, miss_calls, move_calls, rest_calls, supply_calls}
-use Rattle.machine_laws.specs.Deeds.{Moved, Unlent, Wrote, Powered, Supplied, Missed, Answered, Put, Plugged, Pulled, Removed, FrameTaken, FrameOffered}
+use Rattle.machine_laws.specs.Controllers.{ControllerGoesOn, GathersDue, IsGathered, IsLength, data_calls, is_kept_for, lost_calls, miss_calls}
+use Rattle.machine_laws.specs.{Controllers.{move_calls, rest_calls, supply_calls}, Deeds.{Moved, Unlent, Wrote, Powered, Supplied, Missed, Answered}}
+use Rattle.machine_laws.specs.Deeds.{Put, Plugged, Pulled, Removed, FrameTaken, FrameOffered}
 
 pub ruled : (m : MachineState) → HasRules m → IsController m.controller
 ruled m h = record { port = h.port; slots = h.slots; rules = h.rules }

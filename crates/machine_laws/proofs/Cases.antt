@@ -1,11 +1,8 @@
 -- Answers by cases, each with what it stands for.
-use Rattle.std.proofs.Common.{◌≡◌, ℕ, Bool, true, false, List, length, get_or, set, Option, Some, None, refl, sym}
-use Rattle.std.specs.Prelude.{◌==◌, MatchOption, nat_lt}
-use Rattle.std.specs.Bool.{MatchBool}
-use Rattle.std.proofs.lemmas.Bool.{eqb-false, ltb-true}
-use Rattle.std.proofs.lemmas.List.{get_or-set_same, get_or-set_other}
-use Rattle.ahci_machine.specs.States.{empty_bay}
-use Rattle.ahci_machine.specs.declared.bay.Bay.{Bay}
+use Rattle.std.proofs.{Common.{◌≡◌, ℕ, Bool, true, false, List, length, get_or, set, Option, Some, None, refl, sym}, lemmas.Bool.{eqb-false}}
+use Rattle.std.proofs.lemmas.{Bool.{ltb-true}, List.{get_or-set_same, get_or-set_other}}
+use Rattle.std.specs.{Prelude.{◌==◌, MatchOption, nat_lt}, Bool.MatchBool}
+use Rattle.ahci_machine.specs.{States.empty_bay, declared.bay.Bay.Bay}
 
 pub by_bool : (C X Y : Type 0) (b : Bool) → MatchBool b X Y → (b ≡ true → X → C) → (b ≡ false → Y → C) → C
 by_bool C X Y true h f g = f refl h

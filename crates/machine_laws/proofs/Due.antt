@@ -1,31 +1,24 @@
 -- What a machine gathers for a device is as long as its controller waits for, over every deed.
-use Rattle.std.proofs.Common.{◌≡◌, ◌≢◌, ℕ, ◌+◌, ◌≤◌, Bool, true, false, List, ◌++◌, get_or, set, length, take, drop, replicate, Option, None, Some, Result, Ok, Err, refl, sym, ap, subst, ◌∙◌, inl, inr, arith, get_or-set_same, get_or-set_other, length-set, length-take, length-drop, length-append}
-use Rattle.std.specs.Prelude.{◌⊎◌, ◌||◌, if◌then◌else◌, IfSome, MatchOption, nat_lt}
-use Rattle.std.specs.declared.alloc.AllocError.{AllocError}
-use Rattle.std.proofs.lemmas.Bool.{cases_Bool, cases_eq, false≢true, ltb-false, ltb-true, ne_eqb}
+use Rattle.std.proofs.Common.{◌≡◌, ◌≢◌, ℕ, ◌+◌, ◌≤◌, Bool, true, false, List, ◌++◌, get_or, set, length, take, drop, replicate, Option, None, Some}
+use Rattle.std.proofs.Common.{Result, Ok, Err, refl, sym, ap, subst, ◌∙◌, inl, inr, arith, get_or-set_same, get_or-set_other, length-set, length-take}
+use Rattle.std.proofs.{Common.{length-drop, length-append}, lemmas.Bool.{cases_Bool, cases_eq, false≢true, ltb-false, ltb-true, ne_eqb}}
 use Rattle.std.proofs.lemmas.List.{get_or_past, get_or-replicate, length-replicate}
-use Rattle.ahci_controller.specs.States.{ControllerState}
-use Rattle.ahci_controller.specs.declared.feeding.Fed.{Fed}
+use Rattle.std.specs.{Prelude.{◌⊎◌, ◌||◌, if◌then◌else◌, IfSome, MatchOption, nat_lt}, declared.alloc.AllocError.AllocError}
+use Rattle.ahci_controller.specs.{States.ControllerState, declared.{feeding.Fed.Fed, next.Next.Next}}
 use Rattle.ahci_controller.specs.declared.feeding.Fed.TheVariants as fed
-use Rattle.ahci_controller.specs.declared.next.Next.{Next}
 use Rattle.ahci_controller.specs.declared.next.Next.TheVariants as next
 use Rattle.ahci_machine.specs.Acts as acts
-use Rattle.ahci_machine.specs.Acts.{DoesBy, GoesBy, MissesOf, TurnsNext, kept_of, with_controller, with_gathering}
-use Rattle.ahci_machine.specs.Answers.{IsStale, MissesFor, MissesMachine, SuppliesData, SuppliesMachine, is_own, is_wanted, taken_bay}
-use Rattle.ahci_machine.specs.Gathers.{GatheringState, Supplies, asked_for, opening_gathering, overwritten, with_part}
-use Rattle.ahci_machine.specs.Registers.{for_host, kept_if, kept_powered, link_stays, message_of, powered, renewed}
-use Rattle.ahci_machine.specs.States.{MachineState, bay_at, gathering_at}
-use Rattle.ahci_machine.specs.declared.act.Act.{Act}
+use Rattle.ahci_machine.specs.{Acts.{DoesBy, GoesBy, MissesOf, TurnsNext, kept_of, with_controller, with_gathering}, Answers.{IsStale, MissesFor}}
+use Rattle.ahci_machine.specs.{Answers.{MissesMachine, SuppliesData, SuppliesMachine, is_own, is_wanted, taken_bay}, Gathers.GatheringState}
+use Rattle.ahci_machine.specs.{Gathers.{Supplies, asked_for, opening_gathering, overwritten, with_part}, Registers.{for_host, kept_if, kept_powered}}
+use Rattle.ahci_machine.specs.{Registers.{link_stays, message_of, powered, renewed}, States.{MachineState, bay_at, gathering_at}}
+use Rattle.ahci_machine.specs.declared.{act.Act.Act, answers.Told.Told, request.Wanted.{Wanted, TheVariants.{Command, Data}}}
 use Rattle.ahci_machine.specs.declared.act.Act.TheVariants as act
-use Rattle.ahci_machine.specs.declared.answers.Told.{Told}
-use Rattle.ahci_machine.specs.declared.request.Wanted.{Wanted}
-use Rattle.ahci_machine.specs.declared.request.Wanted.TheVariants.{Command, Data}
-use Rattle.machine_laws.proofs.Beside.{Beside, inner}
+use Rattle.machine_laws.proofs.{Beside.{Beside, inner}, Cases.{by_bool, by_option}, Wants.{Stays, IsTurned, due_stays, fed_low, gather_stays}}
+use Rattle.machine_laws.proofs.Wants.{miss_stays, not_there_stays, supply_stays, take_stays, turned, unmoved, write_stays, written_stays}
 use Rattle.machine_laws.proofs.Beside as beside
-use Rattle.machine_laws.proofs.Cases.{by_bool, by_option}
-use Rattle.machine_laws.proofs.Wants.{Stays, IsTurned, due_stays, fed_low, gather_stays, miss_stays, not_there_stays, supply_stays, take_stays, turned, unmoved, write_stays, written_stays}
-use Rattle.machine_laws.specs.Controllers.{AreDue, GathersDue, IsGathered, OpensDue, SaysDue, StaysDue, is_feed_to, is_kept_for}
-use Rattle.machine_laws.specs.Deeds.{Moved, Unlent, Wrote, Powered, Supplied, Missed, Answered, Put, Plugged, Pulled, Removed, FrameTaken, FrameOffered}
+use Rattle.machine_laws.specs.{Controllers.{AreDue, GathersDue, IsGathered, OpensDue, SaysDue, StaysDue, is_feed_to, is_kept_for}, Deeds.Moved}
+use Rattle.machine_laws.specs.Deeds.{Unlent, Wrote, Powered, Supplied, Missed, Answered, Put, Plugged, Pulled, Removed, FrameTaken, FrameOffered}
 
 abbrev AllStay : ControllerState → ControllerState → Type 0
 AllStay c d = (p n : ℕ) → Stays p n c d

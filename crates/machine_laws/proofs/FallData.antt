@@ -1,34 +1,23 @@
 -- The Data FIS that is read for a device has the bytes that came for it.
-use Rattle.std.proofs.Common.{◌≡◌, ℕ, zero, suc, ◌+◌, ◌-◌, ◌≤◌, ◌<◌, Bool, true, false, List, [], ◌∷◌, ◌++◌, length, take, drop, replicate, get_or, set, Option, Some, None, Result, Ok, Err, refl, sym, ap, subst, ◌∙◌, inl, inr, arith}
-use Rattle.std.specs.Prelude.{◌==◌, if◌then◌else◌, nat_lt, MatchOption}
-use Rattle.std.specs.declared.alloc.AllocError.{AllocError}
-use Rattle.std.proofs.lemmas.Bool.{eqb-true, eqb-false, false≢true, lt-ltb}
-use Rattle.std.proofs.lemmas.List.{length-append, length-take-le, take_all}
-use Rattle.ahci_controller.specs.Feeding.{Places}
-use Rattle.ahci_controller.specs.declared.feeding.Fed.{Fed}
+use Rattle.std.proofs.Common.{◌≡◌, ℕ, zero, suc, ◌+◌, ◌-◌, ◌≤◌, ◌<◌, Bool, true, false, List, [], ◌∷◌, ◌++◌, length, take, drop, replicate, get_or}
+use Rattle.std.proofs.{Common.{set, Option, Some, None, Result, Ok, Err, refl, sym, ap, subst, ◌∙◌, inl, inr, arith}, lemmas.Bool.{eqb-true}}
+use Rattle.std.proofs.lemmas.{Bool.{eqb-false, false≢true, lt-ltb}, List.{length-append, length-take-le, take_all}}
+use Rattle.std.specs.{Prelude.{◌==◌, if◌then◌else◌, nat_lt, MatchOption}, declared.alloc.AllocError.AllocError}
+use Rattle.ahci_controller.specs.{Feeding.Places, declared.{feeding.Fed.Fed, next.Next.Next}}
 use Rattle.ahci_controller.specs.declared.feeding.Fed.TheVariants as fed
-use Rattle.ahci_controller.specs.declared.next.Next.{Next}
 use Rattle.ahci_controller.specs.declared.next.Next.TheVariants as next
 use Rattle.ahci_machine.specs.Acts as acts
-use Rattle.ahci_machine.specs.Acts.{with_controller, with_gathering}
-use Rattle.ahci_machine.specs.Answers.{IsStale, MissesFor, MissesMachine, SuppliesData, SuppliesMachine, is_own, is_wanted, taken_bay, told_of}
-use Rattle.ahci_machine.specs.Gathers.{GatheringState, Supplies, asked_for, opening_gathering, overwritten, with_part}
-use Rattle.ahci_machine.specs.Registers.{link_stays, renewed}
-use Rattle.ahci_machine.specs.States.{MachineState, bay_at, gathering_at}
-use Rattle.ahci_machine.specs.declared.act.Act.{Act}
-use Rattle.ahci_machine.specs.declared.act.Act.TheVariants as act
-use Rattle.ahci_machine.specs.declared.answers.Told.{Told}
-use Rattle.ahci_machine.specs.declared.gathering.Feed.{Feed}
-use Rattle.ahci_machine.specs.declared.request.GuestRead.{GuestRead}
-use Rattle.ahci_machine.specs.declared.request.Wanted.{Wanted}
+use Rattle.ahci_machine.specs.{Acts.{with_controller, with_gathering}, Answers.{IsStale, MissesFor, MissesMachine, SuppliesData, SuppliesMachine}}
+use Rattle.ahci_machine.specs.{Answers.{is_own, is_wanted, taken_bay, told_of}, Gathers.{GatheringState, Supplies, asked_for, opening_gathering}}
+use Rattle.ahci_machine.specs.{Gathers.{overwritten, with_part}, Registers.{link_stays, renewed}, States.{MachineState, bay_at, gathering_at}}
+use Rattle.ahci_machine.specs.declared.{act.Act.Act, answers.Told.Told, gathering.Feed.Feed, request.{GuestRead.GuestRead, Wanted.Wanted}}
 use Rattle.ahci_machine.specs.declared.request.Wanted.TheVariants.{Command, Data}
-use Rattle.machine_laws.proofs.Beside.{Beside, inner}
+use Rattle.ahci_machine.specs.declared.act.Act.TheVariants as act
+use Rattle.machine_laws.proofs.{Beside.{Beside, inner}, Cases.{by_bool, by_option}, Due.{stays_due, there_is}}
 use Rattle.machine_laws.proofs.Beside as beside
-use Rattle.machine_laws.proofs.Cases.{by_bool, by_option}
-use Rattle.machine_laws.proofs.Due.{stays_due, there_is}
-use Rattle.machine_laws.specs.Controllers.{IsGathered}
-use Rattle.machine_laws.specs.Deeds.{Deed, Does, Moved, Unlent, Wrote, Powered, Missed, Answered, Put, Plugged, Pulled, Removed, FrameTaken, FrameOffered, Supplied as Came}
-use Rattle.machine_laws.specs.Feeding.{DataIsAskedInOrder, DataIsRead, DataIsWhatCame, IsReadSoFar, IsReading, OpensUnread, came_by, data_with, with_more}
+use Rattle.machine_laws.specs.{Controllers.IsGathered, Deeds.{Deed, Does, Moved, Unlent, Wrote, Powered, Missed, Answered, Put, Plugged, Pulled}}
+use Rattle.machine_laws.specs.{Deeds.{Removed, FrameTaken, FrameOffered, Supplied as Came}, Feeding.{DataIsAskedInOrder, DataIsRead, DataIsWhatCame}}
+use Rattle.machine_laws.specs.Feeding.{IsReadSoFar, IsReading, OpensUnread, came_by, data_with, with_more}
 
 -- ---- bytes
 

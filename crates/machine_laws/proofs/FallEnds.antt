@@ -1,29 +1,18 @@
 -- What is left on its way to a device that begins anew, and where the link is reset.
-use Rattle.std.proofs.Common.{◌≡◌, ℕ, zero, suc, Bool, true, false, List, length, get_or, set, replicate, Option, Some, None, refl, sym, ap, ◌∙◌, option_to_list, not, ◌++◌, ◌==◌, append-nil}
-use Rattle.std.specs.Prelude.{if◌then◌else◌, is_some, nat_lt}
-use Rattle.std.specs.Option.{option_map}
-use Rattle.std.proofs.lemmas.Bool.{false≢true, ltb-false}
-use Rattle.std.proofs.lemmas.List.{get_or_past}
+use Rattle.std.proofs.Common.{◌≡◌, ℕ, zero, suc, Bool, true, false, List, length, get_or, set, replicate, Option, Some, None, refl, sym, ap, ◌∙◌}
+use Rattle.std.proofs.{Common.{option_to_list, not, ◌++◌, ◌==◌, append-nil}, lemmas.{Bool.{false≢true, ltb-false}, List.get_or_past}}
+use Rattle.std.specs.{Prelude.{if◌then◌else◌, is_some, nat_lt}, Option.option_map}
 use Rattle.fis_view.specs.Frames.{Stamped}
 use Rattle.pm_ports.specs.Port as port
-use Rattle.multiplier.specs.Rules.{with_device}
-use Rattle.multiplier.specs.State.{first_port, port_at}
+use Rattle.multiplier.specs.{Rules.with_device, State.{first_port, port_at}}
 use Rattle.multiplier.proofs.Door.{kept_part}
-use Rattle.fan_out.specs.FanOuts.{renewed_end}
-use Rattle.fan_out.specs.Fans.{FanState, all_joined, joined, opening_fan, opening_multiplier, seat_at}
-use Rattle.fan_out.specs.Seats.{empty_seat, seated}
-use Rattle.fan_out.specs.Straights.{StraightState, joined as joined_at, opening_straight, pointed}
-use Rattle.fan_out.specs.declared.fan_out.FanOut.{FanOut}
-use Rattle.fan_out.specs.declared.fan_out.FanOut.TheVariants.{Device, Multiplier}
-use Rattle.fan_out.specs.declared.seat.Seat.{Seat}
-use Rattle.ahci_machine.specs.Bays.{begun}
-use Rattle.ahci_machine.specs.Registers.{link_stays, powered, renewed}
-use Rattle.ahci_machine.specs.States.{MachineState, bay_at, empty_bay}
-use Rattle.ahci_machine.specs.declared.bay.Bay.{Bay}
+use Rattle.fan_out.specs.{FanOuts.renewed_end, Fans.{FanState, all_joined, joined, opening_fan, opening_multiplier, seat_at}, Seats.empty_seat}
+use Rattle.fan_out.specs.{Seats.seated, Straights.{StraightState, joined as joined_at, opening_straight, pointed}, declared.fan_out.FanOut.FanOut}
+use Rattle.fan_out.specs.declared.{fan_out.FanOut.TheVariants.{Device, Multiplier}, seat.Seat.Seat}
+use Rattle.ahci_machine.specs.{Bays.begun, Registers.{link_stays, powered, renewed}, States.{MachineState, bay_at, empty_bay}, declared.bay.Bay.Bay}
 use Rattle.machine_laws.proofs.Cases.{this_bay}
 use Rattle.machine_laws.proofs.FallFans as fans
-use Rattle.machine_laws.specs.Deeds.{Wrote, Powered}
-use Rattle.machine_laws.specs.Falling.{BegunForgets, ResetsEmptyPorts, waits_down, way_to}
+use Rattle.machine_laws.specs.{Deeds.{Wrote, Powered}, Falling.{BegunForgets, ResetsEmptyPorts, waits_down, way_to}}
 
 -- ---- a device begins anew
 

@@ -1,37 +1,26 @@
 -- What each call of what is behind the link does with the frame that waits for a device.
-use Rattle.std.proofs.Common.{◌≡◌, ◌≢◌, ℕ, ◌<◌, Bool, true, false, List, [], ◌∷◌, ◌++◌, length, get_or, set, Option, Some, None, Result, Ok, Err, refl, sym, ap, subst, ◌∙◌, option_to_list, append-nil, arith, ◌+◌, length-set}
-use Rattle.std.specs.Prelude.{◌==◌, ◌&&◌, if◌then◌else◌, is_none, is_some, nat_lt, MatchOption, MatchResult}
-use Rattle.std.specs.Bool.{MatchBool}
-use Rattle.std.specs.Option.{option_map}
-use Rattle.std.proofs.lemmas.Bool.{eqb-true, eqb-false, eq-eqb, false≢true, ltb-true, ltb-false}
-use Rattle.std.proofs.lemmas.List.{get_or_past, get_or-set_same}
-use Rattle.std.proofs.lemmas.Option.{none-some, same_Some}
+use Rattle.std.proofs.Common.{◌≡◌, ◌≢◌, ℕ, ◌<◌, Bool, true, false, List, [], ◌∷◌, ◌++◌, length, get_or, set, Option, Some, None, Result, Ok, Err}
+use Rattle.std.proofs.{Common.{refl, sym, ap, subst, ◌∙◌, option_to_list, append-nil, arith, ◌+◌, length-set}, lemmas.Bool.{eqb-true, eqb-false}}
+use Rattle.std.proofs.lemmas.{Bool.{eq-eqb, false≢true, ltb-true, ltb-false}, List.{get_or_past, get_or-set_same}, Option.{none-some, same_Some}}
+use Rattle.std.specs.{Prelude.{◌==◌, ◌&&◌, if◌then◌else◌, is_none, is_some, nat_lt, MatchOption, MatchResult}, Bool.MatchBool, Option.option_map}
 use Rattle.fis_view.specs.Frames.{Stamped}
 use Rattle.slots.specs.Slots.{match_some}
 use Rattle.pm_ports.specs.Port as port
-use Rattle.pm_ports.specs.declared.port.Offered.{Offered}
-use Rattle.pm_ports.specs.declared.port.Offered.TheVariants.{Dropped}
-use Rattle.multiplier.specs.Arbiter.{control_port}
-use Rattle.multiplier.specs.Rules.{ControlGives, FromHostRule, NextDownRule, NextUpRule, PlaceGives, PortGives, ToControl, ToDevice, ToNobody, with_device}
+use Rattle.pm_ports.specs.declared.port.Offered.{Offered, TheVariants.Dropped}
+use Rattle.multiplier.specs.{Arbiter.control_port, Rules.{ControlGives, FromHostRule, NextDownRule, NextUpRule, PlaceGives, PortGives, ToControl}}
+use Rattle.multiplier.specs.{Rules.{ToDevice, ToNobody, with_device}, State.{PmState, falling, passes_to, pm_port, port_at}}
+use Rattle.multiplier.specs.declared.multiplier.{Passed.Passed, PmRefusal.PmRefusal}
 use Rattle.multiplier.specs.State as pm
-use Rattle.multiplier.specs.State.{PmState, falling, passes_to, pm_port, port_at}
-use Rattle.multiplier.specs.declared.multiplier.Passed.{Passed}
 use Rattle.multiplier.specs.declared.multiplier.Passed.TheVariants as passed
-use Rattle.multiplier.specs.declared.multiplier.PmRefusal.{PmRefusal}
 use Rattle.multiplier.specs.declared.multiplier.PmRefusal.TheVariants as refusal
 use Rattle.multiplier.proofs.Door.{kept_part, other_port, this_port, has_down}
 use Rattle.fan_out.specs.FanOuts.{GivesDownAt, GivesDownThere, GivesUpThere, Offers, OffersAt, Plugs, PlugsAt, Pulls, PullsAt, Sends, Tells, has_port}
-use Rattle.fan_out.specs.Fans as fan
 use Rattle.fan_out.specs.Fans.{FanState, SendsFan, heeded, held_fan, is_in_reset, joined, on, parted, rejoined, seat_at, with_seat}
-use Rattle.fan_out.specs.Seats.{connection, empty_seat, left, next_connection, seated, told}
+use Rattle.fan_out.specs.{Seats.{connection, empty_seat, left, next_connection, seated, told}, Straights.{StraightState, addressed, pointed}}
+use Rattle.fan_out.specs.declared.{fan_out.FanOut.{FanOut, TheVariants.{Device, Multiplier}}, seat.{NotThere.NotThere, PlugError.PlugError}}
+use Rattle.fan_out.specs.declared.seat.{PlugError.TheVariants.NoPort, Seat.Seat}
+use Rattle.fan_out.specs.Fans as fan
 use Rattle.fan_out.specs.Straights as straight
-use Rattle.fan_out.specs.Straights.{StraightState, addressed, pointed}
-use Rattle.fan_out.specs.declared.fan_out.FanOut.{FanOut}
-use Rattle.fan_out.specs.declared.fan_out.FanOut.TheVariants.{Device, Multiplier}
-use Rattle.fan_out.specs.declared.seat.NotThere.{NotThere}
-use Rattle.fan_out.specs.declared.seat.PlugError.{PlugError}
-use Rattle.fan_out.specs.declared.seat.PlugError.TheVariants.{NoPort}
-use Rattle.fan_out.specs.declared.seat.Seat.{Seat}
 use Rattle.machine_laws.proofs.Cases.{by_bool, by_option}
 use Rattle.machine_laws.specs.Falling.{connection_at, goes_to, is_down_to, reached_at, waits_down}
 

@@ -1,21 +1,16 @@
 -- What ends its way to a disk is what the disk hears; where a FIS of the host goes.
-use Rattle.std.proofs.Common.{◌≡◌, ℕ, Bool, true, false, List, [], ◌∷◌, Option, Some, None, Result, Ok, Err, refl, sym, ap, subst, ◌∙◌, option_to_list, map, ◌++◌}
-use Rattle.std.specs.Prelude.{◌==◌, if◌then◌else◌}
-use Rattle.std.specs.List.{flat_map}
-use Rattle.std.proofs.lemmas.Bool.{eqb-true}
+use Rattle.std.proofs.Common.{◌≡◌, ℕ, Bool, true, false, List, [], ◌∷◌, Option, Some, None, Result, Ok, Err, refl, sym, ap, subst, ◌∙◌}
+use Rattle.std.proofs.{Common.{option_to_list, map, ◌++◌}, lemmas.Bool.{eqb-true}}
+use Rattle.std.specs.{Prelude.{◌==◌, if◌then◌else◌}, List.flat_map}
 use Rattle.fis_view.specs.Frames.{Stamped}
 use Rattle.sata_disk.specs.State.{DiskState}
 use Rattle.sata_disk_laws.specs.Calls.{Call}
 use Rattle.sata_disk_laws.specs.Calls as disk_call
-use Rattle.ahci_machine.specs.Answers.{given_in}
-use Rattle.ahci_machine.specs.States.{MachineState, bay_at}
+use Rattle.ahci_machine.specs.{Answers.given_in, States.{MachineState, bay_at}, declared.bay.Unit.{Unit as Inside, TheVariants.{Empty, Disk}}}
 use Rattle.ahci_machine.specs.declared.act.Act.TheVariants as act
-use Rattle.ahci_machine.specs.declared.bay.Unit.{Unit as Inside}
-use Rattle.ahci_machine.specs.declared.bay.Unit.TheVariants.{Empty, Disk}
 use Rattle.machine_laws.proofs.FallFans.{goes_right}
-use Rattle.machine_laws.specs.Deeds.{Moved, Answered, Pulled, FrameTaken}
-use Rattle.machine_laws.specs.Disks.{heard, unless_refused}
-use Rattle.machine_laws.specs.Falling.{DisksHearThem, FramesGoWhereTheyShould, ArrivesAt, heard_by}
+use Rattle.machine_laws.specs.{Deeds.{Moved, Answered, Pulled, FrameTaken}, Disks.{heard, unless_refused}, Falling.DisksHearThem}
+use Rattle.machine_laws.specs.Falling.{FramesGoWhereTheyShould, ArrivesAt, heard_by}
 
 abbrev Bytes : List Stamped → List (List ℕ)
 Bytes frames = map (λ (frame : Stamped). frame.bytes) frames

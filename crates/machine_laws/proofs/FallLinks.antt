@@ -1,60 +1,37 @@
 -- What each deed does with what is on its way from the controller to the other end of its link.
-use Rattle.std.proofs.Common.{◌≡◌, ℕ, ◌+◌, ◌%◌, ◌≤◌, Bool, true, false, List, [], ◌∷◌, ◌++◌, length, set, Option, Some, None, Result, Ok, Err, refl, sym, ap, subst, ◌∙◌, inl, inr, option_to_list, append_assoc, append-nil, not, arith}
+use Rattle.std.proofs.Common.{◌≡◌, ℕ, ◌+◌, ◌%◌, ◌≤◌, Bool, true, false, List, [], ◌∷◌, ◌++◌, length, set, Option, Some, None, Result, Ok, Err, refl}
+use Rattle.std.proofs.{Common.{sym, ap, subst, ◌∙◌, inl, inr, option_to_list, append_assoc, append-nil, not, arith}, lemmas.Bool.{eq-eqb, false≢true}}
+use Rattle.std.proofs.lemmas.{Bool.{le-leb}, Grind.{flat_map-append}}
 use Rattle.std.specs.Prelude.{◌==◌, ◌&&◌, if◌then◌else◌, is_some, is_none, nat_le, nat_lt, MatchOption, MatchResult, IsOk, OnErr, OnOk}
-use Rattle.std.specs.Bool.{MatchBool}
-use Rattle.std.specs.Result.{IsErrOf}
-use Rattle.std.specs.declared.alloc.AllocError.{AllocError}
-use Rattle.std.proofs.lemmas.Bool.{eq-eqb, false≢true, le-leb}
-use Rattle.std.proofs.lemmas.Grind.{flat_map-append}
+use Rattle.std.specs.{Bool.MatchBool, Result.IsErrOf, declared.alloc.AllocError.AllocError}
 use Rattle.fis_view.specs.Frames.{Stamped, is_frame}
-use Rattle.slots.specs.Data.{payload}
-use Rattle.slots.specs.Slots.{context_of, match_some}
+use Rattle.slots.specs.{Data.payload, Slots.{context_of, match_some}}
 use Rattle.fan_out.specs.declared.seat.NotThere.{NotThere}
 use Rattle.block_engine.specs.declared.request.Answer.{Answer}
 use Rattle.sata_disk.specs.State.{DiskState}
 use Rattle.port_errors.specs.Errors.{cause_of}
-use Rattle.hba_fbs.specs.Choosing.{MayChoose, may_feed}
-use Rattle.hba_fbs.specs.Sending.{is_due}
-use Rattle.hba_fbs.specs.Taking.{is_running}
-use Rattle.hba_fbs.specs.Turning.{feeds}
-use Rattle.hba_fbs.specs.Views.{Port}
+use Rattle.hba_fbs.specs.{Choosing.{MayChoose, may_feed}, Sending.is_due, Taking.is_running, Turning.feeds, Views.Port}
 use Rattle.hba_fbs.specs.declared.turn.Turn.TheVariants.{Rests}
-use Rattle.ahci_controller.specs.Feeding.{GathersIf, SendsIf, without_feeding}
-use Rattle.ahci_controller.specs.Next.{is_fed, turn_to}
-use Rattle.ahci_controller.specs.States.{ControllerState}
-use Rattle.ahci_controller.specs.declared.feeding.Fed.{Fed}
+use Rattle.ahci_controller.specs.{Feeding.{GathersIf, SendsIf, without_feeding}, Next.{is_fed, turn_to}, States.ControllerState}
+use Rattle.ahci_controller.specs.declared.{feeding.Fed.Fed, next.Next.Next, taking.Hindrance.Hindrance}
 use Rattle.ahci_controller.specs.declared.feeding.Fed.TheVariants as fed
-use Rattle.ahci_controller.specs.declared.next.Next.{Next}
 use Rattle.ahci_controller.specs.declared.next.Next.TheVariants as next
-use Rattle.ahci_controller.specs.declared.taking.Hindrance.{Hindrance}
 use Rattle.controller_laws.specs.Events as call
 use Rattle.controller_laws.specs.Events.{Event}
 use Rattle.ahci_machine.specs.Acts as acts
-use Rattle.ahci_machine.specs.Acts.{kept_of, with_controller, with_gathering}
-use Rattle.ahci_machine.specs.Answers.{AnswersDisk, AnswersMachine, IsStale, MissesFor, MissesMachine, SuppliesData, SuppliesMachine, disk_at, is_own, is_wanted, taken_bay}
-use Rattle.ahci_machine.specs.Bays.{begun, with_unit}
-use Rattle.ahci_machine.specs.Gathers.{GatheringState, frame_of, host_stamp}
-use Rattle.ahci_machine.specs.Ports.{PlugsIn, PlugsMachine, PullsMachine, PullsOut, Puts, TakesUnit, filled, has_bay, is_empty, on_bay}
-use Rattle.ahci_machine.specs.Registers.{for_host, kept_if, kept_powered, link_stays, renewed}
-use Rattle.ahci_machine.specs.States.{MachineState, bay_at, gathering_at}
-use Rattle.ahci_machine.specs.declared.act.Act.{Act}
+use Rattle.ahci_machine.specs.{Acts.{kept_of, with_controller, with_gathering}, Answers.{AnswersDisk, AnswersMachine, IsStale, MissesFor}}
+use Rattle.ahci_machine.specs.{Answers.{MissesMachine, SuppliesData, SuppliesMachine, disk_at, is_own, is_wanted, taken_bay}, Bays.{begun, with_unit}}
+use Rattle.ahci_machine.specs.{Gathers.{GatheringState, frame_of, host_stamp}, Ports.{PlugsIn, PlugsMachine, PullsMachine, PullsOut, Puts, TakesUnit}}
+use Rattle.ahci_machine.specs.{Ports.{filled, has_bay, is_empty, on_bay}, Registers.{for_host, kept_if, kept_powered, link_stays, renewed}}
+use Rattle.ahci_machine.specs.{States.{MachineState, bay_at, gathering_at}, declared.{act.Act.Act, answers.MediumError.MediumError}}
+use Rattle.ahci_machine.specs.declared.{answers.{MediumError.TheVariants.OtherDisk, Told.Told}, bay.{Bay.Bay, Unit.Unit as Inside}}
+use Rattle.ahci_machine.specs.declared.{bay.Unit.TheVariants.Empty, ports.PortFault.{PortFault, TheVariants.{NoPort, Taken, NotThere as Absent}}}
+use Rattle.ahci_machine.specs.declared.request.{MediumId.MediumId, Wanted.{Wanted, TheVariants.{Command, Data}}}
 use Rattle.ahci_machine.specs.declared.act.Act.TheVariants as act
-use Rattle.ahci_machine.specs.declared.answers.MediumError.{MediumError}
-use Rattle.ahci_machine.specs.declared.answers.MediumError.TheVariants.{OtherDisk}
-use Rattle.ahci_machine.specs.declared.answers.Told.{Told}
-use Rattle.ahci_machine.specs.declared.bay.Bay.{Bay}
-use Rattle.ahci_machine.specs.declared.bay.Unit.{Unit as Inside}
-use Rattle.ahci_machine.specs.declared.bay.Unit.TheVariants.{Empty}
-use Rattle.ahci_machine.specs.declared.ports.PortFault.{PortFault}
-use Rattle.ahci_machine.specs.declared.ports.PortFault.TheVariants.{NoPort, Taken, NotThere as Absent}
-use Rattle.ahci_machine.specs.declared.request.MediumId.{MediumId}
-use Rattle.ahci_machine.specs.declared.request.Wanted.{Wanted}
-use Rattle.ahci_machine.specs.declared.request.Wanted.TheVariants.{Command, Data}
-use Rattle.machine_laws.proofs.Cases.{by_bool, by_option}
-use Rattle.machine_laws.proofs.Due.{stays_due, there_is}
-use Rattle.machine_laws.specs.ControllerLaws.{calls_in}
-use Rattle.machine_laws.specs.Controllers.{GathersDue, IsGathered, IsLength, data_calls, deed_calls, is_kept_for, lost_calls, miss_calls, move_calls, rest_calls, supply_calls}
-use Rattle.machine_laws.specs.Deeds.{Deed, Does, Moved, Unlent, Wrote, Powered, Supplied, Missed, Answered, Put, Plugged, Pulled, Removed, FrameTaken, FrameOffered}
+use Rattle.machine_laws.proofs.{Cases.{by_bool, by_option}, Due.{stays_due, there_is}}
+use Rattle.machine_laws.specs.{ControllerLaws.calls_in, Controllers.{GathersDue, IsGathered, IsLength, data_calls, deed_calls, is_kept_for}}
+use Rattle.machine_laws.specs.{Controllers.{lost_calls, miss_calls, move_calls, rest_calls, supply_calls}, Deeds.{Deed, Does, Moved, Unlent, Wrote}}
+use Rattle.machine_laws.specs.Deeds.{Powered, Supplied, Missed, Answered, Put, Plugged, Pulled, Removed, FrameTaken, FrameOffered}
 use Rattle.machine_laws.specs.Falling.{LinksPassInOrder, ResetsEmptyLinks, arrived, arrives, leaving, ordered, resets, sent_by, sent_in}
 
 -- ---- a move of frames on their way

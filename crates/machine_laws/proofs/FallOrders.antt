@@ -1,19 +1,13 @@
 -- The FIS of a command that goes is the one that was issued in its slot.
 use Rattle.std.proofs.Common.{◌≡◌, ℕ, Bool, true, false, List, Option, Some, None, refl, sym, ap, subst, ◌∙◌}
-use Rattle.std.specs.Prelude.{MatchOption}
-use Rattle.std.specs.Option.{option_map}
+use Rattle.std.specs.{Prelude.MatchOption, Option.option_map}
 use Rattle.slots.specs.Slots.{Issue, issue_at, match_some}
-use Rattle.guest_fetch.specs.Commands.{Fetched}
-use Rattle.guest_fetch.specs.declared.moves.Move.{Move}
+use Rattle.guest_fetch.specs.{Commands.Fetched, declared.moves.Move.Move}
 use Rattle.hba_commands.specs.declared.command.Command as core_command
-use Rattle.hba_fbs.specs.Turning.{orders}
-use Rattle.hba_fbs.specs.Views.{last_command}
-use Rattle.hba_fbs.specs.declared.turn.Turn.{Turn}
-use Rattle.hba_fbs.specs.declared.turn.Turn.TheVariants.{Orders, Rests}
-use Rattle.ahci_controller.specs.Next.{Frames, FramesFor, GoesIf, Reads, RestsNow, Turns, TurnsIf, count_next, counted_slot, feed_next, is_halted, next_device, next_read, next_slot, next_write, order_next, payload_step, rest, written}
-use Rattle.ahci_controller.specs.Moving.{count_of}
-use Rattle.ahci_controller.specs.States.{ControllerState, kept}
-use Rattle.ahci_controller.specs.declared.next.Next.{Next}
+use Rattle.hba_fbs.specs.{Turning.orders, Views.last_command, declared.turn.Turn.{Turn, TheVariants.{Orders, Rests}}}
+use Rattle.ahci_controller.specs.Next.{Frames, FramesFor, GoesIf, Reads, RestsNow, Turns, TurnsIf, count_next, counted_slot, feed_next, is_halted}
+use Rattle.ahci_controller.specs.{Next.{next_device, next_read, next_slot, next_write, order_next, payload_step, rest, written}, Moving.count_of}
+use Rattle.ahci_controller.specs.{States.{ControllerState, kept}, declared.next.Next.Next}
 use Rattle.ahci_controller.specs.declared.next.Next.TheVariants as next
 use Rattle.controller_laws.specs.Sources.{CoreHasSupplied, IsIssuedFrom, command_of}
 use Rattle.machine_laws.proofs.Calls.{ruled}

@@ -1,54 +1,34 @@
 -- What each deed does with what is on its way to the device at a port.
-use Rattle.std.proofs.Common.{◌≡◌, ℕ, Bool, true, false, List, [], ◌∷◌, ◌++◌, length, get_or, set, Option, Some, None, Result, Ok, Err, refl, sym, ap, subst, ◌∙◌, inl, inr, option_to_list, append_assoc, append-nil, map, not, zero, suc}
-use Rattle.std.specs.Prelude.{◌==◌, if◌then◌else◌, nat_lt, MatchOption, MatchResult, IsOk, OnErr, OnOk}
-use Rattle.std.specs.Bool.{MatchBool}
-use Rattle.std.specs.Result.{IsErrOf}
+use Rattle.std.proofs.Common.{◌≡◌, ℕ, Bool, true, false, List, [], ◌∷◌, ◌++◌, length, get_or, set, Option, Some, None, Result, Ok, Err, refl, sym, ap}
+use Rattle.std.proofs.{Common.{subst, ◌∙◌, inl, inr, option_to_list, append_assoc, append-nil, map, not, zero, suc}, lemmas.Bool.{eqb-true}}
+use Rattle.std.proofs.lemmas.{Bool.{false≢true, ltb-false}, List.get_or_past}
+use Rattle.std.specs.{Prelude.{◌==◌, if◌then◌else◌, nat_lt, MatchOption, MatchResult, IsOk, OnErr, OnOk}, Bool.MatchBool, Result.IsErrOf}
 use Rattle.std.specs.declared.alloc.AllocError.{AllocError}
-use Rattle.std.proofs.lemmas.Bool.{eqb-true, false≢true, ltb-false}
-use Rattle.std.proofs.lemmas.List.{get_or_past}
 use Rattle.fis_view.specs.Frames.{Stamped}
-use Rattle.multiplier.specs.State.{falling}
-use Rattle.multiplier.specs.declared.multiplier.Passed.{Passed}
-use Rattle.pm_ports.specs.declared.port.Offered.{Offered}
-use Rattle.pm_ports.specs.declared.port.Offered.TheVariants.{Held}
-use Rattle.fan_out.specs.FanOuts.{Offers, Pulls}
-use Rattle.fan_out.specs.declared.fan_out.FanOut.{FanOut}
-use Rattle.fan_out.specs.declared.seat.NotThere.{NotThere}
+use Rattle.multiplier.specs.{State.falling, declared.multiplier.Passed.Passed}
+use Rattle.pm_ports.specs.declared.port.Offered.{Offered, TheVariants.Held}
+use Rattle.fan_out.specs.{FanOuts.{Offers, Pulls}, declared.{fan_out.FanOut.FanOut, seat.NotThere.NotThere}}
 use Rattle.block_engine.specs.declared.request.Answer.{Answer}
-use Rattle.ahci_controller.specs.declared.feeding.Fed.{Fed}
+use Rattle.ahci_controller.specs.declared.{feeding.Fed.Fed, next.Next.Next}
 use Rattle.ahci_controller.specs.declared.feeding.Fed.TheVariants as fed
-use Rattle.ahci_controller.specs.declared.next.Next.{Next}
 use Rattle.ahci_controller.specs.declared.next.Next.TheVariants as next
 use Rattle.sata_disk.specs.State.{DiskState}
 use Rattle.ahci_machine.specs.Acts as acts
-use Rattle.ahci_machine.specs.Acts.{with_controller, with_gathering}
-use Rattle.ahci_machine.specs.Answers.{AnswersDisk, AnswersMachine, IsStale, MissesFor, MissesMachine, SuppliesData, SuppliesMachine, disk_at, given_in, is_own, is_wanted, taken_bay}
-use Rattle.ahci_machine.specs.Bays.{begun, with_unit}
-use Rattle.ahci_machine.specs.Gathers.{GatheringState}
-use Rattle.ahci_machine.specs.Ports.{PlugsIn, PlugsMachine, PullsMachine, PullsOut, Puts, TakesUnit, filled, has_bay, is_empty, on_bay}
-use Rattle.ahci_machine.specs.Registers.{link_stays, renewed}
-use Rattle.ahci_machine.specs.States.{MachineState, bay_at, empty_bay, gathering_at}
-use Rattle.ahci_machine.specs.declared.act.Act.{Act}
-use Rattle.ahci_machine.specs.declared.act.Act.TheVariants as act
-use Rattle.ahci_machine.specs.declared.answers.MediumError.{MediumError}
-use Rattle.ahci_machine.specs.declared.answers.MediumError.TheVariants.{OtherDisk}
-use Rattle.ahci_machine.specs.declared.answers.Told.{Told}
-use Rattle.ahci_machine.specs.declared.bay.Bay.{Bay}
-use Rattle.ahci_machine.specs.declared.bay.Unit.{Unit as Inside}
-use Rattle.ahci_machine.specs.declared.bay.Unit.TheVariants.{Empty, Own, Disk}
-use Rattle.ahci_machine.specs.declared.ports.PortFault.{PortFault}
-use Rattle.ahci_machine.specs.declared.ports.PortFault.TheVariants.{NoPort, Taken, NotThere as Absent}
-use Rattle.ahci_machine.specs.declared.request.MediumId.{MediumId}
-use Rattle.ahci_machine.specs.declared.request.Wanted.{Wanted}
+use Rattle.ahci_machine.specs.{Acts.{with_controller, with_gathering}, Answers.{AnswersDisk, AnswersMachine, IsStale, MissesFor, MissesMachine}}
+use Rattle.ahci_machine.specs.{Answers.{SuppliesData, SuppliesMachine, disk_at, given_in, is_own, is_wanted, taken_bay}, Bays.{begun, with_unit}}
+use Rattle.ahci_machine.specs.{Gathers.GatheringState, Ports.{PlugsIn, PlugsMachine, PullsMachine, PullsOut, Puts, TakesUnit, filled, has_bay}}
+use Rattle.ahci_machine.specs.{Ports.{is_empty, on_bay}, Registers.{link_stays, renewed}, States.{MachineState, bay_at, empty_bay, gathering_at}}
+use Rattle.ahci_machine.specs.declared.{act.Act.Act, answers.{MediumError.{MediumError, TheVariants.OtherDisk}, Told.Told}, bay.Bay.Bay}
+use Rattle.ahci_machine.specs.declared.{bay.Unit.{Unit as Inside, TheVariants.{Empty, Own, Disk}}, ports.PortFault.{PortFault, TheVariants.NoPort}}
+use Rattle.ahci_machine.specs.declared.{ports.PortFault.TheVariants.{Taken, NotThere as Absent}, request.{MediumId.MediumId, Wanted.Wanted}}
 use Rattle.ahci_machine.specs.declared.request.Wanted.TheVariants.{Command, Data}
+use Rattle.ahci_machine.specs.declared.act.Act.TheVariants as act
 use Rattle.machine_laws.proofs.Apart as others
-use Rattle.machine_laws.proofs.Apart.{moved}
-use Rattle.machine_laws.proofs.Cases.{by_bool, by_option, other_bay, this_bay}
+use Rattle.machine_laws.proofs.{Apart.moved, Cases.{by_bool, by_option, other_bay, this_bay}, FallFans.{FellTo, GoesDown, Waits}}
 use Rattle.machine_laws.proofs.FallFans as fans
-use Rattle.machine_laws.proofs.FallFans.{FellTo, GoesDown, Waits}
-use Rattle.machine_laws.specs.Deeds.{Deed, Does, Moved, Unlent, Wrote, Powered, Supplied, Missed, Answered, Put, Plugged, Pulled, Removed, FrameTaken, FrameOffered}
-use Rattle.machine_laws.specs.Falling.{Lasts, PortsPassInOrder, begins, connection_at, ended, ends, falls, fell, is_down_to, reached_at, waits_down, way_to}
-use Rattle.machine_laws.specs.Ports.{is_at}
+use Rattle.machine_laws.specs.Deeds.{Deed, Does, Moved, Unlent, Wrote, Powered, Supplied, Missed, Answered, Put, Plugged, Pulled, Removed, FrameTaken}
+use Rattle.machine_laws.specs.{Deeds.FrameOffered, Falling.{Lasts, PortsPassInOrder, begins, connection_at, ended, ends, falls, fell, is_down_to}}
+use Rattle.machine_laws.specs.{Falling.{reached_at, waits_down, way_to}, Ports.is_at}
 
 -- ---- a move of frames on their way to a device
 

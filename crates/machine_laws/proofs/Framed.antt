@@ -1,51 +1,29 @@
 -- What each call of a controller leaves of the frame that is to be written to the guest.
 use Rattle.std.proofs.Common.{◌≡◌, ℕ, ◌&&◌, ◌||◌, Bool, true, false, not, List, refl, sym, ap, subst, ◌∙◌, Option, Some, None}
-use Rattle.std.specs.Prelude.{MatchOption, is_some, if◌then◌else◌}
-use Rattle.std.specs.Option.{option_map}
 use Rattle.std.proofs.lemmas.Bool.{false≢true, true≢false}
+use Rattle.std.specs.{Prelude.{MatchOption, is_some, if◌then◌else◌}, Option.option_map}
 use Rattle.slots.specs.Slots.{match_some}
 use Rattle.ahci_registers.specs.Bits as line_bits
-use Rattle.ahci_registers.specs.Link.{action_of, effect_of}
-use Rattle.ahci_registers.specs.Offsets.{register_at}
-use Rattle.ahci_registers.specs.declared.link.Effect.{Effect}
+use Rattle.ahci_registers.specs.{Link.{action_of, effect_of}, Offsets.register_at, declared.link.{Effect.Effect, LinkAction.LinkAction}}
+use Rattle.ahci_registers.specs.declared.{link.LinkAction.TheVariants.{NoAction, Comreset, Disable}, register.Register.Register}
 use Rattle.ahci_registers.specs.declared.link.Effect.TheVariants as effect
-use Rattle.ahci_registers.specs.declared.link.LinkAction.{LinkAction}
-use Rattle.ahci_registers.specs.declared.link.LinkAction.TheVariants.{NoAction, Comreset, Disable}
-use Rattle.ahci_registers.specs.declared.register.Register.{Register}
 use Rattle.ahci_registers.specs.declared.register.Register.TheVariants as ahci
-use Rattle.guest_fetch.specs.declared.fetch.Supplied.{Supplied}
+use Rattle.guest_fetch.specs.declared.{fetch.Supplied.Supplied, moves.Move.Move}
 use Rattle.guest_fetch.specs.declared.fetch.Supplied.TheVariants as supplied
-use Rattle.guest_fetch.specs.declared.moves.Move.{Move}
-use Rattle.hba_fbs.specs.Choosing.{may_feed}
-use Rattle.hba_fbs.specs.declared.turn.Turn.{Turn}
-use Rattle.hba_fbs.specs.declared.turn.Turn.TheVariants.{Feeds}
-use Rattle.ahci_controller.specs.Access.{merged}
-use Rattle.ahci_controller.specs.Feeding.{GathersIf, Loses, LosesIf, MissesIf as MissesDataIf, SendsIf, without_feeding}
-use Rattle.ahci_controller.specs.Fetching.{GoesOn, MissesIf, SuppliesIf, answered, without_fetch}
-use Rattle.ahci_controller.specs.Issuing.{PlacesSlot, RefusesSlot, not_issued}
-use Rattle.ahci_controller.specs.Next.{Frames, FramesFor, GoesIf, Reads as ReadsSlot, RestsNow, TurnsIf, after_count, after_rest, counted_slot, is_halted, next_device, next_read, next_slot, next_write, rest, run_of, step_of, step_with, turn_to, written, Turns}
-use Rattle.ahci_controller.specs.Outbox.{no_writes}
+use Rattle.hba_fbs.specs.{Choosing.may_feed, declared.turn.Turn.{Turn, TheVariants.Feeds}}
+use Rattle.ahci_controller.specs.{Access.merged, Feeding.{GathersIf, Loses, LosesIf, MissesIf as MissesDataIf, SendsIf, without_feeding}}
+use Rattle.ahci_controller.specs.{Fetching.{GoesOn, MissesIf, SuppliesIf, answered, without_fetch}, Issuing.{PlacesSlot, RefusesSlot, not_issued}}
+use Rattle.ahci_controller.specs.Next.{Frames, FramesFor, GoesIf, Reads as ReadsSlot, RestsNow, TurnsIf, after_count, after_rest, counted_slot}
+use Rattle.ahci_controller.specs.Next.{is_halted, next_device, next_read, next_slot, next_write, rest, run_of, step_of, step_with, turn_to, written}
+use Rattle.ahci_controller.specs.{Next.Turns, Outbox.no_writes, Reading.shown, States.ControllerState, Taking.{Hears, hindrance, is_any, is_up}}
+use Rattle.ahci_controller.specs.{declared.taking.Took.Took, Wants.dropped, Wide.{WritesFitting, WritesIf}, Writing.{Commands, Leaves, ResetsBy}}
+use Rattle.ahci_controller.specs.{Writing.{WritesGlobal, WritesRegister, asked_state, control_after, link_moved, plain}, declared.access.Width.Width}
+use Rattle.ahci_controller.specs.declared.{feeding.Fed.Fed, issuing.{NotTaken.NotTaken, Supply.Supply}, next.Next.Next, wants.Carried.Carried}
+use Rattle.ahci_controller.specs.declared.{wants.Writes.Writes, wide.WideWritten.WideWritten, writing.Written.Written}
 use Rattle.ahci_controller.specs.Own as own_words
-use Rattle.ahci_controller.specs.Reading.{shown}
-use Rattle.ahci_controller.specs.States.{ControllerState}
-use Rattle.ahci_controller.specs.Taking.{Hears, hindrance, is_any, is_up}
 use Rattle.ahci_controller.specs.declared.taking.Hindrance.TheVariants as why
-use Rattle.ahci_controller.specs.declared.taking.Took.{Took}
-use Rattle.ahci_controller.specs.Wants.{dropped}
-use Rattle.ahci_controller.specs.Wide.{WritesFitting, WritesIf}
-use Rattle.ahci_controller.specs.Writing.{Commands, Leaves, ResetsBy, WritesGlobal, WritesRegister, asked_state, control_after, link_moved, plain}
-use Rattle.ahci_controller.specs.declared.access.Width.{Width}
-use Rattle.ahci_controller.specs.declared.feeding.Fed.{Fed}
-use Rattle.ahci_controller.specs.declared.issuing.NotTaken.{NotTaken}
-use Rattle.ahci_controller.specs.declared.issuing.Supply.{Supply}
-use Rattle.ahci_controller.specs.declared.next.Next.{Next}
 use Rattle.ahci_controller.specs.declared.next.Next.TheVariants as next
-use Rattle.ahci_controller.specs.declared.wants.Carried.{Carried}
-use Rattle.ahci_controller.specs.declared.wants.Writes.{Writes}
-use Rattle.ahci_controller.specs.declared.wide.WideWritten.{WideWritten}
-use Rattle.ahci_controller.specs.declared.writing.Written.{Written}
-use Rattle.controller_laws.proofs.TouchLemmas.{Touches, part_touches, turn_calm}
-use Rattle.controller_laws.proofs.TouchLemmas.Touches.{Drops, Keeps}
+use Rattle.controller_laws.proofs.TouchLemmas.{Touches, part_touches, turn_calm, Touches.{Drops, Keeps}}
 use Rattle.ahci_machine.specs.Registers.{link_stays, stays}
 use Rattle.machine_laws.specs.Lent.{IsSilent, is_framed, is_framed_by}
 

@@ -1,45 +1,26 @@
 -- What happens to a machine is to each of its disks a list of that disk's own calls.
-use Rattle.std.proofs.Common.{◌≡◌, ℕ, Bool, true, false, List, [], ◌∷◌, length, get_or, set, Option, Some, None, Result, Ok, Err, refl, sym, ap, subst, ◌∙◌}
-use Rattle.std.specs.Prelude.{if◌then◌else◌, ◌==◌, MatchOption, MatchResult, IsOk, OnErr, OnOk, nat_lt}
-use Rattle.std.specs.Bool.{MatchBool}
-use Rattle.std.specs.Result.{IsErrOf}
-use Rattle.std.proofs.lemmas.Bool.{eqb-true, false≢true, ltb-false}
-use Rattle.std.proofs.lemmas.List.{get_or_past}
+use Rattle.std.proofs.Common.{◌≡◌, ℕ, Bool, true, false, List, [], ◌∷◌, length, get_or, set, Option, Some, None, Result, Ok, Err, refl, sym, ap}
+use Rattle.std.proofs.{Common.{subst, ◌∙◌}, lemmas.{Bool.{eqb-true, false≢true, ltb-false}, List.get_or_past}}
+use Rattle.std.specs.{Prelude.{if◌then◌else◌, ◌==◌, MatchOption, MatchResult, IsOk, OnErr, OnOk, nat_lt}, Bool.MatchBool, Result.IsErrOf}
 use Rattle.fis_view.specs.Frames.{Stamped}
-use Rattle.fan_out.specs.declared.seat.NotThere.{NotThere}
+use Rattle.fan_out.specs.declared.{seat.NotThere.NotThere, fan_out.FanOut.FanOut}
 use Rattle.block_command.specs.declared.answer.AnswerError.{AnswerError}
 use Rattle.block_engine.specs.Engine as engine
-use Rattle.block_engine.specs.Engine.{EngineState, IsAskedOf, IsRequested, answer_refusal}
-use Rattle.block_engine.specs.declared.request.Answer.{Answer}
-use Rattle.block_engine.specs.declared.request.Request.{Request}
-use Rattle.sata_disk.specs.State.{DiskState}
-use Rattle.sata_disk.specs.declared.out.Out.{Out}
-use Rattle.sata_disk.specs.declared.unheard.Unheard.{Unheard}
-use Rattle.fan_out.specs.declared.fan_out.FanOut.{FanOut}
+use Rattle.block_engine.specs.{Engine.{EngineState, IsAskedOf, IsRequested, answer_refusal}, declared.request.{Answer.Answer, Request.Request}}
+use Rattle.sata_disk.specs.{State.DiskState, declared.{out.Out.Out, unheard.Unheard.Unheard}}
 use Rattle.sata_disk_laws.specs.Calls.{AreCalls, Call, IsCall, after_call, after_calls, asked_by}
 use Rattle.sata_disk_laws.specs.Calls as call
 use Rattle.ahci_machine.specs.Acts as acts
-use Rattle.ahci_machine.specs.Acts.{ServesNext}
-use Rattle.ahci_machine.specs.Answers.{AnswersDisk, AnswersMachine, disk_at, disk_in, is_own, taken_bay}
+use Rattle.ahci_machine.specs.{Acts.ServesNext, Answers.{AnswersDisk, AnswersMachine, disk_at, disk_in, is_own, taken_bay}, Bays.{begun, with_unit}}
+use Rattle.ahci_machine.specs.{Ports.{PullsMachine, PullsOut, Puts, filled, has_bay, is_empty, on_bay}, States.{MachineState, bay_at, empty_bay}}
+use Rattle.ahci_machine.specs.declared.{act.Act.Act, answers.MediumError.{MediumError, TheVariants.{Answer as Wrong, OtherDisk}}, bay.Bay.Bay}
+use Rattle.ahci_machine.specs.declared.{bay.Unit.{Unit as Inside, TheVariants.{Disk, Empty}}, ports.PortFault.{PortFault, TheVariants.NoPort}}
+use Rattle.ahci_machine.specs.declared.{ports.PortFault.TheVariants.{Taken, NotThere as Absent}, request.MediumId.MediumId}
 use Rattle.ahci_machine.specs.Bays as bays
-use Rattle.ahci_machine.specs.Bays.{begun, with_unit}
-use Rattle.ahci_machine.specs.Ports.{PullsMachine, PullsOut, Puts, filled, has_bay, is_empty, on_bay}
-use Rattle.ahci_machine.specs.States.{MachineState, bay_at, empty_bay}
-use Rattle.ahci_machine.specs.declared.act.Act.{Act}
 use Rattle.ahci_machine.specs.declared.act.Act.TheVariants as act
-use Rattle.ahci_machine.specs.declared.answers.MediumError.{MediumError}
-use Rattle.ahci_machine.specs.declared.answers.MediumError.TheVariants.{Answer as Wrong, OtherDisk}
-use Rattle.ahci_machine.specs.declared.bay.Bay.{Bay}
-use Rattle.ahci_machine.specs.declared.bay.Unit.{Unit as Inside}
-use Rattle.ahci_machine.specs.declared.bay.Unit.TheVariants.{Disk, Empty}
-use Rattle.ahci_machine.specs.declared.ports.PortFault.{PortFault}
-use Rattle.ahci_machine.specs.declared.ports.PortFault.TheVariants.{NoPort, Taken, NotThere as Absent}
-use Rattle.ahci_machine.specs.declared.request.MediumId.{MediumId}
-use Rattle.machine_laws.proofs.Cases.{by_bool, by_option, this_bay}
-use Rattle.machine_laws.proofs.Apart.{apart, moved, plugged_same}
-use Rattle.machine_laws.specs.Deeds.{Deed, Does, Moved, Unlent, Wrote, Powered, Supplied, Missed, Answered, Put, Plugged, Pulled, Removed, FrameTaken, FrameOffered}
-use Rattle.machine_laws.specs.Disks.{DisksGoOn, GoesOn, at_port, calls_by, heard, unless_refused}
-use Rattle.machine_laws.specs.Ports.{is_at}
+use Rattle.machine_laws.proofs.{Cases.{by_bool, by_option, this_bay}, Apart.{apart, moved, plugged_same}}
+use Rattle.machine_laws.specs.Deeds.{Deed, Does, Moved, Unlent, Wrote, Powered, Supplied, Missed, Answered, Put, Plugged, Pulled, Removed, FrameTaken}
+use Rattle.machine_laws.specs.{Deeds.FrameOffered, Disks.{DisksGoOn, GoesOn, at_port, calls_by, heard, unless_refused}, Ports.is_at}
 
 pub goes_one : (d : DiskState) (c : Call) (now : Inside) → IsCall d c → now ≡ Disk (after_call d c) → GoesOn d (c ∷ []) now
 unfolding after_calls

@@ -1,43 +1,27 @@
 -- Each FIS that a disk heard is one that the controller sent.
-use Rattle.std.proofs.Common.{◌≡◌, ℕ, Bool, true, false, List, [], ◌∷◌, ◌++◌, append-nil, map, min, Option, Some, None, Result, Ok, Err, refl, sym, ap, subst, ◌∙◌, option_to_list, inl, inr, not, zero, suc, All, Contains}
-use Rattle.std.specs.Prelude.{◌==◌, if◌then◌else◌}
-use Rattle.std.specs.Option.{option_map}
-use Rattle.std.proofs.lemmas.Bool.{eqb-true, false≢true}
+use Rattle.std.proofs.Common.{◌≡◌, ℕ, Bool, true, false, List, [], ◌∷◌, ◌++◌, append-nil, map, min, Option, Some, None, Result, Ok, Err, refl, sym}
+use Rattle.std.proofs.{Common.{ap, subst, ◌∙◌, option_to_list, inl, inr, not, zero, suc, All, Contains}, lemmas.Bool.{eqb-true, false≢true}}
 use Rattle.std.proofs.lemmas.List.Elements.{All-append, All-cons, All-contains_itself, All-head, All-nil, All-same, All-weaker}
+use Rattle.std.specs.{Prelude.{◌==◌, if◌then◌else◌}, Option.option_map}
 use Rattle.fis_view.specs.Frames.{Stamped}
 use Rattle.slots.specs.Slots.{match_some}
-use Rattle.multiplier.specs.Arbiter.{control_port}
-use Rattle.multiplier.specs.State.{falling, passes_to, pm_port}
-use Rattle.multiplier.specs.declared.multiplier.Passed.{Passed}
+use Rattle.multiplier.specs.{Arbiter.control_port, State.{falling, passes_to, pm_port}, declared.multiplier.Passed.Passed}
 use Rattle.multiplier.specs.declared.multiplier.Passed.TheVariants as passed
-use Rattle.fan_out.specs.FanOuts.{renewed_end}
-use Rattle.fan_out.specs.declared.fan_out.FanOut.{FanOut}
-use Rattle.fan_out.specs.declared.fan_out.FanOut.TheVariants.{Device, Multiplier}
+use Rattle.fan_out.specs.{FanOuts.renewed_end, declared.fan_out.FanOut.{FanOut, TheVariants.{Device, Multiplier}}}
 use Rattle.sata_disk_laws.specs.Calls.{Call, Hears}
 use Rattle.sata_disk_laws.specs.Calls as call
-use Rattle.ahci_machine.specs.Registers.{link_stays, renewed}
-use Rattle.ahci_machine.specs.States.{HasRules, IsOpeningMachine, MachineState, bay_at, opening_end}
-use Rattle.ahci_machine.specs.declared.act.Act.{Act}
+use Rattle.ahci_machine.specs.{Registers.{link_stays, renewed}, States.{HasRules, IsOpeningMachine, MachineState, bay_at, opening_end}}
+use Rattle.ahci_machine.specs.declared.{act.Act.Act, bay.{Bay.Bay, Unit.Unit as Inside}, ports.PortFault.PortFault}
 use Rattle.ahci_machine.specs.declared.act.Act.TheVariants as act
-use Rattle.ahci_machine.specs.declared.bay.Bay.{Bay}
-use Rattle.ahci_machine.specs.declared.bay.Unit.{Unit as Inside}
 use Rattle.ahci_machine.specs.declared.bay.Unit.TheVariants as inside
-use Rattle.ahci_machine.specs.declared.ports.PortFault.{PortFault}
-use Rattle.machine_laws.proofs.Due.{stays_due}
-use Rattle.machine_laws.proofs.FallEnds.{opening_none}
-use Rattle.machine_laws.proofs.FallHeard.{go_where}
-use Rattle.machine_laws.proofs.FallLinks as links
-use Rattle.machine_laws.proofs.Reach.{replicate_empty}
-use Rattle.machine_laws.proofs.RisDeeds.{deed_rises}
-use Rattle.machine_laws.proofs.RisRun.{crosses}
+use Rattle.machine_laws.proofs.{Due.stays_due, FallEnds.opening_none, FallHeard.go_where, Reach.replicate_empty, RisDeeds.deed_rises, RisRun.crosses}
 use Rattle.machine_laws.proofs.Ways.{OnWay, first, last, way_goes}
-use Rattle.machine_laws.specs.ControllerLaws.{RunsRuled, calls_in}
-use Rattle.machine_laws.specs.Controllers.{GathersDue, OpensDue, deed_calls}
-use Rattle.machine_laws.specs.Deeds.{Deed, Does, Moved, Wrote, Powered, Answered, Put, Pulled}
-use Rattle.machine_laws.specs.Disks.{calls_at, heard, unless_refused}
-use Rattle.machine_laws.specs.Falling.{ArrivesAt, arrived, falls, goes_to, is_down_to, leaving, reached_at, resets, sent_in, waits_down, way_to}
-use Rattle.machine_laws.specs.Heard.{AllHeard, FellFrom, HeardWereSent, IsSentOut, Life, life_by, life_in, no_life, put_in}
-use Rattle.machine_laws.specs.Rising.{Frames, GoesOnRising, HaveRisen, OpensRising, frames_after, is_multiplier, is_reset, no_frames}
+use Rattle.machine_laws.proofs.FallLinks as links
+use Rattle.machine_laws.specs.{ControllerLaws.{RunsRuled, calls_in}, Controllers.{GathersDue, OpensDue, deed_calls}, Deeds.{Deed, Does, Moved, Wrote}}
+use Rattle.machine_laws.specs.{Deeds.{Powered, Answered, Put, Pulled}, Disks.{calls_at, heard, unless_refused}, Falling.{ArrivesAt, arrived, falls}}
+use Rattle.machine_laws.specs.{Falling.{goes_to, is_down_to, leaving, reached_at, resets, sent_in, waits_down, way_to}, Heard.{AllHeard, FellFrom}}
+use Rattle.machine_laws.specs.{Heard.{HeardWereSent, IsSentOut, Life, life_by, life_in, no_life, put_in}, Rising.{Frames, GoesOnRising, HaveRisen}}
+use Rattle.machine_laws.specs.Rising.{OpensRising, frames_after, is_multiplier, is_reset, no_frames}
 
 -- ---- it stays a multiplier, or a device alone
 

@@ -1,50 +1,32 @@
 -- The frame of which something is to be written to the guest is the one that the machine has.
-use Rattle.std.proofs.Common.{◌≡◌, ℕ, Bool, true, false, List, [], ◌∷◌, ◌++◌, Option, None, Some, Result, Ok, Err, refl, sym, ap, subst, ◌∙◌, inl, inr, not}
-use Rattle.std.specs.Prelude.{◌||◌, MatchOption, if◌then◌else◌, is_some, nat_lt}
-use Rattle.std.specs.Bool.{MatchBool}
-use Rattle.std.specs.declared.alloc.AllocError.{AllocError}
-use Rattle.std.proofs.lemmas.Bool.{false≢true}
+use Rattle.std.proofs.Common.{◌≡◌, ℕ, Bool, true, false, List, [], ◌∷◌, ◌++◌, Option, None, Some, Result, Ok, Err, refl, sym, ap, subst, ◌∙◌, inl}
+use Rattle.std.proofs.{Common.{inr, not}, lemmas.Bool.{false≢true}}
+use Rattle.std.specs.{Prelude.{◌||◌, MatchOption, if◌then◌else◌, is_some, nat_lt}, Bool.MatchBool, declared.alloc.AllocError.AllocError}
 use Rattle.fis_view.specs.Frames.{Stamped}
-use Rattle.ahci_controller.specs.Access.{fits as fits_width}
-use Rattle.ahci_controller.specs.Fetching.{fits, is_asked}
-use Rattle.ahci_controller.specs.Next.{is_fed}
-use Rattle.ahci_controller.specs.States.{ControllerState, kept}
-use Rattle.ahci_controller.specs.declared.feeding.Fed.{Fed}
+use Rattle.ahci_controller.specs.{Access.fits as fits_width, Fetching.{fits, is_asked}, Next.is_fed, States.{ControllerState, kept}}
+use Rattle.ahci_controller.specs.declared.{feeding.Fed.Fed, next.Next.Next, taking.Hindrance.Hindrance, wide.WideWritten.WideWritten}
+use Rattle.ahci_controller.specs.{Wide.WritesFitting, declared.access.Width.Width}
 use Rattle.ahci_controller.specs.declared.feeding.Fed.TheVariants as fed
-use Rattle.ahci_controller.specs.declared.next.Next.{Next}
 use Rattle.ahci_controller.specs.declared.next.Next.TheVariants as next
-use Rattle.ahci_controller.specs.declared.taking.Hindrance.{Hindrance}
-use Rattle.ahci_controller.specs.declared.wide.WideWritten.{WideWritten}
-use Rattle.guest_fetch.specs.Commands.{Fetched}
-use Rattle.guest_fetch.specs.declared.moves.Move.{Move}
+use Rattle.guest_fetch.specs.{Commands.Fetched, declared.moves.Move.Move}
 use Rattle.hba_fbs.specs.declared.report.Wrote.{Wrote as Brought}
 use Rattle.slots.specs.Slots.{match_some}
-use Rattle.ahci_controller.specs.Wide.{WritesFitting}
-use Rattle.ahci_controller.specs.declared.access.Width.{Width}
-use Rattle.controller_laws.specs.Carrying.{Carrying, carrying_by, carrying_of, cut_if, cut_wide, moves_in, moves_said, said_more}
+use Rattle.controller_laws.specs.{Carrying.{Carrying, carrying_by, carrying_of, cut_if, cut_wide, moves_in, moves_said, said_more}, Events.Event}
 use Rattle.controller_laws.specs.Events as call
-use Rattle.controller_laws.specs.Events.{Event}
 use Rattle.controller_laws.specs.Places as places
 use Rattle.ahci_machine.specs.Acts as acts
-use Rattle.ahci_machine.specs.Acts.{lent_by, with_controller, with_gathering}
-use Rattle.ahci_machine.specs.Answers.{IsStale, MissesFor, MissesMachine, SuppliesData, SuppliesMachine, is_own, is_wanted, taken_bay}
-use Rattle.ahci_machine.specs.Gathers.{GatheringState}
-use Rattle.ahci_machine.specs.Registers.{lent_bytes, lent_of, link_stays, message_of, part_of, powered, renewed}
-use Rattle.ahci_machine.specs.States.{MachineState, bay_at, gathering_at}
-use Rattle.ahci_machine.specs.declared.act.Act.{Act}
+use Rattle.ahci_machine.specs.{Acts.{lent_by, with_controller, with_gathering}, Answers.{IsStale, MissesFor, MissesMachine, SuppliesData}}
+use Rattle.ahci_machine.specs.{Answers.{SuppliesMachine, is_own, is_wanted, taken_bay}, Gathers.GatheringState, Registers.{lent_bytes, lent_of}}
+use Rattle.ahci_machine.specs.{Registers.{link_stays, message_of, part_of, powered, renewed}, States.{MachineState, bay_at, gathering_at}}
+use Rattle.ahci_machine.specs.declared.{act.Act.Act, answers.Told.Told, request.Wanted.{Wanted, TheVariants.{Command, Data}}}
 use Rattle.ahci_machine.specs.declared.act.Act.TheVariants as act
-use Rattle.ahci_machine.specs.declared.answers.Told.{Told}
-use Rattle.ahci_machine.specs.declared.request.Wanted.{Wanted}
-use Rattle.ahci_machine.specs.declared.request.Wanted.TheVariants.{Command, Data}
-use Rattle.machine_laws.proofs.Beside.{Beside, inner}
+use Rattle.machine_laws.proofs.{Beside.{Beside, inner}, Cases.{by_bool, by_option}, Framed.{IsCalm, IsWrite, gather_is_calm, last_said, miss_is_calm}}
+use Rattle.machine_laws.proofs.{Framed.{not_there_is_calm, said_calm, silent_on, supply_is_calm, take_silent, turn_is_calm, wide}, Lawful.writes}
 use Rattle.machine_laws.proofs.Beside as beside
-use Rattle.machine_laws.proofs.Cases.{by_bool, by_option}
-use Rattle.machine_laws.proofs.Framed.{IsCalm, IsWrite, gather_is_calm, last_said, miss_is_calm, not_there_is_calm, said_calm, silent_on, supply_is_calm, take_silent, turn_is_calm, wide}
-use Rattle.machine_laws.proofs.Lawful.{writes}
-use Rattle.machine_laws.specs.ControllerLaws.{calls_in}
-use Rattle.machine_laws.specs.Controllers.{data_calls, deed_calls, lost_calls, miss_calls, move_calls, rest_calls, supply_calls}
-use Rattle.machine_laws.specs.Deeds.{Deed, Does, Moved, Unlent, Wrote, Powered, Supplied, Missed, Answered, Put, Plugged, Pulled, Removed, FrameTaken, FrameOffered}
-use Rattle.machine_laws.specs.Lent.{CarriesTaken, FramesAreHeld, FramesAreLent, HoldsFrame, IsOf, IsSilent, Lends, OpensHolding, is_framed, is_framed_by, last_taken}
+use Rattle.machine_laws.specs.{ControllerLaws.calls_in, Controllers.{data_calls, deed_calls, lost_calls, miss_calls, move_calls, rest_calls}}
+use Rattle.machine_laws.specs.{Controllers.supply_calls, Deeds.{Deed, Does, Moved, Unlent, Wrote, Powered, Supplied, Missed, Answered, Put, Plugged}}
+use Rattle.machine_laws.specs.{Deeds.{Pulled, Removed, FrameTaken, FrameOffered}, Lent.{CarriesTaken, FramesAreHeld, FramesAreLent, HoldsFrame, IsOf}}
+use Rattle.machine_laws.specs.Lent.{IsSilent, Lends, OpensHolding, is_framed, is_framed_by, last_taken}
 
 -- the machine goes on to have it
 hold : (old new : MachineState) (last : Option (List ℕ)) → IsCalm old.controller new.controller → new.incoming ≡ old.incoming → new.taken ≡ old.taken → HoldsFrame old last → HoldsFrame new last

@@ -1,37 +1,22 @@
 -- The laws of a controller, over the runs of its machine.
 use Rattle.std.proofs.Common.{◌≡◌, ℕ, false, List, [], ◌∷◌, ◌++◌, length, refl, sym, ap, subst, ◌∙◌, Option, Some, None}
+use Rattle.std.proofs.lemmas.{List.{length-replicate}, Nat.Bits.{bit_at-zero}}
 use Rattle.std.specs.Prelude.{◌==◌, MatchOption}
-use Rattle.std.proofs.lemmas.List.{length-replicate}
-use Rattle.std.proofs.lemmas.Nat.Bits.{bit_at-zero}
 use Rattle.slots.specs.Slots.{has_bit}
 use Rattle.guest_fetch.specs.Fetch.{Fetching}
-use Rattle.hba_laws.specs.CoreHistories.{history_through}
-use Rattle.hba_laws.specs.Cores.{CoreEvent}
-use Rattle.hba_laws.specs.History.{History}
-use Rattle.ahci_controller.specs.Latch.{raised}
-use Rattle.ahci_controller.specs.Next.{TurnsIf, Turns, is_halted, next_write, written}
-use Rattle.ahci_controller.specs.Opening.{IsOpening}
-use Rattle.ahci_controller.specs.States.{ControllerState}
-use Rattle.ahci_controller.specs.declared.next.Next.{Next}
-use Rattle.ahci_controller.specs.declared.wants.Wants.{Wants}
-use Rattle.ahci_controller.specs.declared.wants.Writes.{Writes}
-use Rattle.controller_laws.specs.Active.{ActiveBitsFall}
-use Rattle.controller_laws.specs.Carrying.{BytesAreSaid}
-use Rattle.controller_laws.specs.CoreEvents.{AreCoreEvents, EventsAreCoreEvents, of_event}
-use Rattle.controller_laws.specs.Ends.{AreTold, HistoriesGoOn, IssuesFall, OpensUntold}
+use Rattle.hba_laws.specs.{CoreHistories.history_through, Cores.CoreEvent, History.History}
+use Rattle.ahci_controller.specs.{Latch.raised, Next.{TurnsIf, Turns, is_halted, next_write, written}, Opening.IsOpening, States.ControllerState}
+use Rattle.ahci_controller.specs.declared.{next.Next.Next, wants.{Wants.Wants, Writes.Writes}}
+use Rattle.controller_laws.specs.{Active.ActiveBitsFall, Carrying.BytesAreSaid, CoreEvents.{AreCoreEvents, EventsAreCoreEvents, of_event}}
+use Rattle.controller_laws.specs.{Ends.{AreTold, HistoriesGoOn, IssuesFall, OpensUntold}, Events.{Event, IsController}, Interrupts.LineIsTold}
+use Rattle.controller_laws.specs.{Interrupts.{OpensLatched, StaysLatched, line_shown}, Sources.{CommandsAreSupplied, CoreHasSupplied, StartsUnread}}
 use Rattle.controller_laws.specs.Events as call
-use Rattle.controller_laws.specs.Events.{Event, IsController}
-use Rattle.controller_laws.specs.Interrupts.{LineIsTold, OpensLatched, StaysLatched, line_shown}
 use Rattle.controller_laws.specs.Places as places
-use Rattle.controller_laws.specs.Sources.{CommandsAreSupplied, CoreHasSupplied, StartsUnread}
 use Rattle.controller_laws.proofs.LineLemmas.{line_is}
-use Rattle.ahci_machine.specs.Registers.{lent_bytes}
-use Rattle.ahci_machine.specs.States.{HasRules, MachineState}
-use Rattle.machine_laws.proofs.Calls.{goes_on, ruled}
-use Rattle.machine_laws.proofs.Due.{opens_due, stays_due}
-use Rattle.machine_laws.specs.ControllerLaws.{AllFall, ControllerHasLaws, ControllerRuns, LinesAreShown, OpensLawful, RunsAreCalls, RunsRuled, TurnsArePlaced, WritesArePlaced, calls_in}
-use Rattle.machine_laws.specs.Controllers.{GathersDue, deed_calls}
-use Rattle.machine_laws.specs.Deeds.{Deed}
+use Rattle.ahci_machine.specs.{Registers.lent_bytes, States.{HasRules, MachineState}}
+use Rattle.machine_laws.proofs.{Calls.{goes_on, ruled}, Due.{opens_due, stays_due}}
+use Rattle.machine_laws.specs.ControllerLaws.{AllFall, ControllerHasLaws, ControllerRuns, LinesAreShown, OpensLawful, RunsAreCalls, RunsRuled}
+use Rattle.machine_laws.specs.{ControllerLaws.{TurnsArePlaced, WritesArePlaced, calls_in}, Controllers.{GathersDue, deed_calls}, Deeds.Deed}
 
 -- the laws, as `controller_laws` has them
 pub record Laws : Type 0 where

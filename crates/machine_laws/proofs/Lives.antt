@@ -1,27 +1,17 @@
 -- Over every run each disk is the one that was put at its port, after its calls since.
 use Rattle.std.proofs.Common.{◌≡◌, ℕ, Bool, true, false, List, [], ◌∷◌, ◌++◌, append-nil, Some, Result, Ok, Err, refl, sym, ap, subst, ◌∙◌}
-use Rattle.std.specs.Prelude.{if◌then◌else◌, ◌==◌, IsOk}
-use Rattle.std.specs.Bool.{MatchBool}
-use Rattle.std.specs.Result.{IsErrOf}
 use Rattle.std.proofs.lemmas.Bool.{eqb-true, false≢true}
+use Rattle.std.specs.{Prelude.{if◌then◌else◌, ◌==◌, IsOk}, Bool.MatchBool, Result.IsErrOf}
 use Rattle.sata_disk.specs.State.{DiskState}
 use Rattle.sata_disk_laws.specs.Calls.{AreCalls, Call, after_calls}
-use Rattle.ahci_machine.specs.Answers.{disk_in}
-use Rattle.ahci_machine.specs.Ports.{Puts, filled, has_bay, is_empty, on_bay}
-use Rattle.ahci_machine.specs.States.{MachineState, bay_at}
-use Rattle.ahci_machine.specs.declared.bay.Bay.{Bay}
-use Rattle.ahci_machine.specs.declared.bay.Unit.{Unit as Inside}
-use Rattle.ahci_machine.specs.declared.bay.Unit.TheVariants.{Disk, Empty, Own}
-use Rattle.ahci_machine.specs.declared.ports.PortFault.{PortFault}
-use Rattle.ahci_machine.specs.declared.ports.PortFault.TheVariants.{NoPort, Taken}
-use Rattle.machine_laws.proofs.Apart.{apart}
-use Rattle.machine_laws.proofs.Cases.{by_bool}
-use Rattle.machine_laws.proofs.GoOn.{go_on, one_disk}
-use Rattle.machine_laws.proofs.Reach.{NoneAt, after_more, by_unit, more, none_is, not_put, put_at, removed_at, replicate_empty, same_none, stays_none}
-use Rattle.machine_laws.specs.ControllerLaws.{RunsRuled}
-use Rattle.machine_laws.specs.Deeds.{Deed, Does, Moved, Unlent, Wrote, Powered, Supplied, Missed, Answered, Put, Plugged, Pulled, Removed, FrameTaken, FrameOffered}
-use Rattle.machine_laws.specs.Disks.{GoesOn, calls_at, is_removed}
-use Rattle.machine_laws.specs.Heard.{DisksHaveLived, HasLived, Life, life_by, life_in, no_life, put_in}
+use Rattle.ahci_machine.specs.{Answers.disk_in, Ports.{Puts, filled, has_bay, is_empty, on_bay}, States.{MachineState, bay_at}, declared.bay.Bay.Bay}
+use Rattle.ahci_machine.specs.declared.{bay.Unit.{Unit as Inside, TheVariants.{Disk, Empty, Own}}, ports.PortFault.{PortFault, TheVariants.NoPort}}
+use Rattle.ahci_machine.specs.declared.ports.PortFault.TheVariants.{Taken}
+use Rattle.machine_laws.proofs.{Apart.apart, Cases.by_bool, GoOn.{go_on, one_disk}, Reach.{NoneAt, after_more, by_unit, more, none_is, not_put}}
+use Rattle.machine_laws.proofs.Reach.{put_at, removed_at, replicate_empty, same_none, stays_none}
+use Rattle.machine_laws.specs.{ControllerLaws.RunsRuled, Deeds.{Deed, Does, Moved, Unlent, Wrote, Powered, Supplied, Missed, Answered, Put, Plugged}}
+use Rattle.machine_laws.specs.{Deeds.{Pulled, Removed, FrameTaken, FrameOffered}, Disks.{GoesOn, calls_at, is_removed}, Heard.DisksHaveLived}
+use Rattle.machine_laws.specs.Heard.{HasLived, Life, life_by, life_in, no_life, put_in}
 
 -- ---- more calls
 

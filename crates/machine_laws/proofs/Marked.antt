@@ -1,52 +1,35 @@
 -- Each FIS that comes to the controller behind a multiplier names its port.
-use Rattle.std.proofs.Common.{◌≡◌, ℕ, zero, suc, ◌<◌, ◌%◌, ◌==◌, Bool, true, false, not, List, [], ◌∷◌, ◌++◌, min, Option, Some, None, Result, Ok, Err, refl, sym, ap, ◌∙◌, subst, arith, All, Contains}
+use Rattle.std.proofs.Common.{◌≡◌, ℕ, zero, suc, ◌<◌, ◌%◌, ◌==◌, Bool, true, false, not, List, [], ◌∷◌, ◌++◌, min, Option, Some, None, Result, Ok}
+use Rattle.std.proofs.{Common.{Err, refl, sym, ap, ◌∙◌, subst, arith, All, Contains}, lemmas.Bool.{false≢true, true≢false}}
+use Rattle.std.proofs.lemmas.List.Elements.{All-append, All-cons, All-contains, All-contains_itself, All-nil, All-weaker, Contains-append_left}
+use Rattle.std.proofs.lemmas.{List.Elements.{Contains-append_right}, Option.same_Some}
 use Rattle.std.specs.Prelude.{if◌then◌else◌, ◌&&◌, ◌||◌, nat_lt, is_none, is_some, slice_index, slice_set, IfSome, MatchOption, MatchResult}
 use Rattle.std.specs.Bool.{MatchBool}
-use Rattle.std.proofs.lemmas.Bool.{false≢true, true≢false}
-use Rattle.std.proofs.lemmas.List.Elements.{All-append, All-cons, All-contains, All-contains_itself, All-nil, All-weaker, Contains-append_left, Contains-append_right}
-use Rattle.std.proofs.lemmas.Option.{same_Some}
-use Rattle.fis_view.specs.Built.{IsBuilt, cut, d2h_given, set_bits_given}
-use Rattle.fis_view.specs.Frames.{Stamped}
-use Rattle.fis_view.specs.Table.{Bits, D2h, Kind, Name, PmPort, places}
+use Rattle.fis_view.specs.{Built.{IsBuilt, cut, d2h_given, set_bits_given}, Frames.Stamped, Table.{Bits, D2h, Kind, Name, PmPort, places}}
 use Rattle.fis_view.specs.declared.build.D2hFields.{D2hFields}
 use Rattle.fis_view.proofs.Door.{frame_bounds, port_bits, port_field}
-use Rattle.pm_registers.specs.RegisterMap.{RegisterMap, read_at}
-use Rattle.pm_registers.specs.declared.words.RegisterError.{RegisterError}
-use Rattle.pm_registers.specs.declared.words.RegisterError.TheVariants.{NoPort, NoRegister}
+use Rattle.pm_registers.specs.{RegisterMap.{RegisterMap, read_at}, declared.words.RegisterError.{RegisterError, TheVariants.{NoPort, NoRegister}}}
 use Rattle.pm_control.specs.Answers.{IsAnswer, answer_to, answer_to_request, notice_fields, read_answer, signature, write_answer}
-use Rattle.pm_control.specs.Requests.{request_in}
-use Rattle.pm_control.specs.declared.request.Request.{Request}
-use Rattle.pm_control.specs.declared.request.Request.TheVariants.{EndReset, Read, Unknown, Write}
+use Rattle.pm_control.specs.{Requests.request_in, declared.request.Request.{Request, TheVariants.{EndReset, Read, Unknown, Write}}}
 use Rattle.pm_ports.specs.Port as port
-use Rattle.pm_ports.specs.declared.port.Offered.{Offered}
-use Rattle.pm_ports.specs.declared.port.Offered.TheVariants.{Held, Dropped}
-use Rattle.multiplier.specs.Arbiter.{control_port}
-use Rattle.multiplier.specs.Between.{Gives, FromPort, Notice, Answer}
-use Rattle.multiplier.specs.Rules.{FromHostRule, NextDownRule, NextUpRule, ToControl, ToDevice, ToNobody, ToPort, with_device}
-use Rattle.multiplier.specs.State.{PmState, control_stamp, passes_to, pm_port, port_at, ready, rising}
-use Rattle.multiplier.specs.declared.multiplier.Passed.{Passed}
+use Rattle.pm_ports.specs.declared.port.Offered.{Offered, TheVariants.{Held, Dropped}}
+use Rattle.multiplier.specs.{Arbiter.control_port, Between.{Gives, FromPort, Notice, Answer}, Rules.{FromHostRule, NextDownRule, NextUpRule}}
+use Rattle.multiplier.specs.{Rules.{ToControl, ToDevice, ToNobody, ToPort, with_device}, State.{PmState, control_stamp, passes_to, pm_port, port_at}}
+use Rattle.multiplier.specs.{State.{ready, rising}, declared.multiplier.{Passed.Passed, PmRefusal.PmRefusal}}
 use Rattle.multiplier.specs.declared.multiplier.Passed.TheVariants as passed
-use Rattle.multiplier.specs.declared.multiplier.PmRefusal.{PmRefusal}
 use Rattle.multiplier.proofs.Door.{gives, served_below}
-use Rattle.fan_out.specs.Calls.{FanCall, Plug, Pull, Send, GiveUp, GiveDown, Offer, Tell, Does as FanDoes, given, given_by}
-use Rattle.fan_out.specs.FanOuts.{renewed_end}
-use Rattle.fan_out.specs.Fans.{FanState, IsFan, OffersFan, PlugsFan, PullsFan, SendsFan, Through, heeded, held_fan, held_in_reset, is_in_reset, joined, on, parted, rejoined, seat_at}
-use Rattle.fan_out.specs.Seats.{next_connection, seated}
-use Rattle.fan_out.specs.declared.fan_out.FanOut.{FanOut}
-use Rattle.fan_out.specs.declared.fan_out.FanOut.TheVariants.{Device, Multiplier}
-use Rattle.fan_out.specs.declared.seat.NotThere.{NotThere}
-use Rattle.fan_out.specs.declared.seat.PlugError.{PlugError}
+use Rattle.fan_out.specs.{Calls.{FanCall, Plug, Pull, Send, GiveUp, GiveDown, Offer, Tell, Does as FanDoes, given, given_by}, FanOuts.renewed_end}
+use Rattle.fan_out.specs.Fans.{FanState, IsFan, OffersFan, PlugsFan, PullsFan, SendsFan, Through, heeded, held_fan, held_in_reset, is_in_reset}
+use Rattle.fan_out.specs.{Fans.{joined, on, parted, rejoined, seat_at}, Seats.{next_connection, seated}, declared.fan_out.FanOut.FanOut}
+use Rattle.fan_out.specs.declared.{fan_out.FanOut.TheVariants.{Device, Multiplier}, seat.{NotThere.NotThere, PlugError.PlugError}}
 use Rattle.fan_out.specs.declared.seat.PlugError.TheVariants.{NoPort as NoSuchPort}
-use Rattle.ahci_machine.specs.Registers.{link_stays, message_of, renewed as renewed_machine}
-use Rattle.ahci_machine.specs.States.{MachineState, opening_end}
-use Rattle.machine_laws.proofs.RisData.{OfPort, in_sent, rising_own}
-use Rattle.machine_laws.proofs.RisDeeds.{Rising, deed_rises, outer}
-use Rattle.machine_laws.proofs.RisFan.{FansPass, after_one, fan_through, no_device}
-use Rattle.machine_laws.proofs.RisRun.{FansRenew, Laws, crosses, one_deed, powered_gives, sound_now}
+use Rattle.ahci_machine.specs.{Registers.{link_stays, message_of, renewed as renewed_machine}, States.{MachineState, opening_end}}
+use Rattle.machine_laws.proofs.{RisData.{OfPort, in_sent, rising_own}, RisDeeds.{Rising, deed_rises, outer}, RisFan.{FansPass, after_one}}
+use Rattle.machine_laws.proofs.{RisFan.{fan_through, no_device}, RisRun.{FansRenew, Laws, crosses, one_deed, powered_gives, sound_now}}
 use Rattle.machine_laws.proofs.RisStraight.{straight_all}
-use Rattle.machine_laws.specs.Deeds.{Deed, Does, Wrote, Powered}
-use Rattle.machine_laws.specs.Marks.{AnswersMarked, AreMarked, GoesOnMarked, IsMarked, OpensMarked, PortFramesAreSent}
-use Rattle.machine_laws.specs.Rising.{Frames, HaveRisen, IsSoundEnd, Sends, came_by, frames_after, is_multiplier, held_at, is_reset, more_frames, no_frames, sent_by, untaken}
+use Rattle.machine_laws.specs.{Deeds.{Deed, Does, Wrote, Powered}, Marks.{AnswersMarked, AreMarked, GoesOnMarked, IsMarked, OpensMarked}}
+use Rattle.machine_laws.specs.{Marks.PortFramesAreSent, Rising.{Frames, HaveRisen, IsSoundEnd, Sends, came_by, frames_after, is_multiplier, held_at}}
+use Rattle.machine_laws.specs.Rising.{is_reset, more_frames, no_frames, sent_by, untaken}
 
 -- ---- FISes of the control port
 

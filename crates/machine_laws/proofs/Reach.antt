@@ -1,36 +1,23 @@
 -- Each disk of a machine is one that some calls of its own led to.
-use Rattle.std.proofs.Common.{◌≡◌, ℕ, zero, suc, Bool, true, false, List, [], ◌∷◌, ◌++◌, get_or, set, replicate, length, Option, Some, None, Result, Ok, Err, refl, sym, ap, subst, ◌∙◌}
-use Rattle.std.specs.Prelude.{if◌then◌else◌, ◌==◌, MatchResult, IsOk, nat_lt}
-use Rattle.std.specs.Bool.{MatchBool}
-use Rattle.std.specs.Result.{IsErrOf}
-use Rattle.std.proofs.lemmas.Bool.{eqb-true, false≢true, ltb-false}
-use Rattle.std.proofs.lemmas.List.{get_or_past}
+use Rattle.std.proofs.Common.{◌≡◌, ℕ, zero, suc, Bool, true, false, List, [], ◌∷◌, ◌++◌, get_or, set, replicate, length, Option, Some, None, Result}
+use Rattle.std.proofs.{Common.{Ok, Err, refl, sym, ap, subst, ◌∙◌}, lemmas.{Bool.{eqb-true, false≢true, ltb-false}, List.get_or_past}}
+use Rattle.std.specs.{Prelude.{if◌then◌else◌, ◌==◌, MatchResult, IsOk, nat_lt}, Bool.MatchBool, Result.IsErrOf}
 use Rattle.fan_out.specs.declared.seat.NotThere.{NotThere}
 use Rattle.block_engine.specs.declared.request.Answer.{Answer}
 use Rattle.sata_disk.specs.State.{DiskState, new_disk}
-use Rattle.sata_disk_laws.specs.Laws.{DataAreNamed, EndsAreEarned, RequestsAreApart}
-use Rattle.sata_disk_laws.specs.Calls.{AreCalls, Call, after_call, after_calls}
+use Rattle.sata_disk_laws.specs.{Laws.{DataAreNamed, EndsAreEarned, RequestsAreApart}, Calls.{AreCalls, Call, after_call, after_calls}}
 use Rattle.ahci_machine.specs.Acts as acts
-use Rattle.ahci_machine.specs.Answers.{AnswersDisk, AnswersMachine, disk_at, disk_in, is_own, taken_bay}
-use Rattle.ahci_machine.specs.Bays.{begun, with_unit, without_work}
-use Rattle.ahci_machine.specs.Ports.{PullsMachine, PullsOut, Puts, Removes, TakesUnit, filled, has_bay, is_empty, on_bay}
-use Rattle.ahci_machine.specs.States.{MachineState, bay_at, empty_bay}
-use Rattle.ahci_machine.specs.declared.act.Act.{Act}
+use Rattle.ahci_machine.specs.{Answers.{AnswersDisk, AnswersMachine, disk_at, disk_in, is_own, taken_bay}, Bays.{begun, with_unit, without_work}}
+use Rattle.ahci_machine.specs.{Ports.{PullsMachine, PullsOut, Puts, Removes, TakesUnit, filled, has_bay, is_empty, on_bay}, States.MachineState}
+use Rattle.ahci_machine.specs.{States.{bay_at, empty_bay}, declared.{act.Act.Act, answers.MediumError.{MediumError, TheVariants.OtherDisk}}}
+use Rattle.ahci_machine.specs.declared.{bay.{Bay.Bay, Unit.{Unit as Inside, TheVariants.{Disk, Empty, Own}}}, ports.PortFault.PortFault}
+use Rattle.ahci_machine.specs.declared.{ports.PortFault.TheVariants.{NoPort, Taken, NotThere as Absent}, request.MediumId.MediumId}
 use Rattle.ahci_machine.specs.declared.act.Act.TheVariants as act
-use Rattle.ahci_machine.specs.declared.answers.MediumError.{MediumError}
-use Rattle.ahci_machine.specs.declared.answers.MediumError.TheVariants.{OtherDisk}
-use Rattle.ahci_machine.specs.declared.bay.Bay.{Bay}
-use Rattle.ahci_machine.specs.declared.bay.Unit.{Unit as Inside}
-use Rattle.ahci_machine.specs.declared.bay.Unit.TheVariants.{Disk, Empty, Own}
-use Rattle.ahci_machine.specs.declared.ports.PortFault.{PortFault}
-use Rattle.ahci_machine.specs.declared.ports.PortFault.TheVariants.{NoPort, Taken, NotThere as Absent}
-use Rattle.ahci_machine.specs.declared.request.MediumId.{MediumId}
-use Rattle.machine_laws.proofs.Cases.{by_bool, by_option}
-use Rattle.machine_laws.proofs.Apart.{apart, moved, plugged_same}
-use Rattle.machine_laws.proofs.GoOn.{either_way, go_on, here, inside, one_disk, pulled_here}
-use Rattle.machine_laws.specs.Deeds.{Deed, Does, Runs, Moved, Unlent, Wrote, Powered, Supplied, Missed, Answered, Put, Plugged, Pulled, Removed, FrameTaken, FrameOffered}
-use Rattle.machine_laws.specs.Disks.{AreReached, DisksAreReached, GoesOn, IsReached, DisksHaveLaws, OpensReached, PutsReached, calls_at, is_removed}
-use Rattle.machine_laws.specs.Ports.{is_at}
+use Rattle.machine_laws.proofs.{Cases.{by_bool, by_option}, Apart.{apart, moved, plugged_same}, GoOn.{either_way, go_on, here, inside, one_disk}}
+use Rattle.machine_laws.proofs.GoOn.{pulled_here}
+use Rattle.machine_laws.specs.Deeds.{Deed, Does, Runs, Moved, Unlent, Wrote, Powered, Supplied, Missed, Answered, Put, Plugged, Pulled, Removed}
+use Rattle.machine_laws.specs.{Deeds.{FrameTaken, FrameOffered}, Disks.{AreReached, DisksAreReached, GoesOn, IsReached, DisksHaveLaws, OpensReached}}
+use Rattle.machine_laws.specs.{Disks.{PutsReached, calls_at, is_removed}, Ports.is_at}
 
 some_none : (d : DiskState) → Some d ≡ None → ⊥
 some_none d is = subst is_some_here is tt

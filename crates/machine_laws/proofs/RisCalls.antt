@@ -1,27 +1,18 @@
 -- What comes to the controller is what it takes or lets go.
-use Rattle.std.proofs.Common.{◌≡◌, ℕ, Bool, true, false, List, [], ◌∷◌, ◌++◌, append_assoc, Option, Some, None, Result, Ok, Err, refl, sym, ap, ◌∙◌, inl, inr}
-use Rattle.std.specs.Prelude.{MatchOption}
-use Rattle.std.specs.Bool.{MatchBool}
-use Rattle.std.specs.Option.{option_to_list}
-use Rattle.std.specs.declared.alloc.AllocError.{AllocError}
-use Rattle.std.proofs.lemmas.List.{append-nil, map-append}
+use Rattle.std.proofs.Common.{◌≡◌, ℕ, Bool, true, false, List, [], ◌∷◌, ◌++◌, append_assoc, Option, Some, None, Result, Ok, Err, refl, sym, ap, ◌∙◌}
+use Rattle.std.proofs.{Common.{inl, inr}, lemmas.List.{append-nil, map-append}}
+use Rattle.std.specs.{Prelude.MatchOption, Bool.MatchBool, Option.option_to_list, declared.alloc.AllocError.AllocError}
 use Rattle.fis_view.specs.Frames.{Stamped}
 use Rattle.ahci_controller.specs.declared.taking.Hindrance.{Hindrance}
 use Rattle.controller_laws.specs.Events as call
 use Rattle.controller_laws.specs.Events.{Event}
 use Rattle.ahci_machine.specs.Acts as acts
-use Rattle.ahci_machine.specs.Answers.{IsStale, MissesFor, MissesMachine, SuppliesMachine, is_wanted}
-use Rattle.ahci_machine.specs.Gathers.{GatheringState}
-use Rattle.ahci_machine.specs.States.{MachineState, gathering_at}
-use Rattle.ahci_machine.specs.declared.act.Act.{Act}
+use Rattle.ahci_machine.specs.{Answers.{IsStale, MissesFor, MissesMachine, SuppliesMachine, is_wanted}, Gathers.GatheringState, States.MachineState}
+use Rattle.ahci_machine.specs.{States.gathering_at, declared.{act.Act.Act, answers.Told.Told, request.Wanted.{Wanted, TheVariants.{Command, Data}}}}
 use Rattle.ahci_machine.specs.declared.act.Act.TheVariants as act
-use Rattle.ahci_machine.specs.declared.answers.Told.{Told}
-use Rattle.ahci_machine.specs.declared.request.Wanted.{Wanted}
-use Rattle.ahci_machine.specs.declared.request.Wanted.TheVariants.{Command, Data}
-use Rattle.machine_laws.specs.ControllerLaws.{calls_in}
-use Rattle.machine_laws.specs.Controllers.{data_calls, deed_calls, lost_calls, miss_calls, move_calls, rest_calls, supply_calls}
-use Rattle.machine_laws.specs.Deeds.{Deed, Does, Moved, Wrote, Supplied, Missed}
-use Rattle.machine_laws.specs.Rising.{Frames, FramesAreTaken, bytes_of, came_by, frames_in, frames_of, more_frames, move_came, sent_by}
+use Rattle.machine_laws.specs.{ControllerLaws.calls_in, Controllers.{data_calls, deed_calls, lost_calls, miss_calls, move_calls, rest_calls}}
+use Rattle.machine_laws.specs.{Controllers.supply_calls, Deeds.{Deed, Does, Moved, Wrote, Supplied, Missed}, Rising.{Frames, FramesAreTaken}}
+use Rattle.machine_laws.specs.Rising.{bytes_of, came_by, frames_in, frames_of, more_frames, move_came, sent_by}
 
 both_of : (es fs : List Event) → frames_of (es ++ fs) ≡ frames_of es ++ frames_of fs
 both_of [] fs = refl

@@ -1,35 +1,23 @@
 -- Data FISes that come are of the devices, and have the bytes that were sent.
-use Rattle.std.proofs.Common.{◌≡◌, ◌⊎◌, ℕ, ◌+◌, ◌*◌, ◌/◌, ◌%◌, ◌<◌, ◌==◌, Bool, true, false, List, [], ◌∷◌, ◌++◌, length, drop, Some, Result, Ok, Err, refl, sym, ap, ◌∙◌, subst, arith, inl, inr, All, Contains, filter}
+use Rattle.std.proofs.Common.{◌≡◌, ◌⊎◌, ℕ, ◌+◌, ◌*◌, ◌/◌, ◌%◌, ◌<◌, ◌==◌, Bool, true, false, List, [], ◌∷◌, ◌++◌, length, drop, Some, Result, Ok, Err}
+use Rattle.std.proofs.{Common.{refl, sym, ap, ◌∙◌, subst, arith, inl, inr, All, Contains, filter}, lemmas.Bool.{and_from, and_parts, eq-eqb}}
+use Rattle.std.proofs.lemmas.{Bool.{eqb-true, true≢false, false≢true}, List.{get_or-set_same, length-set, Elements.{All-append, All-cons}}}
+use Rattle.std.proofs.lemmas.List.Elements.{All-contains, All-contains_itself, All-filter, All-nil, All-same, All-weaker, Contains-append_left}
+use Rattle.std.proofs.lemmas.{List.Elements.{Contains-append_right, Contains-push}, Nat.{mod-mul-add}}
 use Rattle.std.specs.Prelude.{if◌then◌else◌, ◌&&◌, slice_index}
-use Rattle.std.proofs.lemmas.Bool.{and_from, and_parts, eq-eqb, eqb-true, true≢false, false≢true}
-use Rattle.std.proofs.lemmas.List.{get_or-set_same, length-set}
-use Rattle.std.proofs.lemmas.List.Elements.{All-append, All-cons, All-contains, All-contains_itself, All-filter, All-nil, All-same, All-weaker, Contains-append_left, Contains-append_right, Contains-push}
-use Rattle.std.proofs.lemmas.Nat.{mod-mul-add}
-use Rattle.fis_view.specs.Frames.{IsFrame, Stamped, marked}
-use Rattle.fis_view.specs.Built.{IsBuilt, cut, set_bits_given}
-use Rattle.fis_view.specs.Seen.{kind_of_type, may_have, seen, view_as}
-use Rattle.fis_view.specs.Table.{Bits, SActive, field, places}
-use Rattle.fis_view.specs.declared.view.Fis.{Fis}
+use Rattle.fis_view.specs.{Frames.{IsFrame, Stamped, marked}, Built.{IsBuilt, cut, set_bits_given}, Seen.{kind_of_type, may_have, seen, view_as}}
+use Rattle.fis_view.specs.{Table.{Bits, SActive, field, places}, declared.view.{Fis.Fis, FisFault.{FisFault, TheVariants.WrongLength}}}
 use Rattle.fis_view.specs.declared.view.Fis.TheVariants as view
-use Rattle.fis_view.specs.declared.view.FisFault.{FisFault}
-use Rattle.fis_view.specs.declared.view.FisFault.TheVariants.{WrongLength}
 use Rattle.fis_view.proofs.Door.{frame_bounds}
-use Rattle.multiplier.specs.Between.{Gives, FromPort, Notice, Answer}
-use Rattle.multiplier.specs.Passing.{of_conn}
-use Rattle.multiplier.specs.Rules.{NextUpRule}
-use Rattle.multiplier.specs.State.{pm_port, ready, rising}
+use Rattle.multiplier.specs.{Between.{Gives, FromPort, Notice, Answer}, Passing.of_conn, Rules.NextUpRule, State.{pm_port, ready, rising}}
 use Rattle.multiplier.proofs.Door.{gives, served_below}
 use Rattle.block_queue.specs.Line.{command_at}
-use Rattle.sata_disk.specs.Sending.{part_at}
-use Rattle.sata_disk.specs.State.{commands}
-use Rattle.fan_out.specs.Calls.{FanCall, GiveUp, Does as FanDoes, given, given_by}
-use Rattle.fan_out.specs.Fans.{FanState, IsFan}
-use Rattle.fan_out.specs.declared.fan_out.FanOut.{FanOut}
+use Rattle.sata_disk.specs.{Sending.part_at, State.commands}
+use Rattle.fan_out.specs.{Calls.{FanCall, GiveUp, Does as FanDoes, given, given_by}, Fans.{FanState, IsFan}, declared.fan_out.FanOut.FanOut}
 use Rattle.fan_out.specs.declared.fan_out.FanOut.TheVariants.{Device, Multiplier}
-use Rattle.machine_laws.proofs.RisFan.{FansPass, Passage, after_one, fan_through, no_device}
-use Rattle.machine_laws.proofs.RisRun.{crosses}
-use Rattle.machine_laws.proofs.RisStraight.{straight_all}
-use Rattle.machine_laws.specs.Rising.{CarriesPart, DataAreSent, DataCarryParts, IsNaming, IsSoundEnd, NamingAreSent, Sends, held_at, is_multiplier, risen, untaken}
+use Rattle.machine_laws.proofs.{RisFan.{FansPass, Passage, after_one, fan_through, no_device}, RisRun.crosses, RisStraight.straight_all}
+use Rattle.machine_laws.specs.Rising.{CarriesPart, DataAreSent, DataCarryParts, IsNaming, IsSoundEnd, NamingAreSent, Sends, held_at, is_multiplier}
+use Rattle.machine_laws.specs.Rising.{risen, untaken}
 
 -- ---- what a disk sends
 

@@ -1,55 +1,34 @@
 -- What each deed is to the FISes of the devices: one is sent, goes up, comes to the controller, or all stay.
-use Rattle.std.proofs.Common.{◌≡◌, ℕ, Bool, true, false, not, List, [], ◌∷◌, ◌++◌, set, Option, Some, None, Result, Ok, Err, refl, sym, ap, ◌∙◌, subst, inl, inr}
-use Rattle.std.specs.Prelude.{if◌then◌else◌, ◌||◌, is_some, is_none, nat_lt, MatchOption, IsOk, OnErr, OnOk}
-use Rattle.std.specs.Bool.{MatchBool}
-use Rattle.std.specs.Option.{option_to_list}
-use Rattle.std.specs.Result.{IsErrOf}
-use Rattle.std.specs.declared.alloc.AllocError.{AllocError}
-use Rattle.std.proofs.lemmas.Bool.{and_parts, false≢true, true≢false}
-use Rattle.std.proofs.lemmas.List.{append-nil}
+use Rattle.std.proofs.Common.{◌≡◌, ℕ, Bool, true, false, not, List, [], ◌∷◌, ◌++◌, set, Option, Some, None, Result, Ok, Err, refl, sym, ap, ◌∙◌}
+use Rattle.std.proofs.{Common.{subst, inl, inr}, lemmas.{Bool.{and_parts, false≢true, true≢false}, List.{append-nil}}}
+use Rattle.std.specs.{Prelude.{if◌then◌else◌, ◌||◌, is_some, is_none, nat_lt, MatchOption, IsOk, OnErr, OnOk}, Bool.MatchBool, Option.option_to_list}
+use Rattle.std.specs.{Result.IsErrOf, declared.alloc.AllocError.AllocError}
 use Rattle.fis_view.specs.Frames.{Stamped}
-use Rattle.pm_ports.specs.declared.port.Offered.{Offered}
-use Rattle.pm_ports.specs.declared.port.Offered.TheVariants.{Held, Dropped}
+use Rattle.pm_ports.specs.declared.port.Offered.{Offered, TheVariants.{Held, Dropped}}
 use Rattle.multiplier.specs.State.{port_at}
 use Rattle.fan_out.specs.Calls.{FanCall, Plug, Pull, Send, GiveUp, GiveDown, Offer, Tell, Does as FanDoes, given, given_by, waits_at}
-use Rattle.fan_out.specs.FanOuts.{Offers, OffersAt, has_port, wants_at, wants_there}
-use Rattle.fan_out.specs.Fans.{FanState, held_fan, seat_at}
-use Rattle.fan_out.specs.Seats.{after_sent}
-use Rattle.fan_out.specs.Straights.{StraightState, answering}
-use Rattle.fan_out.specs.declared.fan_out.FanOut.{FanOut}
-use Rattle.fan_out.specs.declared.fan_out.FanOut.TheVariants.{Device, Multiplier}
+use Rattle.fan_out.specs.{FanOuts.{Offers, OffersAt, has_port, wants_at, wants_there}, Fans.{FanState, held_fan, seat_at}, Seats.after_sent}
+use Rattle.fan_out.specs.{Straights.{StraightState, answering}, declared.fan_out.FanOut.{FanOut, TheVariants.{Device, Multiplier}}}
 use Rattle.pm_ports.specs.Port as port
 use Rattle.block_engine.specs.declared.request.Answer.{Answer}
 use Rattle.sata_disk.specs.State.{DiskState}
-use Rattle.ahci_controller.specs.declared.feeding.Fed.{Fed}
+use Rattle.ahci_controller.specs.declared.{feeding.Fed.Fed, next.Next.Next}
 use Rattle.ahci_controller.specs.declared.feeding.Fed.TheVariants as fed
-use Rattle.ahci_controller.specs.declared.next.Next.{Next}
 use Rattle.ahci_controller.specs.declared.next.Next.TheVariants as next
 use Rattle.ahci_machine.specs.Acts as acts
-use Rattle.ahci_machine.specs.Acts.{with_controller, with_gathering}
-use Rattle.ahci_machine.specs.Answers.{AnswersDisk, AnswersMachine, IsStale, MissesFor, MissesMachine, OffersFrame, SuppliesData, SuppliesMachine, disk_at, is_own, is_wanted, taken_bay}
-use Rattle.ahci_machine.specs.Bays.{with_unit}
-use Rattle.ahci_machine.specs.Gathers.{GatheringState}
-use Rattle.ahci_machine.specs.Ports.{PlugsIn, PlugsMachine, PullsMachine, PullsOut, Puts, TakesUnit, filled, has_bay, is_empty, on_bay}
-use Rattle.ahci_machine.specs.Registers.{link_stays, message_of, renewed}
-use Rattle.ahci_machine.specs.States.{MachineState, bay_at, gathering_at}
-use Rattle.ahci_machine.specs.declared.act.Act.{Act}
-use Rattle.ahci_machine.specs.declared.act.Act.TheVariants as act
-use Rattle.ahci_machine.specs.declared.answers.MediumError.{MediumError}
-use Rattle.ahci_machine.specs.declared.answers.MediumError.TheVariants.{OtherDisk}
-use Rattle.ahci_machine.specs.declared.answers.Told.{Told}
-use Rattle.ahci_machine.specs.declared.bay.Bay.{Bay}
-use Rattle.ahci_machine.specs.declared.bay.Unit.{Unit as Inside}
-use Rattle.ahci_machine.specs.declared.bay.Unit.TheVariants.{Empty}
-use Rattle.ahci_machine.specs.declared.ports.PortFault.{PortFault}
-use Rattle.ahci_machine.specs.declared.ports.PortFault.TheVariants.{NoPort, Taken, NotThere as Absent}
-use Rattle.ahci_machine.specs.declared.request.MediumId.{MediumId}
-use Rattle.ahci_machine.specs.declared.request.Wanted.{Wanted}
+use Rattle.ahci_machine.specs.{Acts.{with_controller, with_gathering}, Answers.{AnswersDisk, AnswersMachine, IsStale, MissesFor, MissesMachine}}
+use Rattle.ahci_machine.specs.{Answers.{OffersFrame, SuppliesData, SuppliesMachine, disk_at, is_own, is_wanted, taken_bay}, Bays.with_unit}
+use Rattle.ahci_machine.specs.{Gathers.GatheringState, Ports.{PlugsIn, PlugsMachine, PullsMachine, PullsOut, Puts, TakesUnit, filled, has_bay}}
+use Rattle.ahci_machine.specs.{Ports.{is_empty, on_bay}, Registers.{link_stays, message_of, renewed}, States.{MachineState, bay_at, gathering_at}}
+use Rattle.ahci_machine.specs.declared.{act.Act.Act, answers.{MediumError.{MediumError, TheVariants.OtherDisk}, Told.Told}, bay.Bay.Bay}
+use Rattle.ahci_machine.specs.declared.{bay.Unit.{Unit as Inside, TheVariants.Empty}, ports.PortFault.{PortFault, TheVariants.{NoPort, Taken}}}
+use Rattle.ahci_machine.specs.declared.{ports.PortFault.TheVariants.NotThere as Absent, request.{MediumId.MediumId, Wanted.Wanted}}
 use Rattle.ahci_machine.specs.declared.request.Wanted.TheVariants.{Command, Data}
+use Rattle.ahci_machine.specs.declared.act.Act.TheVariants as act
 use Rattle.machine_laws.proofs.Beside as beside
 use Rattle.machine_laws.proofs.Cases.{by_bool, by_option}
-use Rattle.machine_laws.specs.Deeds.{Deed, Does, Moved, Unlent, Wrote, Powered, Supplied, Missed, Answered, Put, Plugged, Pulled, Removed, FrameTaken, FrameOffered}
-use Rattle.machine_laws.specs.Rising.{Sends, came_by, is_reset, move_came, move_sent, risen, sent_by, sent_call, unless_back}
+use Rattle.machine_laws.specs.Deeds.{Deed, Does, Moved, Unlent, Wrote, Powered, Supplied, Missed, Answered, Put, Plugged, Pulled, Removed, FrameTaken}
+use Rattle.machine_laws.specs.{Deeds.FrameOffered, Rising.{Sends, came_by, is_reset, move_came, move_sent, risen, sent_by, sent_call, unless_back}}
 
 -- what is behind the controller, and the frame on its way to it
 abbrev pub Outer : Type 0

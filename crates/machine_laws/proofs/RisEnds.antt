@@ -1,34 +1,24 @@
 -- What ends a connection, and what does not.
-use Rattle.std.proofs.Common.{◌≡◌, ◌≢◌, ℕ, ◌<◌, ◌≤◌, ◌==◌, Bool, true, false, length, Option, Some, None, Result, Ok, Err, refl, sym, ap, ◌∙◌, subst, arith}
-use Rattle.std.specs.Prelude.{if◌then◌else◌, ◌&&◌, nat_lt, is_none, is_some, slice_set, MatchOption, MatchResult}
-use Rattle.std.specs.Bool.{MatchBool}
-use Rattle.std.proofs.lemmas.Bool.{and_parts, eqb-false, ltb-true, true≢false, false≢true}
-use Rattle.std.proofs.lemmas.Option.{same_Some}
+use Rattle.std.proofs.Common.{◌≡◌, ◌≢◌, ℕ, ◌<◌, ◌≤◌, ◌==◌, Bool, true, false, length, Option, Some, None, Result, Ok, Err, refl, sym, ap, ◌∙◌, subst}
+use Rattle.std.proofs.{Common.arith, lemmas.{Bool.{and_parts, eqb-false, ltb-true, true≢false, false≢true}, Option.same_Some}}
+use Rattle.std.specs.{Prelude.{if◌then◌else◌, ◌&&◌, nat_lt, is_none, is_some, slice_set, MatchOption, MatchResult}, Bool.MatchBool}
 use Rattle.fis_view.specs.Frames.{Stamped}
 use Rattle.pm_ports.specs.Port as port
-use Rattle.pm_ports.specs.declared.port.Offered.{Offered}
-use Rattle.pm_ports.specs.declared.port.Offered.TheVariants.{Held, Dropped}
-use Rattle.multiplier.specs.Rules.{NextDownRule, with_device}
-use Rattle.multiplier.specs.State.{PmState, port_at}
-use Rattle.multiplier.specs.declared.multiplier.Passed.{Passed}
-use Rattle.multiplier.specs.declared.multiplier.Passed.TheVariants as passed
+use Rattle.pm_ports.specs.declared.port.Offered.{Offered, TheVariants.{Held, Dropped}}
+use Rattle.multiplier.specs.{Rules.{NextDownRule, with_device}, State.{PmState, port_at, pm_port}, declared.multiplier.Passed.Passed}
 use Rattle.multiplier.specs.declared.multiplier.PmRefusal.{PmRefusal}
+use Rattle.multiplier.specs.declared.multiplier.Passed.TheVariants as passed
 use Rattle.multiplier.specs.declared.multiplier.PmRefusal.TheVariants as refusal
 use Rattle.multiplier.proofs.Door.{kept_part, other_port, this_port, up_to}
-use Rattle.fan_out.specs.Calls.{FanCall, Plug, Pull, Send, GiveUp, GiveDown, Offer, Tell, Does as FanDoes}
-use Rattle.fan_out.specs.FanOuts.{port_count}
-use Rattle.fan_out.specs.Fans.{FanState, IsFan, OffersFan, PlugsFan, PullsFan, SendsFan, Through, controlled, heeded, held_fan, held_in_reset, is_in_reset as holds_in_reset, joined, on, only_in_reset, parted, rejoined, seat_at, waiting}
-use Rattle.fan_out.specs.Seats.{after_sent, next_connection, seated, told}
-use Rattle.fan_out.specs.Straights.{GivesDown, GivesUp, OffersStraight, PlugsStraight, PullsStraight, SendsStraight, StraightState, TellsStraight, addressed, answering, on_port, pointed}
-use Rattle.multiplier.specs.State.{pm_port}
-use Rattle.fan_out.specs.declared.fan_out.FanOut.{FanOut}
-use Rattle.fan_out.specs.declared.fan_out.FanOut.TheVariants.{Device, Multiplier}
-use Rattle.fan_out.specs.declared.seat.NotThere.{NotThere}
-use Rattle.fan_out.specs.declared.seat.PlugError.{PlugError}
+use Rattle.fan_out.specs.{Calls.{FanCall, Plug, Pull, Send, GiveUp, GiveDown, Offer, Tell, Does as FanDoes}, FanOuts.port_count, Fans.FanState}
+use Rattle.fan_out.specs.Fans.{IsFan, OffersFan, PlugsFan, PullsFan, SendsFan, Through, controlled, heeded, held_fan, held_in_reset}
+use Rattle.fan_out.specs.{Fans.{is_in_reset as holds_in_reset, joined, on, only_in_reset, parted, rejoined, seat_at, waiting}, Seats.after_sent}
+use Rattle.fan_out.specs.{Seats.{next_connection, seated, told}, Straights.{GivesDown, GivesUp, OffersStraight, PlugsStraight, PullsStraight}}
+use Rattle.fan_out.specs.Straights.{SendsStraight, StraightState, TellsStraight, addressed, answering, on_port, pointed}
+use Rattle.fan_out.specs.declared.{fan_out.FanOut.{FanOut, TheVariants.{Device, Multiplier}}, seat.{NotThere.NotThere, PlugError.PlugError}}
 use Rattle.fan_out.specs.declared.seat.PlugError.TheVariants.{NoPort}
 use Rattle.machine_laws.specs.Rising.{IsSoundEnd, is_in_reset, is_over, port_of}
-use Rattle.machine_laws.proofs.RisFan.{no_device}
-use Rattle.machine_laws.proofs.RisStraight.{no_multiplier}
+use Rattle.machine_laws.proofs.{RisFan.no_device, RisStraight.no_multiplier}
 
 abbrev gone_at : FanOut → ℕ → ℕ
 gone_at f n = (port_of f n).gone

@@ -1,24 +1,16 @@
 -- FISes pass a multiplier in order, by its law.
-use Rattle.std.proofs.Common.{◌≡◌, ℕ, ◌<◌, ◌≤◌, ◌==◌, Bool, true, false, List, [], ◌∷◌, ◌++◌, append_assoc, length, Option, Some, None, Result, Ok, Err, refl, sym, ap, ◌∙◌, subst, arith}
-use Rattle.std.specs.Prelude.{if◌then◌else◌, ◌&&◌, nat_lt, is_none, MatchResult}
-use Rattle.std.specs.Bool.{MatchBool}
-use Rattle.std.proofs.lemmas.Bool.{eqb-true, ltb-true, true≢false, false≢true}
-use Rattle.std.proofs.lemmas.List.{append-nil}
+use Rattle.std.proofs.Common.{◌≡◌, ℕ, ◌<◌, ◌≤◌, ◌==◌, Bool, true, false, List, [], ◌∷◌, ◌++◌, append_assoc, length, Option, Some, None, Result, Ok}
+use Rattle.std.proofs.{Common.{Err, refl, sym, ap, ◌∙◌, subst, arith}, lemmas.{Bool.{eqb-true, ltb-true, true≢false, false≢true}, List.{append-nil}}}
 use Rattle.std.proofs.lemmas.List.Elements.{filter-append}
+use Rattle.std.specs.{Prelude.{if◌then◌else◌, ◌&&◌, nat_lt, is_none, MatchResult}, Bool.MatchBool}
 use Rattle.fis_view.specs.Frames.{Stamped}
 use Rattle.pm_ports.specs.Port as port
-use Rattle.pm_ports.specs.declared.port.Offered.{Offered}
-use Rattle.pm_ports.specs.declared.port.Offered.TheVariants.{Held, Dropped}
-use Rattle.multiplier.specs.Passing.{held_of, of_conn}
-use Rattle.multiplier.specs.State.{port_at, rising}
+use Rattle.pm_ports.specs.declared.port.Offered.{Offered, TheVariants.{Held, Dropped}}
+use Rattle.multiplier.specs.{Passing.{held_of, of_conn}, State.{port_at, rising}}
 use Rattle.multiplier.proofs.Door.{this_port}
 use Rattle.fan_out.specs.Calls.{FanCall, Plug, Pull, Send, GiveUp, GiveDown, Offer, Tell, Does, DoesAll, PassesInOrder, given, offered, offered_by}
-use Rattle.fan_out.specs.Fans.{FanState, IsFan, OffersFan, held_fan, seat_at, waiting}
-use Rattle.fan_out.specs.Straights.{StraightState}
-use Rattle.fan_out.specs.declared.fan_out.FanOut.{FanOut}
-use Rattle.fan_out.specs.declared.fan_out.FanOut.TheVariants.{Device, Multiplier}
-use Rattle.fan_out.specs.declared.seat.NotThere.{NotThere}
-use Rattle.fan_out.specs.declared.seat.PlugError.TheVariants.{NoPort}
+use Rattle.fan_out.specs.{Fans.{FanState, IsFan, OffersFan, held_fan, seat_at, waiting}, Straights.StraightState, declared.fan_out.FanOut.FanOut}
+use Rattle.fan_out.specs.declared.{fan_out.FanOut.TheVariants.{Device, Multiplier}, seat.{NotThere.NotThere, PlugError.TheVariants.NoPort}}
 use Rattle.machine_laws.specs.Rising.{IsSoundEnd, Sends, held_at, is_multiplier, is_over, sent_call}
 
 -- of a connection, what the host is given, and then what waits, is a beginning of what waited, and then of what was sent

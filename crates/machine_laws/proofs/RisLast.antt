@@ -1,34 +1,22 @@
 -- A connection lasts over each deed that may not end it; a pull and the end of a reset by SControl end it.
-use Rattle.std.proofs.Common.{◌≡◌, ℕ, ◌<◌, ◌==◌, Bool, true, false, Some, None, Result, Ok, Err, refl, sym, ap, ◌∙◌, subst}
-use Rattle.std.specs.Prelude.{◌||◌, MatchResult}
-use Rattle.std.specs.Bool.{MatchBool}
-use Rattle.std.specs.Result.{IsErrOf}
-use Rattle.std.proofs.lemmas.Bool.{lt-ltb, true≢false, false≢true}
+use Rattle.std.proofs.{Common.{◌≡◌, ℕ, ◌<◌, ◌==◌, Bool, true, false, Some, None, Result, Ok, Err, refl, sym, ap, ◌∙◌, subst}, lemmas.Bool.{lt-ltb}}
+use Rattle.std.proofs.lemmas.Bool.{true≢false, false≢true}
+use Rattle.std.specs.{Prelude.{◌||◌, MatchResult}, Bool.MatchBool, Result.IsErrOf}
 use Rattle.fis_view.specs.Frames.{Stamped}
 use Rattle.pm_ports.specs.declared.port.Offered.TheVariants.{Held}
-use Rattle.multiplier.specs.declared.multiplier.Passed.{Passed}
-use Rattle.multiplier.specs.declared.multiplier.PmRefusal.{PmRefusal}
-use Rattle.fan_out.specs.Calls.{Plug, Pull, Send, GiveUp, GiveDown, Offer, Tell, ResetEndsConnection, waits_at}
-use Rattle.fan_out.specs.FanOuts.{PullsAt, Sends as FanSends, has_port, port_count}
-use Rattle.fan_out.specs.Fans.{FanState, IsFan, SendsFan, seat_at}
-use Rattle.fan_out.specs.declared.fan_out.FanOut.{FanOut}
-use Rattle.fan_out.specs.declared.fan_out.FanOut.TheVariants.{Device, Multiplier}
-use Rattle.fan_out.specs.declared.seat.NotThere.{NotThere}
+use Rattle.multiplier.specs.declared.multiplier.{Passed.Passed, PmRefusal.PmRefusal}
+use Rattle.fan_out.specs.{Calls.{Plug, Pull, Send, GiveUp, GiveDown, Offer, Tell, ResetEndsConnection, waits_at}, FanOuts.PullsAt}
+use Rattle.fan_out.specs.{FanOuts.{Sends as FanSends, has_port, port_count}, Fans.{FanState, IsFan, SendsFan, seat_at}}
+use Rattle.fan_out.specs.declared.{fan_out.FanOut.{FanOut, TheVariants.{Device, Multiplier}}, seat.NotThere.NotThere}
 use Rattle.ahci_machine.specs.Acts as acts
-use Rattle.ahci_machine.specs.Acts.{with_controller, with_gathering}
-use Rattle.ahci_machine.specs.Answers.{OffersFrame, is_own, taken_bay}
-use Rattle.ahci_machine.specs.Ports.{PlugsIn, PlugsMachine, PullsMachine, PullsOut, has_bay, is_empty}
-use Rattle.ahci_machine.specs.Registers.{link_stays, message_of}
-use Rattle.ahci_machine.specs.States.{MachineState, bay_at}
-use Rattle.ahci_machine.specs.declared.act.Act.{Act}
+use Rattle.ahci_machine.specs.{Acts.{with_controller, with_gathering}, Answers.{OffersFrame, is_own, taken_bay}, Ports.{PlugsIn, PlugsMachine}}
+use Rattle.ahci_machine.specs.{Ports.{PullsMachine, PullsOut, has_bay, is_empty}, Registers.{link_stays, message_of}, States.{MachineState, bay_at}}
+use Rattle.ahci_machine.specs.declared.{act.Act.Act, ports.PortFault.{PortFault, TheVariants.{NoPort, NotThere as Absent}}}
 use Rattle.ahci_machine.specs.declared.act.Act.TheVariants as act
-use Rattle.ahci_machine.specs.declared.ports.PortFault.{PortFault}
-use Rattle.ahci_machine.specs.declared.ports.PortFault.TheVariants.{NoPort, NotThere as Absent}
-use Rattle.machine_laws.proofs.Cases.{by_bool}
-use Rattle.machine_laws.proofs.RisDeeds.{Still, answered, does_next, frame_by, goes_by, missed, outer, put, rests, serves, supplied, taken_away, wrote}
-use Rattle.machine_laws.proofs.RisEnds.{fan_ends, over_keeps, straight_ends}
-use Rattle.machine_laws.specs.Deeds.{Deed, Does, Moved, Unlent, Wrote, Powered, Supplied, Missed, Answered, Put, Plugged, Pulled, Removed, FrameTaken, FrameOffered}
-use Rattle.machine_laws.specs.Rising.{ConnectionsLast, IsSoundEnd, PullsEnd, ResetsEnd, is_over, may_end, port_of}
+use Rattle.machine_laws.proofs.{Cases.by_bool, RisDeeds.{Still, answered, does_next, frame_by, goes_by, missed, outer, put, rests, serves, supplied}}
+use Rattle.machine_laws.proofs.{RisDeeds.{taken_away, wrote}, RisEnds.{fan_ends, over_keeps, straight_ends}}
+use Rattle.machine_laws.specs.Deeds.{Deed, Does, Moved, Unlent, Wrote, Powered, Supplied, Missed, Answered, Put, Plugged, Pulled, Removed, FrameTaken}
+use Rattle.machine_laws.specs.{Deeds.FrameOffered, Rising.{ConnectionsLast, IsSoundEnd, PullsEnd, ResetsEnd, is_over, may_end, port_of}}
 
 module _ (n c : ℕ) where
   abbrev Lasts : MachineState → MachineState → Type 0

@@ -1,16 +1,13 @@
 -- Of a connection that is over nothing more comes.
-use Rattle.std.proofs.Common.{◌≡◌, Bool, List, [], ◌∷◌, ◌++◌, append_assoc, refl, sym, ap, ◌∙◌, subst}
-use Rattle.std.proofs.lemmas.List.{append-nil}
+use Rattle.std.proofs.{Common.{◌≡◌, Bool, List, [], ◌∷◌, ◌++◌, append_assoc, refl, sym, ap, ◌∙◌, subst}, lemmas.List.{append-nil}}
 use Rattle.fis_view.specs.Frames.{Stamped}
 use Rattle.multiplier.specs.Passing.{of_conn}
 use Rattle.fan_out.specs.Calls.{given}
 use Rattle.ahci_machine.specs.States.{MachineState}
-use Rattle.machine_laws.proofs.RisDeeds.{IsThere, Outer, Rising, deed_rises, outer, way}
-use Rattle.machine_laws.proofs.RisFan.{then_sends, two}
-use Rattle.machine_laws.proofs.RisRun.{Laws, given_both, passes, sound_now}
-use Rattle.machine_laws.specs.ControllerLaws.{RunsRuled}
-use Rattle.machine_laws.specs.Deeds.{Deed}
-use Rattle.machine_laws.specs.Rising.{AreLinked, Frames, FramesAreOver, came_by, frames_in, more_frames, sent_by, untaken}
+use Rattle.machine_laws.proofs.{RisDeeds.{IsThere, Outer, Rising, deed_rises, outer, way}, RisFan.{then_sends, two}, RisRun.{Laws, given_both}}
+use Rattle.machine_laws.proofs.RisRun.{passes, sound_now}
+use Rattle.machine_laws.specs.{ControllerLaws.RunsRuled, Deeds.Deed, Rising.{AreLinked, Frames, FramesAreOver, came_by, frames_in, more_frames}}
+use Rattle.machine_laws.specs.Rising.{sent_by, untaken}
 
 then_rises : (a b d : Outer) (c1 c2 s1 s2 : List Stamped) → Rising a c1 s1 b → Rising b c2 s2 d → Rising a (c1 ++ c2) (s1 ++ s2) d
 then_rises a b d c1 c2 s1 s2 first next = record {

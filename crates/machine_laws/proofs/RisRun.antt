@@ -1,30 +1,20 @@
 -- Over every run the FISes of the devices go to the controller in order.
-use Rattle.std.proofs.Common.{◌≡◌, ℕ, zero, suc, ◌≤◌, Bool, true, false, not, List, [], ◌∷◌, ◌++◌, append_assoc, map, min, replicate, Option, Some, None, refl, sym, ap, ◌∙◌, subst, arith}
-use Rattle.std.specs.Prelude.{◌||◌, if◌then◌else◌, is_some, slice_index_or, slice_set}
-use Rattle.std.specs.Option.{option_to_list}
-use Rattle.std.proofs.lemmas.Bool.{true≢false, false≢true}
-use Rattle.std.proofs.lemmas.Grind.{flat_map-append}
+use Rattle.std.proofs.Common.{◌≡◌, ℕ, zero, suc, ◌≤◌, Bool, true, false, not, List, [], ◌∷◌, ◌++◌, append_assoc, map, min, replicate, Option, Some}
+use Rattle.std.proofs.{Common.{None, refl, sym, ap, ◌∙◌, subst, arith}, lemmas.{Bool.{true≢false, false≢true}, Grind.{flat_map-append}}}
+use Rattle.std.specs.{Prelude.{◌||◌, if◌then◌else◌, is_some, slice_index_or, slice_set}, Option.option_to_list}
 use Rattle.fis_view.specs.Frames.{Stamped}
 use Rattle.pm_ports.specs.Port as port
-use Rattle.multiplier.specs.Passing.{of_conn}
-use Rattle.multiplier.specs.Rules.{with_device}
-use Rattle.multiplier.specs.State.{first_port, opening, port_at, rising}
+use Rattle.multiplier.specs.{Passing.of_conn, Rules.with_device, State.{first_port, opening, port_at, rising}}
 use Rattle.multiplier.proofs.Door.{kept_part, opens_sound}
-use Rattle.fan_out.specs.Calls.{FanCall, Does as FanDoes, given, given_by}
-use Rattle.fan_out.specs.FanOuts.{renewed_end}
-use Rattle.fan_out.specs.Fans.{FanState, IsFan, IsRenewed, all_joined, joined, joined_again, opening_fan, renewed as renewed_fan, seat_at}
-use Rattle.fan_out.specs.Seats.{connection, empty_seat, seated}
-use Rattle.fan_out.specs.Straights.{StraightState, renewed as renewed_straight}
-use Rattle.fan_out.specs.declared.fan_out.FanOut.{FanOut}
-use Rattle.fan_out.specs.declared.fan_out.FanOut.TheVariants.{Device, Multiplier}
+use Rattle.fan_out.specs.{Calls.{FanCall, Does as FanDoes, given, given_by}, FanOuts.renewed_end, Fans.{FanState, IsFan, IsRenewed, all_joined}}
+use Rattle.fan_out.specs.{Fans.{joined, joined_again, opening_fan, renewed as renewed_fan, seat_at}, Seats.{connection, empty_seat, seated}}
+use Rattle.fan_out.specs.{Straights.{StraightState, renewed as renewed_straight}, declared.fan_out.FanOut.{FanOut, TheVariants.{Device, Multiplier}}}
 use Rattle.fan_out.specs.declared.seat.Seat.{Seat}
-use Rattle.ahci_machine.specs.Registers.{link_stays, message_of, powered, renewed}
-use Rattle.ahci_machine.specs.States.{MachineState, opening_end}
-use Rattle.machine_laws.proofs.RisDeeds.{Rising, deed_rises, outer}
-use Rattle.machine_laws.proofs.RisFan.{FansPass, Passage, Through, fan_through, no_device, then_sends, two}
+use Rattle.ahci_machine.specs.{Registers.{link_stays, message_of, powered, renewed}, States.{MachineState, opening_end}}
+use Rattle.machine_laws.proofs.{RisDeeds.{Rising, deed_rises, outer}, RisFan.{FansPass, Passage, Through, fan_through, no_device, then_sends, two}}
 use Rattle.machine_laws.proofs.RisStraight.{no_multiplier, opening_sound, renewed_none, renewed_sound, straight_through}
-use Rattle.machine_laws.specs.Deeds.{Deed, Does, Wrote, Powered}
-use Rattle.machine_laws.specs.Rising.{Frames, FramesRise, GoesOnRising, HaveRisen, IsSoundEnd, OpensRising, Sends, came_by, frames_after, held_at, is_multiplier, is_reset, more_frames, no_frames, sent_by, untaken}
+use Rattle.machine_laws.specs.{Deeds.{Deed, Does, Wrote, Powered}, Rising.{Frames, FramesRise, GoesOnRising, HaveRisen, IsSoundEnd, OpensRising}}
+use Rattle.machine_laws.specs.Rising.{Sends, came_by, frames_after, held_at, is_multiplier, is_reset, more_frames, no_frames, sent_by, untaken}
 
 -- ---- either kind
 

@@ -1,33 +1,21 @@
 -- FISes pass the link of one device in order.
-use Rattle.std.proofs.Common.{◌≡◌, ℕ, ◌<◌, ◌≤◌, ◌==◌, Bool, true, false, not, List, [], ◌∷◌, ◌++◌, append_assoc, Option, Some, None, Result, Ok, Err, refl, sym, ap, ◌∙◌, subst, arith}
-use Rattle.std.specs.Prelude.{if◌then◌else◌, ◌&&◌, nat_lt, is_none, is_some, slice_index, MatchOption, MatchResult}
-use Rattle.std.specs.Bool.{MatchBool}
-use Rattle.std.specs.Option.{option_to_list}
-use Rattle.std.proofs.lemmas.Bool.{eqb-true, true≢false, false≢true}
-use Rattle.std.proofs.lemmas.List.{append-nil}
-use Rattle.std.proofs.lemmas.Nat.{mod_below}
+use Rattle.std.proofs.Common.{◌≡◌, ℕ, ◌<◌, ◌≤◌, ◌==◌, Bool, true, false, not, List, [], ◌∷◌, ◌++◌, append_assoc, Option, Some, None, Result, Ok, Err}
+use Rattle.std.proofs.{Common.{refl, sym, ap, ◌∙◌, subst, arith}, lemmas.{Bool.{eqb-true, true≢false, false≢true}, List.{append-nil}, Nat.mod_below}}
 use Rattle.std.proofs.lemmas.Option.{same_Some}
+use Rattle.std.specs.{Prelude.{if◌then◌else◌, ◌&&◌, nat_lt, is_none, is_some, slice_index, MatchOption, MatchResult}, Bool.MatchBool}
+use Rattle.std.specs.Option.{option_to_list}
 use Rattle.fis_view.specs.Frames.{Stamped}
 use Rattle.pm_ports.specs.Port as port
-use Rattle.pm_ports.specs.declared.port.Offered.{Offered}
-use Rattle.pm_ports.specs.declared.port.Offered.TheVariants.{Held, Dropped}
-use Rattle.multiplier.specs.Passing.{of_conn}
-use Rattle.multiplier.specs.State.{pm_port}
-use Rattle.multiplier.specs.declared.multiplier.Passed.{Passed}
+use Rattle.pm_ports.specs.declared.port.Offered.{Offered, TheVariants.{Held, Dropped}}
+use Rattle.multiplier.specs.{Passing.of_conn, State.pm_port, declared.multiplier.{Passed.Passed, PmRefusal.PmRefusal}}
 use Rattle.multiplier.specs.declared.multiplier.Passed.TheVariants as passed
-use Rattle.multiplier.specs.declared.multiplier.PmRefusal.{PmRefusal}
 use Rattle.multiplier.specs.declared.multiplier.PmRefusal.TheVariants as refusal
 use Rattle.multiplier.proofs.Door.{still_up_to, up_to_is}
-use Rattle.fan_out.specs.Calls.{FanCall, Plug, Pull, Send, GiveUp, GiveDown, Offer, Tell, Does, given, given_by}
-use Rattle.fan_out.specs.Fans.{FanState}
-use Rattle.fan_out.specs.Seats.{after_sent, connection, next_connection, plug_refusal, told}
-use Rattle.fan_out.specs.Straights.{GivesDown, GivesUp, OffersStraight, PlugsStraight, PullsStraight, SendsStraight, StraightState, TellsStraight, addressed, answering, joined, on_port, opening_straight, parted, pointed, renewed}
-use Rattle.fan_out.specs.declared.fan_out.FanOut.{FanOut}
-use Rattle.fan_out.specs.declared.fan_out.FanOut.TheVariants.{Device, Multiplier}
-use Rattle.fan_out.specs.declared.seat.NotThere.{NotThere}
-use Rattle.fan_out.specs.declared.seat.PlugError.{PlugError}
-use Rattle.fan_out.specs.declared.seat.PlugError.TheVariants.{AlreadyThere, NoPort, Spent}
-use Rattle.fan_out.specs.declared.seat.Seat.{Seat}
+use Rattle.fan_out.specs.{Calls.{FanCall, Plug, Pull, Send, GiveUp, GiveDown, Offer, Tell, Does, given, given_by}, Fans.FanState, Seats.after_sent}
+use Rattle.fan_out.specs.{Seats.{connection, next_connection, plug_refusal, told}, Straights.{GivesDown, GivesUp, OffersStraight, PlugsStraight}}
+use Rattle.fan_out.specs.Straights.{PullsStraight, SendsStraight, StraightState, TellsStraight, addressed, answering, joined, on_port}
+use Rattle.fan_out.specs.{Straights.{opening_straight, parted, pointed, renewed}, declared.fan_out.FanOut.{FanOut, TheVariants.{Device, Multiplier}}}
+use Rattle.fan_out.specs.declared.seat.{NotThere.NotThere, PlugError.{PlugError, TheVariants.{AlreadyThere, NoPort, Spent}}, Seat.Seat}
 use Rattle.machine_laws.specs.Rising.{IsSoundEnd, Sends, sent_call}
 use Rattle.machine_laws.proofs.RisFan.{Passage, Through, two}
 

@@ -1,70 +1,39 @@
 -- While Data are wanted for a device, as many stay due.
-use Rattle.std.proofs.Common.{◌≡◌, ◌≢◌, ℕ, ◌-◌, ◌<◌, ◌^◌, ◌&&◌, Bool, true, false, List, get_or, refl, sym, ap, subst, ◌∙◌, inl, inr, arith, Option, Some, None, w32, bit_or}
-use Rattle.std.specs.Prelude.{◌⊎◌, ◌==◌, IfSome, MatchOption, if◌then◌else◌, nat_lt}
-use Rattle.std.specs.Int.{bit_at}
-use Rattle.std.specs.Option.{option_map}
-use Rattle.std.proofs.lemmas.Bool.{and_parts, cases_Bool, cases_eq, eq-eqb, eqb-true, false≢true, ltb-true}
-use Rattle.std.proofs.lemmas.List.{get_or-set_other}
-use Rattle.std.proofs.lemmas.Nat.{pow_below}
-use Rattle.std.proofs.lemmas.Nat.Bits.{bit_at-lt, bit_at-pow_other, bit_at-pow_same, bit_at-zero, bit_at_and, bit_at_not, bit_at_or}
+use Rattle.std.proofs.Common.{◌≡◌, ◌≢◌, ℕ, ◌-◌, ◌<◌, ◌^◌, ◌&&◌, Bool, true, false, List, get_or, refl, sym, ap, subst, ◌∙◌, inl, inr, arith, Option}
+use Rattle.std.proofs.{Common.{Some, None, w32, bit_or}, lemmas.Bool.{and_parts, cases_Bool, cases_eq, eq-eqb, eqb-true, false≢true, ltb-true}}
+use Rattle.std.proofs.lemmas.{List.{get_or-set_other}, Nat.{pow_below, Bits.{bit_at-lt, bit_at-pow_other, bit_at-pow_same, bit_at-zero, bit_at_and}}}
+use Rattle.std.proofs.lemmas.Nat.Bits.{bit_at_not, bit_at_or}
+use Rattle.std.specs.{Prelude.{◌⊎◌, ◌==◌, IfSome, MatchOption, if◌then◌else◌, nat_lt}, Int.bit_at, Option.option_map}
 use Rattle.fis_view.specs.Seen.{seen}
-use Rattle.slots.specs.Commands.{is_slot, with_sent}
-use Rattle.slots.specs.Data.{payload}
-use Rattle.slots.specs.Setup.{begun}
-use Rattle.slots.specs.Slots.{DeviceSlots, Issue, context_of, context_unless, freed, has_bit, holds, is_control, issue_at, match_some, own_issue}
-use Rattle.slots.specs.Work.{is_dma}
-use Rattle.slots.specs.declared.table.Context.{Context}
+use Rattle.slots.specs.{Commands.{is_slot, with_sent}, Data.payload, Setup.begun, Slots.{DeviceSlots, Issue, context_of, context_unless, freed}}
+use Rattle.slots.specs.{Slots.{has_bit, holds, is_control, issue_at, match_some, own_issue}, Work.is_dma, declared.table.Context.Context}
 use Rattle.ahci_registers.specs.Bits as line_bits
-use Rattle.ahci_registers.specs.Offsets.{register_at}
-use Rattle.ahci_registers.specs.declared.link.Effect.{Effect}
+use Rattle.ahci_registers.specs.{Offsets.register_at, declared.{link.Effect.Effect, register.Register.Register}}
 use Rattle.ahci_registers.specs.declared.link.Effect.TheVariants as effect
-use Rattle.ahci_registers.specs.declared.register.Register.{Register}
 use Rattle.ahci_registers.specs.declared.register.Register.TheVariants as ahci
-use Rattle.guest_fetch.specs.Commands.{Fetched}
-use Rattle.guest_fetch.specs.declared.fetch.Supplied.{Supplied}
+use Rattle.guest_fetch.specs.{Commands.Fetched, declared.{fetch.Supplied.Supplied, moves.Move.Move}}
 use Rattle.guest_fetch.specs.declared.fetch.Supplied.TheVariants as supplied
-use Rattle.guest_fetch.specs.declared.moves.Move.{Move}
 use Rattle.hba_commands.specs.declared.command.Command.{Command}
-use Rattle.hba_fbs.specs.Bits.{without}
-use Rattle.hba_fbs.specs.Choosing.{Chooses, may_feed}
-use Rattle.hba_fbs.specs.Greeting.{Greets, greeted_in}
-use Rattle.hba_fbs.specs.Offering.{AcceptsBy, Offer, view_by}
-use Rattle.hba_fbs.specs.Registers.{falls, own_refusal_by}
-use Rattle.hba_fbs.specs.Stopping.{SetsCmd, fallen_view}
-use Rattle.hba_fbs.specs.Taking.{ignores, port_of}
-use Rattle.hba_fbs.specs.Turning.{feeds, orders}
-use Rattle.hba_fbs.specs.Views.{DeviceView, Port, last_command, view_of}
-use Rattle.hba_fbs.specs.declared.error.WriteError.{WriteError}
+use Rattle.hba_fbs.specs.{Bits.without, Choosing.{Chooses, may_feed}, Greeting.{Greets, greeted_in}, Offering.{AcceptsBy, Offer, view_by}}
+use Rattle.hba_fbs.specs.{Registers.{falls, own_refusal_by}, Stopping.{SetsCmd, fallen_view}, Taking.{ignores, port_of}, Turning.{feeds, orders}}
+use Rattle.hba_fbs.specs.{Views.{DeviceView, Port, last_command, view_of}, declared.{error.WriteError.WriteError, report.TakeReport.TakeReport}}
+use Rattle.hba_fbs.specs.declared.turn.Turn.{Turn, TheVariants.{Feeds, Orders, Rests}}
 use Rattle.hba_fbs.specs.declared.register.Register as port_register
 use Rattle.hba_fbs.specs.declared.register.Register.TheVariants as on_port
-use Rattle.hba_fbs.specs.declared.report.TakeReport.{TakeReport}
-use Rattle.hba_fbs.specs.declared.turn.Turn.{Turn}
-use Rattle.hba_fbs.specs.declared.turn.Turn.TheVariants.{Feeds, Orders, Rests}
-use Rattle.ahci_controller.specs.Access.{fits as fits_width, merged}
-use Rattle.ahci_controller.specs.Feeding.{Gathers, GathersIf, Loses, LosesIf, MissesData, MissesIf as MissesDataIf, SendsIf, without_feeding}
-use Rattle.ahci_controller.specs.Fetching.{AnswersTo, GoesOn, Misses, MissesIf, SuppliesIf, answered, fits, is_asked, next_number, without_fetch}
-use Rattle.ahci_controller.specs.Issuing.{PlacesSlot, RefusesSlot, device_of, not_issued}
-use Rattle.ahci_controller.specs.Moving.{count_of}
-use Rattle.ahci_controller.specs.Next.{Frames, FramesFor, FeedsTo, GoesIf, OrdersSlot, Reads as ReadsSlot, RestsNow, Turns, TurnsIf, count_next, counted_slot, feed_next, is_fed, is_halted, next_device, next_read, next_slot, next_write, order_next, rest, run_of, step_of, step_with, turn_to, written}
-use Rattle.ahci_controller.specs.Own as own_words
-use Rattle.ahci_controller.specs.Reading.{shown}
-use Rattle.ahci_controller.specs.States.{ControllerState, kept}
-use Rattle.ahci_controller.specs.Taking.{CoreHearsIf, Hears}
-use Rattle.ahci_controller.specs.Wants.{dropped}
-use Rattle.ahci_controller.specs.Wide.{WritesFitting, WritesIf, WritesWide}
-use Rattle.ahci_controller.specs.Writing.{ClearsIf, Commands, Leaves, ResetsBy, Restarts, WritesGlobal, WritesRegister, clears_busy, fresh_slots, link_effect, link_moved, plain}
-use Rattle.ahci_controller.specs.declared.access.Width.{Width}
-use Rattle.ahci_controller.specs.declared.feeding.Fed.{Fed}
-use Rattle.ahci_controller.specs.declared.issuing.NotTaken.{NotTaken}
-use Rattle.ahci_controller.specs.declared.issuing.Supply.{Supply}
-use Rattle.ahci_controller.specs.declared.next.Next.{Next}
-use Rattle.ahci_controller.specs.declared.next.Next.TheVariants as next
-use Rattle.ahci_controller.specs.declared.own.OwnRegisters.{OwnRegisters}
-use Rattle.ahci_controller.specs.declared.taking.Took.{Took}
-use Rattle.ahci_controller.specs.declared.wants.Carried.{Carried}
-use Rattle.ahci_controller.specs.declared.wants.Wants.{Wants}
-use Rattle.ahci_controller.specs.declared.wide.WideWritten.{WideWritten}
+use Rattle.ahci_controller.specs.{Access.{fits as fits_width, merged}, Feeding.{Gathers, GathersIf, Loses, LosesIf, MissesData}}
+use Rattle.ahci_controller.specs.{Feeding.{MissesIf as MissesDataIf, SendsIf, without_feeding}, Fetching.{AnswersTo, GoesOn, Misses, MissesIf}}
+use Rattle.ahci_controller.specs.{Fetching.{SuppliesIf, answered, fits, is_asked, next_number, without_fetch}, Issuing.{PlacesSlot, RefusesSlot}}
+use Rattle.ahci_controller.specs.{Issuing.{device_of, not_issued}, Moving.count_of, Next.{Frames, FramesFor, FeedsTo, GoesIf, OrdersSlot}}
+use Rattle.ahci_controller.specs.Next.{Reads as ReadsSlot, RestsNow, Turns, TurnsIf, count_next, counted_slot, feed_next, is_fed, is_halted}
+use Rattle.ahci_controller.specs.Next.{next_device, next_read, next_slot, next_write, order_next, rest, run_of, step_of, step_with, turn_to, written}
+use Rattle.ahci_controller.specs.{Reading.shown, States.{ControllerState, kept}, Taking.{CoreHearsIf, Hears}, Wants.dropped, Wide.WritesFitting}
+use Rattle.ahci_controller.specs.{Wide.{WritesIf, WritesWide}, Writing.{ClearsIf, Commands, Leaves, ResetsBy, Restarts, WritesGlobal, WritesRegister}}
+use Rattle.ahci_controller.specs.{Writing.{clears_busy, fresh_slots, link_effect, link_moved, plain}, declared.{access.Width.Width, feeding.Fed.Fed}}
+use Rattle.ahci_controller.specs.declared.{issuing.{NotTaken.NotTaken, Supply.Supply}, next.Next.Next, own.OwnRegisters.OwnRegisters}
+use Rattle.ahci_controller.specs.declared.{taking.Took.Took, wants.{Carried.Carried, Wants.Wants}, wide.WideWritten.WideWritten}
 use Rattle.ahci_controller.specs.declared.writing.Written.{Written}
+use Rattle.ahci_controller.specs.Own as own_words
+use Rattle.ahci_controller.specs.declared.next.Next.TheVariants as next
 use Rattle.machine_laws.specs.Controllers.{AreDue, IsLength, SaysDue, is_feed_to}
 
 -- ---- what goes next to a device

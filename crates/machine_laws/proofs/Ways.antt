@@ -1,41 +1,26 @@
 -- Whatever holds of each FIS on its way to a device holds behind each deed, if it holds of each that falls to its port.
-use Rattle.std.proofs.Common.{◌≡◌, ℕ, zero, suc, Bool, true, false, List, [], ◌∷◌, ◌++◌, get_or, set, Option, Some, None, Result, Ok, Err, refl, sym, subst, option_to_list, not, map, All}
-use Rattle.std.specs.Prelude.{◌==◌, ◌&&◌, if◌then◌else◌, nat_lt, is_some, MatchResult}
-use Rattle.std.specs.Option.{option_map}
-use Rattle.std.specs.Result.{IsErrOf}
-use Rattle.std.proofs.lemmas.Bool.{eqb-true, false≢true}
-use Rattle.std.proofs.lemmas.List.Elements.{All-append, All-cons, All-head, All-nil, All-same, All-tail}
+use Rattle.std.proofs.Common.{◌≡◌, ℕ, zero, suc, Bool, true, false, List, [], ◌∷◌, ◌++◌, get_or, set, Option, Some, None, Result, Ok, Err, refl, sym}
+use Rattle.std.proofs.{Common.{subst, option_to_list, not, map, All}, lemmas.{Bool.{eqb-true, false≢true}, List.Elements.{All-append, All-cons}}}
+use Rattle.std.proofs.lemmas.List.Elements.{All-head, All-nil, All-same, All-tail}
+use Rattle.std.specs.{Prelude.{◌==◌, ◌&&◌, if◌then◌else◌, nat_lt, is_some, MatchResult}, Option.option_map, Result.IsErrOf}
 use Rattle.fis_view.specs.Frames.{Stamped}
 use Rattle.pm_ports.specs.Port as port
-use Rattle.multiplier.specs.Rules.{with_device}
+use Rattle.multiplier.specs.{Rules.with_device, State.{falling, port_at}, declared.multiplier.Passed.Passed}
 use Rattle.multiplier.specs.State as pm
-use Rattle.multiplier.specs.State.{falling, port_at}
-use Rattle.multiplier.specs.declared.multiplier.Passed.{Passed}
-use Rattle.fan_out.specs.FanOuts.{Pulls, PullsAt, Sends, has_port}
+use Rattle.fan_out.specs.{FanOuts.{Pulls, PullsAt, Sends, has_port}, Fans.{FanState, heeded, is_in_reset, joined, on, parted, rejoined, seat_at}}
+use Rattle.fan_out.specs.{Seats.{next_connection, seated}, Straights.{StraightState, pointed}, declared.fan_out.FanOut.{FanOut, TheVariants.Device}}
+use Rattle.fan_out.specs.declared.{fan_out.FanOut.TheVariants.Multiplier, seat.NotThere.NotThere}
 use Rattle.fan_out.specs.Fans as fan
-use Rattle.fan_out.specs.Fans.{FanState, heeded, is_in_reset, joined, on, parted, rejoined, seat_at}
-use Rattle.fan_out.specs.Seats.{next_connection, seated}
 use Rattle.fan_out.specs.Straights as straight
-use Rattle.fan_out.specs.Straights.{StraightState, pointed}
-use Rattle.fan_out.specs.declared.fan_out.FanOut.{FanOut}
-use Rattle.fan_out.specs.declared.fan_out.FanOut.TheVariants.{Device, Multiplier}
-use Rattle.fan_out.specs.declared.seat.NotThere.{NotThere}
 use Rattle.ahci_machine.specs.Acts as acts
-use Rattle.ahci_machine.specs.Bays.{begun}
-use Rattle.ahci_machine.specs.Ports.{PullsMachine, PullsOut, has_bay}
-use Rattle.ahci_machine.specs.States.{MachineState, bay_at}
-use Rattle.ahci_machine.specs.declared.act.Act.{Act}
+use Rattle.ahci_machine.specs.{Bays.begun, Ports.{PullsMachine, PullsOut, has_bay}, States.{MachineState, bay_at}, declared.act.Act.Act}
+use Rattle.ahci_machine.specs.declared.{bay.Bay.Bay, ports.PortFault.{PortFault, TheVariants.NoPort}}
 use Rattle.ahci_machine.specs.declared.act.Act.TheVariants as act
-use Rattle.ahci_machine.specs.declared.bay.Bay.{Bay}
-use Rattle.ahci_machine.specs.declared.ports.PortFault.{PortFault}
-use Rattle.ahci_machine.specs.declared.ports.PortFault.TheVariants.{NoPort}
-use Rattle.machine_laws.proofs.Cases.{by_bool, by_option}
-use Rattle.machine_laws.proofs.FallEnds.{begun_forgets, ports_emptied}
+use Rattle.machine_laws.proofs.{Cases.{by_bool, by_option}, FallEnds.{begun_forgets, ports_emptied}, FallFans.{and_one, down_of, host_fell}}
+use Rattle.machine_laws.proofs.{FallFans.straight_fell, FallPorts.{Needs, Passes, down_in, pass_by, taken}}
 use Rattle.machine_laws.proofs.FallFans as fans
-use Rattle.machine_laws.proofs.FallFans.{and_one, down_of, host_fell, straight_fell}
-use Rattle.machine_laws.proofs.FallPorts.{Needs, Passes, down_in, pass_by, taken}
-use Rattle.machine_laws.specs.Deeds.{Deed, Does, Moved, Wrote, Powered, Pulled, Removed}
-use Rattle.machine_laws.specs.Falling.{begins, ends, falls, is_down_to, reached_at, resets, waits_down, way_to}
+use Rattle.machine_laws.specs.{Deeds.{Deed, Does, Moved, Wrote, Powered, Pulled, Removed}, Falling.{begins, ends, falls, is_down_to, reached_at}}
+use Rattle.machine_laws.specs.Falling.{resets, waits_down, way_to}
 
 -- ---- parts of a list
 

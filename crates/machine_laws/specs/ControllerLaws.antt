@@ -4,26 +4,15 @@ use Rattle.std.specs.Prelude.{◌≡◌, ◌<◌, ℕ, Bool, true, false, List, 
 use Rattle.slots.specs.Slots.{has_bit}
 use Rattle.ahci_registers.specs.declared.register.Register.TheVariants.{PxCi, PxSact}
 use Rattle.hba_fbs.specs.Views.{last_command}
-use Rattle.hba_laws.specs.CoreHistories.{history_through}
-use Rattle.hba_laws.specs.History.{History}
-use Rattle.ahci_controller.specs.Reading.{shown}
-use Rattle.ahci_controller.specs.States.{ControllerState}
-use Rattle.ahci_controller.specs.declared.next.Next.{Next}
-use Rattle.controller_laws.specs.Active.{ActiveFalls}
-use Rattle.controller_laws.specs.Carrying.{AreSaid, Carrying, carrying_after}
-use Rattle.controller_laws.specs.CoreEvents.{AreCoreEvents, of_event}
-use Rattle.controller_laws.specs.Ends.{AreTold, Falls}
-use Rattle.controller_laws.specs.Events as call
-use Rattle.controller_laws.specs.Events.{Event}
-use Rattle.controller_laws.specs.Interrupts.{GoesBy, IsLatched, edges_in, line_shown}
-use Rattle.controller_laws.specs.Places.{IsWritten}
+use Rattle.hba_laws.specs.{CoreHistories.history_through, History.History}
+use Rattle.ahci_controller.specs.{Reading.shown, States.ControllerState, declared.next.Next.Next}
+use Rattle.controller_laws.specs.{Active.ActiveFalls, Carrying.{AreSaid, Carrying, carrying_after}, CoreEvents.{AreCoreEvents, of_event}}
+use Rattle.controller_laws.specs.{Ends.{AreTold, Falls}, Events.Event, Interrupts.{GoesBy, IsLatched, edges_in, line_shown}, Places.IsWritten}
 use Rattle.controller_laws.specs.Sources.{AreSources, IsIssuedFrom, Source, Sources, command_of, no_sources, sources_after}
-use Rattle.ahci_machine.specs.Registers.{lent_bytes, lent_by as lent_in}
-use Rattle.ahci_machine.specs.Acts.{lent_by}
-use Rattle.ahci_machine.specs.States.{HasRules, IsOpeningMachine, MachineState}
+use Rattle.controller_laws.specs.Events as call
+use Rattle.ahci_machine.specs.{Registers.{lent_bytes, lent_by as lent_in}, Acts.lent_by, States.{HasRules, IsOpeningMachine, MachineState}}
 use Rattle.ahci_machine.specs.declared.act.Act.TheVariants as act
-use Rattle.machine_laws.specs.Controllers.{GathersDue, deed_calls}
-use Rattle.machine_laws.specs.Deeds.{Deed, Does, Moved}
+use Rattle.machine_laws.specs.{Controllers.{GathersDue, deed_calls}, Deeds.{Deed, Does, Moved}}
 
 -- ---- runs
 

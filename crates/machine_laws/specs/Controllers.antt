@@ -1,28 +1,18 @@
 -- The controller of a machine goes by its own calls alone (AHCI 1.3.1, 3, 4.2, 5.3 and 9.3, and `controller_laws` for what they are).
 use Rattle.std.proofs.Common.{inl, inr}
 use Rattle.std.specs.Prelude.{◌≡◌, ℕ, ◌+◌, ◌==◌, Bool, true, false, List, [], ◌∷◌, length, Option, Some, None, IfSome, MatchOption, Result, Ok, Err}
-use Rattle.std.specs.Bool.{MatchBool}
-use Rattle.std.specs.declared.alloc.AllocError.{AllocError}
+use Rattle.std.specs.{Bool.MatchBool, declared.alloc.AllocError.AllocError}
 use Rattle.fis_view.specs.Frames.{Stamped}
-use Rattle.hba_fbs.specs.declared.turn.Turn.{Turn}
-use Rattle.hba_fbs.specs.declared.turn.Turn.TheVariants.{Feeds}
-use Rattle.ahci_controller.specs.Next.{is_fed, turn_to}
-use Rattle.ahci_controller.specs.States.{ControllerState}
-use Rattle.ahci_controller.specs.declared.next.Next.{Next}
+use Rattle.hba_fbs.specs.declared.turn.Turn.{Turn, TheVariants.Feeds}
+use Rattle.ahci_controller.specs.{Next.{is_fed, turn_to}, States.ControllerState, declared.{next.Next.Next, taking.Hindrance.Hindrance}}
 use Rattle.ahci_controller.specs.declared.next.Next.TheVariants as next
-use Rattle.ahci_controller.specs.declared.taking.Hindrance.{Hindrance}
 use Rattle.controller_laws.specs.Events as call
 use Rattle.controller_laws.specs.Events.{Event}
 use Rattle.ahci_machine.specs.Acts as acts
-use Rattle.ahci_machine.specs.Acts.{RestsNow}
-use Rattle.ahci_machine.specs.Answers.{IsStale, MissesFor, MissesMachine, SuppliesMachine, is_wanted}
-use Rattle.ahci_machine.specs.Gathers.{GatheringState}
-use Rattle.ahci_machine.specs.States.{HasRules, IsOpeningMachine, MachineState, gathering_at}
-use Rattle.ahci_machine.specs.declared.act.Act.{Act}
+use Rattle.ahci_machine.specs.{Acts.RestsNow, Answers.{IsStale, MissesFor, MissesMachine, SuppliesMachine, is_wanted}, Gathers.GatheringState}
+use Rattle.ahci_machine.specs.{States.{HasRules, IsOpeningMachine, MachineState, gathering_at}, declared.{act.Act.Act, answers.Told.Told}}
+use Rattle.ahci_machine.specs.declared.request.Wanted.{Wanted, TheVariants.{Command, Data}}
 use Rattle.ahci_machine.specs.declared.act.Act.TheVariants as act
-use Rattle.ahci_machine.specs.declared.answers.Told.{Told}
-use Rattle.ahci_machine.specs.declared.request.Wanted.{Wanted}
-use Rattle.ahci_machine.specs.declared.request.Wanted.TheVariants.{Command, Data}
 use Rattle.machine_laws.specs.Deeds.{Deed, Does, Moved, Wrote, Supplied, Missed}
 
 -- ---- what a deed is to the controller

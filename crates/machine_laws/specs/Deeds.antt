@@ -1,23 +1,13 @@
 -- What happens to a machine, one call after another, with what each call answers: accesses of the guest (AHCI 1.3.1, 3), its memory
 -- (5.3), the answers of media, what is plugged in and pulled (Serial ATA 3.x, 16.3.2), and the machine's own moves.
-use Rattle.std.specs.Prelude.{◌≡◌, ℕ, List, [], ◌∷◌, Option, Result}
-use Rattle.std.specs.declared.alloc.AllocError.{AllocError}
+use Rattle.std.specs.{Prelude.{◌≡◌, ℕ, List, [], ◌∷◌, Option, Result}, declared.alloc.AllocError.AllocError}
 use Rattle.fis_view.specs.Frames.{Stamped}
 use Rattle.block_engine.specs.declared.request.Answer.{Answer}
-use Rattle.ahci_controller.specs.declared.access.Width.{Width}
-use Rattle.ahci_controller.specs.declared.wide.WideWritten.{WideWritten}
-use Rattle.ahci_machine.specs.Acts.{Steps, unlent}
-use Rattle.ahci_machine.specs.Answers.{AnswersMachine, MissesMachine, OffersFrame, SuppliesMachine, TakesFrame}
-use Rattle.ahci_machine.specs.Ports.{PlugsMachine, PullsMachine, Puts, Removes}
-use Rattle.ahci_machine.specs.Registers.{WritesMachine, powered}
-use Rattle.ahci_machine.specs.States.{MachineState}
-use Rattle.ahci_machine.specs.declared.act.Act.{Act}
-use Rattle.ahci_machine.specs.declared.answers.MediumError.{MediumError}
-use Rattle.ahci_machine.specs.declared.answers.Told.{Told}
-use Rattle.ahci_machine.specs.declared.bay.Unit.{Unit as Inside}
-use Rattle.ahci_machine.specs.declared.ports.PortFault.{PortFault}
-use Rattle.ahci_machine.specs.declared.request.MediumId.{MediumId}
-use Rattle.ahci_machine.specs.declared.request.Wanted.{Wanted}
+use Rattle.ahci_controller.specs.declared.{access.Width.Width, wide.WideWritten.WideWritten}
+use Rattle.ahci_machine.specs.{Acts.{Steps, unlent}, Answers.{AnswersMachine, MissesMachine, OffersFrame, SuppliesMachine, TakesFrame}}
+use Rattle.ahci_machine.specs.{Ports.{PlugsMachine, PullsMachine, Puts, Removes}, Registers.{WritesMachine, powered}, States.MachineState}
+use Rattle.ahci_machine.specs.declared.{act.Act.Act, answers.{MediumError.MediumError, Told.Told}, bay.Unit.Unit as Inside, ports.PortFault.PortFault}
+use Rattle.ahci_machine.specs.declared.request.{MediumId.MediumId, Wanted.Wanted}
 
 pub data Deed : Type 0 where
   -- a move of the machine's own

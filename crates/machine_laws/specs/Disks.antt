@@ -5,14 +5,10 @@ use Rattle.block_disk.specs.Requests.{AreSeenRightly, no_books}
 use Rattle.block_queue.specs.Deeds.{AllAreApart, AreNamed}
 use Rattle.disk_pages.specs.declared.profile.Profile.{Profile}
 use Rattle.sata_disk.specs.State.{DiskState, new_disk}
-use Rattle.sata_disk_laws.specs.Calls.{AreCalls, Call, after_calls}
+use Rattle.sata_disk_laws.specs.{Calls.{AreCalls, Call, after_calls}, Laws.seen_in}
 use Rattle.sata_disk_laws.specs.Calls as call
-use Rattle.sata_disk_laws.specs.Laws.{seen_in}
-use Rattle.ahci_machine.specs.States.{IsOpeningMachine, MachineState, bay_at}
-use Rattle.ahci_machine.specs.declared.act.Act.{Act}
+use Rattle.ahci_machine.specs.{States.{IsOpeningMachine, MachineState, bay_at}, declared.{act.Act.Act, bay.Unit.{Unit as Inside, TheVariants.Disk}}}
 use Rattle.ahci_machine.specs.declared.act.Act.TheVariants as act
-use Rattle.ahci_machine.specs.declared.bay.Unit.{Unit as Inside}
-use Rattle.ahci_machine.specs.declared.bay.Unit.TheVariants.{Disk}
 use Rattle.machine_laws.specs.Deeds.{Deed, Does, Runs, Moved, Answered, Put, Pulled, Removed}
 
 -- the FIS that was given

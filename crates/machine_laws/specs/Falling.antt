@@ -1,19 +1,12 @@
 -- The FISes that a device hears are those that the controller sent to it, in order (Serial ATA 3.x, 10.5, FISes; 16.3, frame transmission
 -- by a port multiplier; AHCI 1.3.1, 5.3 and 9.3, what a port sends).
-use Rattle.std.specs.Prelude.{◌≡◌, ◌==◌, ℕ, Bool, true, false, not, if◌then◌else◌, List, [], ◌∷◌, ◌++◌, map, Option, Some, None}
-use Rattle.std.specs.List.{flat_map}
+use Rattle.std.specs.{Prelude.{◌≡◌, ◌==◌, ℕ, Bool, true, false, not, if◌then◌else◌, List, [], ◌∷◌, ◌++◌, map, Option, Some, None}, List.flat_map}
 use Rattle.std.specs.Option.{option_map, option_to_list}
 use Rattle.fis_view.specs.Frames.{Stamped}
 use Rattle.slots.specs.Slots.{match_some}
-use Rattle.multiplier.specs.Arbiter.{control_port}
-use Rattle.multiplier.specs.State.{falling, passes_to, pm_port, port_at}
-use Rattle.multiplier.specs.declared.multiplier.Passed.{Passed}
+use Rattle.multiplier.specs.{Arbiter.control_port, State.{falling, passes_to, pm_port, port_at}, declared.multiplier.Passed.Passed}
 use Rattle.multiplier.specs.declared.multiplier.Passed.TheVariants as passed
-use Rattle.fan_out.specs.Fans.{seat_at}
-use Rattle.fan_out.specs.Seats.{connection}
-use Rattle.fan_out.specs.Straights.{pointed}
-use Rattle.fan_out.specs.declared.fan_out.FanOut.{FanOut}
-use Rattle.fan_out.specs.declared.fan_out.FanOut.TheVariants.{Device, Multiplier}
+use Rattle.fan_out.specs.{Fans.seat_at, Seats.connection, Straights.pointed, declared.fan_out.FanOut.{FanOut, TheVariants.{Device, Multiplier}}}
 use Rattle.ahci_controller.specs.declared.feeding.Fed.TheVariants as fed
 use Rattle.ahci_controller.specs.declared.next.Next.{Next}
 use Rattle.ahci_controller.specs.declared.next.Next.TheVariants as next
@@ -22,14 +15,9 @@ use Rattle.controller_laws.specs.Events.{Event}
 use Rattle.sata_disk.specs.State.{DiskState}
 use Rattle.sata_disk_laws.specs.Calls.{Call}
 use Rattle.sata_disk_laws.specs.Calls as disk_call
-use Rattle.ahci_machine.specs.Gathers.{host_stamp}
-use Rattle.ahci_machine.specs.Registers.{link_stays}
-use Rattle.ahci_machine.specs.States.{MachineState, bay_at}
+use Rattle.ahci_machine.specs.{Gathers.host_stamp, Registers.link_stays, States.{MachineState, bay_at}, declared.bay.Unit.TheVariants.Disk}
 use Rattle.ahci_machine.specs.declared.act.Act.TheVariants as act
-use Rattle.ahci_machine.specs.declared.bay.Unit.TheVariants.{Disk}
-use Rattle.machine_laws.specs.ControllerLaws.{RunsRuled, calls_in}
-use Rattle.machine_laws.specs.Controllers.{GathersDue}
-use Rattle.machine_laws.specs.Deeds.{Deed, Does, Moved, Wrote, Powered, FrameTaken}
+use Rattle.machine_laws.specs.{ControllerLaws.{RunsRuled, calls_in}, Controllers.GathersDue, Deeds.{Deed, Does, Moved, Wrote, Powered, FrameTaken}}
 use Rattle.machine_laws.specs.Disks.{calls_at}
 
 -- ---- from the controller to what is behind its link

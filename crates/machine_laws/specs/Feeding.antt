@@ -1,29 +1,20 @@
 -- The bytes of a FIS that the controller sends are those that were supplied: the FIS of a command that of its slot, as it was supplied and
 -- issued (AHCI 1.3.1, 4.2.3 and 5.3, a port sends a command), and the payload of Data those of the places that the command's table names
 -- (4.2.3.3; Serial ATA 3.x, Data, 46h).
-use Rattle.std.specs.Prelude.{◌≡◌, ◌<◌, ◌==◌, ℕ, Bool, ◌+◌, ◌-◌, if◌then◌else◌, List, [], ◌∷◌, ◌++◌, length, take, slice_get, Option, Some, MatchOption, Result, Ok}
-use Rattle.std.specs.declared.alloc.AllocError.{AllocError}
+use Rattle.std.specs.Prelude.{◌≡◌, ◌<◌, ◌==◌, ℕ, Bool, ◌+◌, ◌-◌, if◌then◌else◌, List, [], ◌∷◌, ◌++◌, length, take, slice_get, Option, Some}
+use Rattle.std.specs.{Prelude.{MatchOption, Result, Ok}, declared.alloc.AllocError.AllocError}
 use Rattle.slots.specs.Slots.{issue_at}
 use Rattle.hba_commands.specs.declared.command.Command as core_command
 use Rattle.hba_fbs.specs.Views.{last_command}
-use Rattle.guest_fetch.specs.Commands.{Fetched}
-use Rattle.guest_fetch.specs.declared.moves.Move.{Move}
-use Rattle.ahci_controller.specs.Feeding.{Places}
-use Rattle.ahci_controller.specs.Next.{Turns}
-use Rattle.ahci_controller.specs.States.{ControllerState}
-use Rattle.ahci_controller.specs.declared.feeding.Fed.{Fed}
+use Rattle.guest_fetch.specs.{Commands.Fetched, declared.moves.Move.Move}
+use Rattle.ahci_controller.specs.{Feeding.Places, Next.Turns, States.ControllerState, declared.feeding.Fed.Fed}
 use Rattle.ahci_controller.specs.declared.next.Next.TheVariants as next
 use Rattle.controller_laws.specs.Sources.{AreSources, Source, Sources, command_of}
-use Rattle.ahci_machine.specs.Gathers.{GatheringState}
-use Rattle.ahci_machine.specs.States.{HasRules, IsOpeningMachine, MachineState, gathering_at}
+use Rattle.ahci_machine.specs.{Gathers.GatheringState, States.{HasRules, IsOpeningMachine, MachineState, gathering_at}, declared.answers.Told.Told}
+use Rattle.ahci_machine.specs.declared.request.{GuestRead.GuestRead, Wanted.TheVariants.Data}
 use Rattle.ahci_machine.specs.declared.act.Act.TheVariants as act
-use Rattle.ahci_machine.specs.declared.answers.Told.{Told}
 use Rattle.ahci_machine.specs.declared.answers.Told.TheVariants as told
-use Rattle.ahci_machine.specs.declared.request.GuestRead.{GuestRead}
-use Rattle.ahci_machine.specs.declared.request.Wanted.TheVariants.{Data}
-use Rattle.machine_laws.specs.ControllerLaws.{RunsRuled}
-use Rattle.machine_laws.specs.Controllers.{GathersDue}
-use Rattle.machine_laws.specs.Deeds.{Deed, Does, Moved, Supplied as Came}
+use Rattle.machine_laws.specs.{ControllerLaws.RunsRuled, Controllers.GathersDue, Deeds.{Deed, Does, Moved, Supplied as Came}}
 
 -- ---- commands
 

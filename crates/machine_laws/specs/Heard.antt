@@ -1,20 +1,13 @@
 -- What a disk is and what it heard since it was put at its port: it goes by its own calls, and each FIS that it heard is one that the
 -- controller sent (Serial ATA 3.x, 10.5, FISes; 16.3, frame transmission by a port multiplier).
-use Rattle.std.specs.Prelude.{◌≡◌, ◌⊎◌, ◌==◌, ℕ, Bool, true, if◌then◌else◌, List, [], ◌∷◌, ◌++◌, Option, Some, None, Result, Ok}
-use Rattle.std.specs.List.{Contains}
+use Rattle.std.specs.{Prelude.{◌≡◌, ◌⊎◌, ◌==◌, ℕ, Bool, true, if◌then◌else◌, List, [], ◌∷◌, ◌++◌, Option, Some, None, Result, Ok}, List.Contains}
 use Rattle.fis_view.specs.Frames.{Stamped, marked}
 use Rattle.multiplier.specs.State.{pm_port}
 use Rattle.sata_disk.specs.State.{DiskState}
 use Rattle.sata_disk_laws.specs.Calls.{AreCalls, Call, Hears, after_calls}
-use Rattle.ahci_machine.specs.States.{IsOpeningMachine, MachineState, bay_at}
-use Rattle.ahci_machine.specs.declared.bay.Unit.{Unit as Inside}
-use Rattle.ahci_machine.specs.declared.bay.Unit.TheVariants.{Disk}
+use Rattle.ahci_machine.specs.{States.{IsOpeningMachine, MachineState, bay_at}, declared.bay.Unit.{Unit as Inside, TheVariants.Disk}}
 use Rattle.ahci_machine.specs.declared.ports.PortFault.{PortFault}
-use Rattle.machine_laws.specs.ControllerLaws.{RunsRuled}
-use Rattle.machine_laws.specs.Controllers.{deed_calls}
-use Rattle.machine_laws.specs.Deeds.{Deed, Put}
-use Rattle.machine_laws.specs.Disks.{calls_at}
-use Rattle.machine_laws.specs.Falling.{sent_in}
+use Rattle.machine_laws.specs.{ControllerLaws.RunsRuled, Controllers.deed_calls, Deeds.{Deed, Put}, Disks.calls_at, Falling.sent_in}
 use Rattle.machine_laws.specs.Rising.{is_multiplier}
 
 -- ---- since it was put there

@@ -2,19 +2,13 @@
 -- a FIS, and writes it, and its bytes, to the guest).
 use Rattle.std.specs.Prelude.{◌≡◌, ◌||◌, ℕ, Bool, true, false, List, [], ◌∷◌, Option, Some, None, MatchOption, is_some}
 use Rattle.ahci_registers.specs.Link.{action_of}
-use Rattle.ahci_controller.specs.States.{ControllerState}
-use Rattle.ahci_controller.specs.Taking.{is_up}
-use Rattle.ahci_controller.specs.declared.next.Next.{Next}
+use Rattle.ahci_controller.specs.{States.ControllerState, Taking.is_up, declared.{next.Next.Next, wants.Writes.Writes}}
 use Rattle.ahci_controller.specs.declared.next.Next.TheVariants as next
-use Rattle.ahci_controller.specs.declared.wants.Writes.{Writes}
-use Rattle.controller_laws.specs.Carrying.{Carrying, carrying_after}
+use Rattle.controller_laws.specs.{Carrying.{Carrying, carrying_after}, Events.Event}
 use Rattle.controller_laws.specs.Events as call
-use Rattle.controller_laws.specs.Events.{Event}
-use Rattle.ahci_machine.specs.Registers.{lent_bytes, part_of}
-use Rattle.ahci_machine.specs.States.{IsOpeningMachine, MachineState}
+use Rattle.ahci_machine.specs.{Registers.{lent_bytes, part_of}, States.{IsOpeningMachine, MachineState}}
 use Rattle.ahci_machine.specs.declared.act.Act.TheVariants as act
-use Rattle.machine_laws.specs.ControllerLaws.{RunsRuled, calls_in}
-use Rattle.machine_laws.specs.Deeds.{Deed, Does, Moved}
+use Rattle.machine_laws.specs.{ControllerLaws.{RunsRuled, calls_in}, Deeds.{Deed, Does, Moved}}
 
 -- bytes of a frame, or the frame, are to be written
 abbrev pub is_framed_by : Writes → Bool

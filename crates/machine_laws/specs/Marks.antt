@@ -1,15 +1,11 @@
 -- Behind a multiplier each FIS that comes to the controller names the port from which it came: that of its device, or the control port
 -- (Serial ATA 3.x, 10.5, the PM Port field, and 16.3, frame transmission by a port multiplier). So a FIS of a port is one that its device sent.
-use Rattle.std.specs.Prelude.{◌≡◌, ◌<◌, ℕ, Bool, true, List, IfSome}
-use Rattle.std.specs.List.{All, Contains}
+use Rattle.std.specs.{Prelude.{◌≡◌, ◌<◌, ℕ, Bool, true, List, IfSome}, List.{All, Contains}}
 use Rattle.fis_view.specs.Frames.{IsFrame, Stamped}
 use Rattle.multiplier.specs.State.{pm_port}
-use Rattle.fan_out.specs.declared.fan_out.FanOut.{FanOut}
-use Rattle.fan_out.specs.declared.fan_out.FanOut.TheVariants.{Device, Multiplier}
+use Rattle.fan_out.specs.declared.fan_out.FanOut.{FanOut, TheVariants.{Device, Multiplier}}
 use Rattle.ahci_machine.specs.States.{IsOpeningMachine, MachineState}
-use Rattle.machine_laws.specs.ControllerLaws.{RunsRuled}
-use Rattle.machine_laws.specs.Deeds.{Deed}
-use Rattle.machine_laws.specs.Rising.{Frames, HaveRisen, frames_in, is_multiplier, no_frames, untaken}
+use Rattle.machine_laws.specs.{ControllerLaws.RunsRuled, Deeds.Deed, Rising.{Frames, HaveRisen, frames_in, is_multiplier, no_frames, untaken}}
 
 -- its PM Port is the port of its stamp
 abbrev pub IsMarked : Stamped → Type 0

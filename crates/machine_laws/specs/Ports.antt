@@ -1,7 +1,6 @@
 -- Isolation at the ports: what is done at one port changes nothing at another (Serial ATA 3.x, 16.3).
 use Rattle.std.specs.Prelude.{◌≡◌, ◌==◌, ℕ, Bool, false}
-use Rattle.ahci_machine.specs.States.{MachineState, bay_at}
-use Rattle.ahci_machine.specs.declared.act.Act.{Act}
+use Rattle.ahci_machine.specs.{States.{MachineState, bay_at}, declared.act.Act.Act}
 use Rattle.ahci_machine.specs.declared.act.Act.TheVariants as act
 use Rattle.machine_laws.specs.Deeds.{Deed, Does, Moved, Answered, Put, Plugged, Pulled, Removed, FrameTaken}
 

@@ -7,9 +7,7 @@ use Rattle.block_queue.specs.Line.{command_at}
 use Rattle.fan_out.specs.FanOuts.{port_count, wants_at}
 use Rattle.sata_disk.specs.State.{DiskState, commands}
 use Rattle.sata_disk_laws.specs.Laws.{Owed}
-use Rattle.ahci_machine.specs.Resting.{IsAtRest}
-use Rattle.ahci_machine.specs.States.{MachineState, bay_at}
-use Rattle.ahci_machine.specs.declared.bay.Unit.TheVariants.{Disk}
+use Rattle.ahci_machine.specs.{Resting.IsAtRest, States.{MachineState, bay_at}, declared.bay.Unit.TheVariants.Disk}
 use Rattle.machine_laws.specs.Disks.{AreReached}
 
 pub data WaitsFor (m : MachineState) (port : ℕ) (d : DiskState) : Type 0 where

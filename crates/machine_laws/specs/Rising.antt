@@ -2,42 +2,26 @@
 -- (Serial ATA 3.x, 16.3, port multiplier: frame transmission; AHCI 1.3.1, 5.3.13, a port takes a FIS). Of a FIS only the PM Port field is
 -- written on its way. A connection of a device begins as it is plugged in, or as its port leaves a reset by SControl (14.1.3), and ends as
 -- it is pulled, or as the next one begins; the link's own reset (AHCI 1.3.1, 10.4.2) ends all.
-use Rattle.std.specs.Prelude.{◌≡◌, ◌<◌, ◌==◌, ℕ, Bool, true, false, not, if◌then◌else◌, List, [], ◌∷◌, ◌++◌, map, drop, slice_index, Some, is_some, Result, Ok, Err}
-use Rattle.std.specs.List.{All, Contains}
-use Rattle.std.specs.Option.{option_to_list}
-use Rattle.fis_view.specs.Frames.{IsFrame, Stamped}
-use Rattle.fis_view.specs.Seen.{seen}
-use Rattle.fis_view.specs.Table.{Bits, SActive, field}
+use Rattle.std.specs.Prelude.{◌≡◌, ◌<◌, ◌==◌, ℕ, Bool, true, false, not, if◌then◌else◌, List, [], ◌∷◌, ◌++◌, map, drop, slice_index, Some, is_some}
+use Rattle.std.specs.{Prelude.{Result, Ok, Err}, List.{All, Contains}, Option.option_to_list}
+use Rattle.fis_view.specs.{Frames.{IsFrame, Stamped}, Seen.seen, Table.{Bits, SActive, field}}
 use Rattle.fis_view.specs.declared.view.Fis.TheVariants as view
 use Rattle.pm_ports.specs.Port as port
 use Rattle.pm_ports.specs.declared.port.Offered.TheVariants.{Held}
-use Rattle.multiplier.specs.Passing.{held_of, of_conn}
-use Rattle.multiplier.specs.State.{largest, pm_port, port_at, rising}
-use Rattle.multiplier.specs.declared.multiplier.Passed.{Passed}
+use Rattle.multiplier.specs.{Passing.{held_of, of_conn}, State.{largest, pm_port, port_at, rising}, declared.multiplier.Passed.Passed}
 use Rattle.fan_out.specs.Calls as fan
-use Rattle.fan_out.specs.Calls.{FanCall, Offer, given}
-use Rattle.fan_out.specs.FanOuts.{port_count}
+use Rattle.fan_out.specs.{Calls.{FanCall, Offer, given}, FanOuts.port_count, Fans.{FanState, IsFan, seat_at, waiting}, Straights.IsStraight}
+use Rattle.fan_out.specs.{Straights.answering, declared.fan_out.FanOut.{FanOut, TheVariants.{Device, Multiplier}}}
 use Rattle.fan_out.specs.Fans as fans
-use Rattle.fan_out.specs.Fans.{FanState, IsFan, seat_at, waiting}
-use Rattle.fan_out.specs.Straights.{IsStraight, answering}
-use Rattle.fan_out.specs.declared.fan_out.FanOut.{FanOut}
-use Rattle.fan_out.specs.declared.fan_out.FanOut.TheVariants.{Device, Multiplier}
 use Rattle.block_queue.specs.Line.{command_at}
-use Rattle.sata_disk.specs.Sending.{part_at}
-use Rattle.sata_disk.specs.State.{DiskState, commands}
-use Rattle.sata_disk.specs.declared.out.Out.TheVariants.{Data}
+use Rattle.sata_disk.specs.{Sending.part_at, State.{DiskState, commands}, declared.out.Out.TheVariants.Data}
 use Rattle.controller_laws.specs.Events as call
 use Rattle.controller_laws.specs.Events.{Event}
 use Rattle.ahci_machine.specs.Acts as acts
-use Rattle.ahci_machine.specs.Ports.{has_bay}
-use Rattle.ahci_machine.specs.Registers.{link_stays}
-use Rattle.ahci_machine.specs.States.{IsOpeningMachine, MachineState, bay_at}
-use Rattle.ahci_machine.specs.declared.act.Act.{Act}
+use Rattle.ahci_machine.specs.{Ports.has_bay, Registers.link_stays, States.{IsOpeningMachine, MachineState, bay_at}, declared.act.Act.Act}
+use Rattle.ahci_machine.specs.declared.{bay.Unit.TheVariants.Disk, ports.PortFault.PortFault}
 use Rattle.ahci_machine.specs.declared.act.Act.TheVariants as act
-use Rattle.ahci_machine.specs.declared.bay.Unit.TheVariants.{Disk}
-use Rattle.ahci_machine.specs.declared.ports.PortFault.{PortFault}
-use Rattle.machine_laws.specs.ControllerLaws.{RunsRuled, calls_in}
-use Rattle.machine_laws.specs.Deeds.{Deed, Does, Moved, Wrote, Powered, Pulled, Removed, FrameOffered}
+use Rattle.machine_laws.specs.{ControllerLaws.{RunsRuled, calls_in}, Deeds.{Deed, Does, Moved, Wrote, Powered, Pulled, Removed, FrameOffered}}
 
 -- ---- what is sent, and what comes
 

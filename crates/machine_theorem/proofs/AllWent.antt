@@ -1,28 +1,19 @@
 -- A write that is not queued, and that a FIS completes: all its bytes went.
-use Rattle.std.proofs.Common.{◌≡◌, ◌⊎◌, ℕ, ◌<◌, Bool, true, false, cond, not, List, [], ◌∷◌, length, Option, Some, None, refl, sym, ap, subst, ◌∙◌, inl, inr, arith, count_by}
-use Rattle.std.specs.Prelude.{◌&&◌, ◌||◌}
-use Rattle.std.specs.List.{list_all}
-use Rattle.std.specs.Option.{option_map}
-use Rattle.std.proofs.lemmas.Bool.{and_parts, false≢true}
-use Rattle.std.proofs.lemmas.List.FromFn.{length-range_with_len}
+use Rattle.std.proofs.Common.{◌≡◌, ◌⊎◌, ℕ, ◌<◌, Bool, true, false, cond, not, List, [], ◌∷◌, length, Option, Some, None, refl, sym, ap, subst, ◌∙◌}
+use Rattle.std.proofs.{Common.{inl, inr, arith, count_by}, lemmas.{Bool.{and_parts, false≢true}, List.FromFn.{length-range_with_len}}}
 use Rattle.std.proofs.lemmas.List.Sums.{sum_by-cons}
-use Rattle.slots.specs.Bytes.{bytes as all_bytes, came_of, is_over, is_whole}
-use Rattle.slots.specs.Setup.{came}
-use Rattle.slots.specs.Slots.{Issue, is_pio, is_queued_issue, is_waiting, is_whole_issue, issue_at, own_issue, slots_of}
-use Rattle.slots.specs.Table.{IsIssue}
-use Rattle.slots.specs.Work.{HasDataExactly, is_queued, is_read, needs_all}
-use Rattle.slots.specs.declared.work.Kind.{Kind}
-use Rattle.slots.specs.declared.work.Kind.TheVariants.{Control, DmaOut, NoData, PioOut}
-use Rattle.slots.specs.declared.work.Work.{Work}
+use Rattle.std.specs.{Prelude.{◌&&◌, ◌||◌}, List.list_all, Option.option_map}
+use Rattle.slots.specs.{Bytes.{bytes as all_bytes, came_of, is_over, is_whole}, Setup.came, Slots.{Issue, is_pio, is_queued_issue, is_waiting}}
+use Rattle.slots.specs.{Slots.{is_whole_issue, issue_at, own_issue, slots_of}, Table.IsIssue, Work.{HasDataExactly, is_queued, is_read, needs_all}}
+use Rattle.slots.specs.declared.work.{Kind.{Kind, TheVariants.{Control, DmaOut, NoData, PioOut}}, Work.Work}
 use Rattle.hba_fbs.specs.Views.{view_of}
-use Rattle.hba_laws.specs.Agreement.{IsTold, work_of_issue, work_of_transfer}
-use Rattle.hba_laws.specs.History.{Answered, Carried, Event as HistoryEvent, History, Transfer, completes, filled, is_all_filled, is_at, is_set_up, issued, waiting_in}
+use Rattle.hba_laws.specs.{Agreement.{IsTold, work_of_issue, work_of_transfer}, History.{Answered, Carried, Event as HistoryEvent, History, Transfer}}
+use Rattle.hba_laws.specs.History.{completes, filled, is_all_filled, is_at, is_set_up, issued, waiting_in}
 use Rattle.hba_laws.proofs.Door.{own_here, whole_is}
 use Rattle.ahci_controller.specs.States.{ControllerState}
 use Rattle.controller_laws.specs.Events.{IsController}
 use Rattle.machine_theorem.specs.Completed.{IsCompleted, IsEndedInHistory}
-use Rattle.machine_theorem.proofs.SingleCalls.{Going, issue_is}
-use Rattle.machine_theorem.proofs.SinglesOwn.{same_issue, second_of_four}
+use Rattle.machine_theorem.proofs.{SingleCalls.{Going, issue_is}, SinglesOwn.{same_issue, second_of_four}}
 
 -- ---- bytes
 

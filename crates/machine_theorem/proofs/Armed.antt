@@ -1,61 +1,34 @@
 -- A bit of PxSACT that is not written is not there: while a queued command is issued in its slot, its bit of PxSACT shows nothing but that.
 use Rattle.std.proofs.Common.{◌≡◌, ℕ, ◌<◌, ◌^◌, Bool, true, false, List, refl, sym, ap, subst, ◌∙◌, arith, Option, Some, None, bit_or}
-use Rattle.std.specs.Prelude.{MatchOption, is_some, if◌then◌else◌}
 use Rattle.std.proofs.lemmas.Bool.{false≢true}
+use Rattle.std.specs.Prelude.{MatchOption, is_some, if◌then◌else◌}
 use Rattle.fis_view.specs.declared.view.Fis.{Fis}
 use Rattle.fis_view.specs.declared.view.Fis.TheVariants as view
-use Rattle.guest_fetch.specs.Commands.{Fetched}
-use Rattle.guest_fetch.specs.declared.fetch.Supplied.{Supplied}
+use Rattle.guest_fetch.specs.{Commands.Fetched, declared.fetch.Supplied.Supplied}
 use Rattle.guest_fetch.specs.declared.fetch.Supplied.TheVariants as came_as
-use Rattle.slots.specs.Commands.{slots_where}
-use Rattle.slots.specs.Slots.{Issue, has_bit, holds, is_queued_issue, issue_at, mask_of, own_issue, slots_of}
-use Rattle.slots.specs.Table.{IsIssue, IsTable}
+use Rattle.slots.specs.{Commands.slots_where, Slots.{Issue, has_bit, holds, is_queued_issue, issue_at, mask_of, own_issue, slots_of}, Table.IsIssue}
+use Rattle.slots.specs.Table.{IsTable}
 use Rattle.slots.proofs.Door.{has_bit_mask}
 use Rattle.ahci_registers.specs.Bits as line_bits
-use Rattle.ahci_registers.specs.Offsets.{register_at}
-use Rattle.ahci_registers.specs.declared.link.Effect.{Effect}
+use Rattle.ahci_registers.specs.{Offsets.register_at, declared.{link.Effect.Effect, register.Register.Register}}
 use Rattle.ahci_registers.specs.declared.link.Effect.TheVariants as effect
-use Rattle.ahci_registers.specs.declared.register.Register.{Register}
 use Rattle.ahci_registers.specs.declared.register.Register.TheVariants as ahci
-use Rattle.hba_fbs.specs.Choosing.{Chooses, may_feed}
-use Rattle.hba_fbs.specs.Deciding.{Decides, decided}
-use Rattle.hba_fbs.specs.Greeting.{Greets}
-use Rattle.hba_fbs.specs.Issuing.{is_busy}
-use Rattle.hba_fbs.specs.Offering.{AcceptsBy, view_by}
-use Rattle.hba_fbs.specs.Placing.{Places}
-use Rattle.hba_fbs.specs.Posting.{posted}
-use Rattle.hba_fbs.specs.Reading.{value_of}
-use Rattle.hba_fbs.specs.Registers.{falls, written as written_register}
-use Rattle.hba_fbs.specs.Stopping.{SetsCmd}
-use Rattle.hba_fbs.specs.Taking.{ignores, port_of, posted_of, settled}
-use Rattle.hba_fbs.specs.Views.{DeviceView, Port, view_of}
-use Rattle.hba_fbs.specs.declared.error.WriteError.{WriteError}
-use Rattle.hba_fbs.specs.declared.hearing.Heard.{Heard}
+use Rattle.hba_fbs.specs.{Choosing.{Chooses, may_feed}, Deciding.{Decides, decided}, Greeting.Greets, Issuing.is_busy, Offering.{AcceptsBy, view_by}}
+use Rattle.hba_fbs.specs.{Placing.Places, Posting.posted, Reading.value_of, Registers.{falls, written as written_register}, Stopping.SetsCmd}
+use Rattle.hba_fbs.specs.{Taking.{ignores, port_of, posted_of, settled}, Views.{DeviceView, Port, view_of}, declared.error.WriteError.WriteError}
+use Rattle.hba_fbs.specs.declared.{hearing.Heard.Heard, registers.Registers.Registers, report.TakeReport.TakeReport, room.Room.Room, turn.Turn.Turn}
+use Rattle.hba_fbs.specs.declared.turn.Turn.TheVariants.{Feeds, Rests}
 use Rattle.hba_fbs.specs.declared.register.Register as port_register
 use Rattle.hba_fbs.specs.declared.register.Register.TheVariants as on_port
-use Rattle.hba_fbs.specs.declared.registers.Registers.{Registers}
-use Rattle.hba_fbs.specs.declared.report.TakeReport.{TakeReport}
-use Rattle.hba_fbs.specs.declared.room.Room.{Room}
-use Rattle.hba_fbs.specs.declared.turn.Turn.{Turn}
-use Rattle.hba_fbs.specs.declared.turn.Turn.TheVariants.{Feeds, Rests}
 use Rattle.hba_laws.proofs.Door.{own_here, own_in}
-use Rattle.ahci_controller.specs.Access.{fits as fits_width, merged}
-use Rattle.ahci_controller.specs.Feeding.{GathersIf, Loses, LosesIf, MissesIf as MissesDataIf, SendsIf, without_feeding}
-use Rattle.ahci_controller.specs.Fetching.{GoesOn, MissesIf, SuppliesIf, answered, fits, is_asked, without_fetch}
-use Rattle.ahci_controller.specs.Issuing.{PlacesSlot, RefusesSlot, device_of, not_issued}
-use Rattle.ahci_controller.specs.Next.{Frames, FramesFor, GoesIf, Reads, RestsNow, TurnsIf, is_fed, is_halted, next_device, next_read, next_slot, next_write, turn_to, written}
-use Rattle.ahci_controller.specs.Offers.{offer_in, offers_nothing}
-use Rattle.ahci_controller.specs.Reading.{shown}
-use Rattle.ahci_controller.specs.States.{ControllerState}
-use Rattle.ahci_controller.specs.Taking.{CoreHearsIf}
-use Rattle.ahci_controller.specs.Wide.{WritesFitting, WritesIf, WritesNothing}
-use Rattle.ahci_controller.specs.Writing.{ClearsIf, Commands, Leaves, ResetsBy, WritesGlobal, WritesRegister, armed_by, link_effect, link_moved, plain, told_refusal}
-use Rattle.ahci_controller.specs.declared.access.Width.{Width}
-use Rattle.ahci_controller.specs.declared.feeding.Fed.{Fed}
-use Rattle.ahci_controller.specs.declared.issuing.NotTaken.{NotTaken}
-use Rattle.ahci_controller.specs.declared.issuing.Supply.{Supply}
-use Rattle.ahci_controller.specs.declared.next.Next.{Next}
-use Rattle.ahci_controller.specs.declared.wide.WideWritten.{WideWritten}
+use Rattle.ahci_controller.specs.{Access.{fits as fits_width, merged}, Feeding.{GathersIf, Loses, LosesIf, MissesIf as MissesDataIf, SendsIf}}
+use Rattle.ahci_controller.specs.{Feeding.without_feeding, Fetching.{GoesOn, MissesIf, SuppliesIf, answered, fits, is_asked, without_fetch}}
+use Rattle.ahci_controller.specs.{Issuing.{PlacesSlot, RefusesSlot, device_of, not_issued}, Next.{Frames, FramesFor, GoesIf, Reads, RestsNow}}
+use Rattle.ahci_controller.specs.{Next.{TurnsIf, is_fed, is_halted, next_device, next_read, next_slot, next_write, turn_to, written}, Offers.offer_in}
+use Rattle.ahci_controller.specs.{Offers.offers_nothing, Reading.shown, States.ControllerState, Taking.CoreHearsIf, Wide.{WritesFitting, WritesIf}}
+use Rattle.ahci_controller.specs.{Wide.WritesNothing, Writing.{ClearsIf, Commands, Leaves, ResetsBy, WritesGlobal, WritesRegister, armed_by}}
+use Rattle.ahci_controller.specs.{Writing.{link_effect, link_moved, plain, told_refusal}, declared.{access.Width.Width, feeding.Fed.Fed}}
+use Rattle.ahci_controller.specs.declared.{issuing.{NotTaken.NotTaken, Supply.Supply}, next.Next.Next, wide.WideWritten.WideWritten}
 use Rattle.ahci_controller.specs.declared.writing.Written.{Written}
 use Rattle.ahci_controller.proofs.Door.{or_none}
 use Rattle.controller_laws.specs.Events as call

@@ -3,22 +3,14 @@ use Rattle.std.proofs.Common.{◌≡◌, ℕ, ◌<◌, Bool, List, ◌∷◌, �
 use Rattle.slots.specs.Slots.{Issue, issue_at}
 use Rattle.ahci_controller.specs.declared.next.Next.TheVariants as next
 use Rattle.controller_laws.specs.Events as call
-use Rattle.controller_laws.specs.Events.{Event}
-use Rattle.controller_laws.specs.Sources.{no_sources}
+use Rattle.controller_laws.specs.{Events.Event, Sources.no_sources}
 use Rattle.ahci_machine.specs.States.{IsOpeningMachine, MachineState}
-use Rattle.machine_laws.specs.ControllerLaws.{ControllerRuns, OpensSo, RunsRuled, calls_in}
-use Rattle.machine_laws.specs.Deeds.{Deed}
-use Rattle.machine_laws.specs.Feeding.{OrdersAreIssued}
-use Rattle.machine_theorem.specs.Commands.{AreNotIssued}
-use Rattle.machine_theorem.specs.Given.{IsWhole}
-use Rattle.machine_theorem.specs.Standing.{IsAsSupplied}
+use Rattle.machine_laws.specs.{ControllerLaws.{ControllerRuns, OpensSo, RunsRuled, calls_in}, Deeds.Deed, Feeding.OrdersAreIssued}
+use Rattle.machine_theorem.specs.{Commands.AreNotIssued, Given.IsWhole, Standing.IsAsSupplied}
 use Rattle.machine_theorem.proofs.AtEnd as end
 use Rattle.machine_theorem.proofs.Falls as falls
-use Rattle.machine_theorem.proofs.HasSource.{HasSource, all_have}
-use Rattle.machine_theorem.proofs.Ordered.{first_ruled}
-use Rattle.machine_theorem.proofs.SentOnce.{kept_of, none_told}
+use Rattle.machine_theorem.proofs.{HasSource.{HasSource, all_have}, Ordered.first_ruled, SentOnce.{kept_of, none_told}, Stretch.Stretch}
 use Rattle.machine_theorem.proofs.Still as still
-use Rattle.machine_theorem.proofs.Stretch.{Stretch}
 
 pub record Laws : Type 0 where
   pub end : end.Laws

@@ -1,44 +1,25 @@
 -- The FISes that the controller sends and that ask for a queued command with a tag are those of the slot of this number.
-use Rattle.std.proofs.Common.{◌≡◌, ℕ, ◌+◌, ◌<◌, ◌≤◌, Bool, true, false, List, [], ◌∷◌, ◌++◌, length, map, Option, Some, None, Result, Ok, Err, refl, sym, ap, subst, ◌∙◌, inl, inr, arith}
-use Rattle.std.specs.Prelude.{MatchOption, if◌then◌else◌, slice_index}
-use Rattle.std.proofs.lemmas.Bool.{false≢true}
-use Rattle.std.proofs.lemmas.Grind.{flat_map-append}
-use Rattle.std.proofs.lemmas.List.{length-append}
-use Rattle.std.specs.Bool.{MatchBool}
-use Rattle.std.specs.declared.alloc.AllocError.{AllocError}
-use Rattle.fis_view.specs.Frames.{Stamped, marked}
-use Rattle.fis_view.specs.Seen.{seen}
-use Rattle.fis_view.specs.declared.view.Fis.{Fis}
+use Rattle.std.proofs.Common.{◌≡◌, ℕ, ◌+◌, ◌<◌, ◌≤◌, Bool, true, false, List, [], ◌∷◌, ◌++◌, length, map, Option, Some, None, Result, Ok, Err, refl}
+use Rattle.std.proofs.{Common.{sym, ap, subst, ◌∙◌, inl, inr, arith}, lemmas.{Bool.{false≢true}, Grind.{flat_map-append}, List.{length-append}}}
+use Rattle.std.specs.{Prelude.{MatchOption, if◌then◌else◌, slice_index}, Bool.MatchBool, declared.alloc.AllocError.AllocError}
+use Rattle.fis_view.specs.{Frames.{Stamped, marked}, Seen.seen, declared.view.{Fis.Fis, FisFault.FisFault}}
 use Rattle.fis_view.specs.declared.view.Fis.TheVariants as view
-use Rattle.fis_view.specs.declared.view.FisFault.{FisFault}
-use Rattle.ahci_controller.specs.States.{ControllerState}
-use Rattle.ahci_controller.specs.declared.feeding.Fed.{Fed}
+use Rattle.ahci_controller.specs.{States.ControllerState, declared.{feeding.Fed.Fed, taking.Hindrance.Hindrance}}
 use Rattle.ahci_controller.specs.declared.feeding.Fed.TheVariants as fed
 use Rattle.ahci_controller.specs.declared.next.Next.TheVariants as next
 use Rattle.controller_laws.specs.Events as call
 use Rattle.controller_laws.specs.Events.{Event}
-use Rattle.ahci_controller.specs.declared.taking.Hindrance.{Hindrance}
 use Rattle.ahci_machine.specs.Acts as acts
-use Rattle.ahci_machine.specs.Answers.{IsStale, MissesFor, MissesMachine, SuppliesMachine, is_wanted}
-use Rattle.ahci_machine.specs.Gathers.{GatheringState, host_stamp}
-use Rattle.ahci_machine.specs.States.{HasRules, IsOpeningMachine, MachineState, gathering_at}
-use Rattle.ahci_machine.specs.declared.act.Act.TheVariants as act
-use Rattle.ahci_machine.specs.declared.answers.Told.{Told}
-use Rattle.ahci_machine.specs.declared.request.Wanted.{Wanted}
+use Rattle.ahci_machine.specs.{Answers.{IsStale, MissesFor, MissesMachine, SuppliesMachine, is_wanted}, Gathers.{GatheringState, host_stamp}}
+use Rattle.ahci_machine.specs.{States.{HasRules, IsOpeningMachine, MachineState, gathering_at}, declared.{answers.Told.Told, request.Wanted.Wanted}}
 use Rattle.ahci_machine.specs.declared.request.Wanted.TheVariants.{Command, Data}
-use Rattle.machine_laws.specs.ControllerLaws.{RunsRuled, calls_in}
-use Rattle.machine_laws.specs.Controllers.{GathersDue, StaysDue, data_calls, deed_calls, lost_calls, miss_calls, rest_calls, supply_calls}
-use Rattle.machine_laws.specs.Deeds.{Deed, Does, Missed, Moved, Supplied, Wrote}
-use Rattle.machine_laws.specs.Falling.{sent_by, sent_in}
-use Rattle.machine_laws.specs.Feeding.{DataIsRead, DataIsWhatCame, OpensUnread, came_in, data_with}
-use Rattle.machine_theorem.specs.Identity.{AllKeep, IsTagged, asked_of, asks_of, heard_as, is_for, own_of, picks}
-use Rattle.machine_theorem.specs.Orders.{are_ordered, is_ordered, ordered_in}
-use Rattle.machine_theorem.specs.Tags.{asks_with, once_if}
-use Rattle.machine_theorem.proofs.Fallen.{map_both}
-use Rattle.machine_theorem.proofs.AtMoments.{more}
-use Rattle.machine_theorem.proofs.FromHost.{no_data}
-use Rattle.machine_theorem.proofs.Ordered.{does_go, fed_low, first_ruled}
-use Rattle.machine_theorem.proofs.Few.{AreFew, are_few}
+use Rattle.ahci_machine.specs.declared.act.Act.TheVariants as act
+use Rattle.machine_laws.specs.{ControllerLaws.{RunsRuled, calls_in}, Controllers.{GathersDue, StaysDue, data_calls, deed_calls, lost_calls}}
+use Rattle.machine_laws.specs.{Controllers.{miss_calls, rest_calls, supply_calls}, Deeds.{Deed, Does, Missed, Moved, Supplied, Wrote}}
+use Rattle.machine_laws.specs.{Falling.{sent_by, sent_in}, Feeding.{DataIsRead, DataIsWhatCame, OpensUnread, came_in, data_with}}
+use Rattle.machine_theorem.specs.{Identity.{AllKeep, IsTagged, asked_of, asks_of, heard_as, is_for, own_of, picks}, Orders.{are_ordered, is_ordered}}
+use Rattle.machine_theorem.specs.{Orders.ordered_in, Tags.{asks_with, once_if}}
+use Rattle.machine_theorem.proofs.{Fallen.map_both, AtMoments.more, FromHost.no_data, Ordered.{does_go, fed_low, first_ruled}, Few.{AreFew, are_few}}
 use Rattle.machine_theorem.proofs.Within.{picks_both}
 
 -- Data ask for none

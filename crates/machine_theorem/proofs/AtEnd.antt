@@ -1,41 +1,26 @@
 -- The last end of a stretch behind which a bit falls: it is of the command that stands in the slot, and nothing goes there since.
-use Rattle.std.proofs.Common.{◌≡◌, ℕ, ◌+◌, ◌≤◌, Bool, true, false, List, [], ◌∷◌, ◌++◌, append_assoc, length, Option, Some, None, refl, sym, ap, subst, ◌∙◌, arith}
+use Rattle.std.proofs.Common.{◌≡◌, ℕ, ◌+◌, ◌≤◌, Bool, true, false, List, [], ◌∷◌, ◌++◌, append_assoc, length, Option, Some, None, refl, sym, ap}
+use Rattle.std.proofs.{Common.{subst, ◌∙◌, arith}, lemmas.Bool.{eq-eqb}}
 use Rattle.std.specs.Prelude.{if◌then◌else◌}
-use Rattle.std.proofs.lemmas.Bool.{eq-eqb}
-use Rattle.block_command.specs.Laws.{IsEarned}
-use Rattle.block_command.specs.Moments.{Moment}
-use Rattle.block_disk.specs.Laws.{Page}
-use Rattle.block_disk.specs.Table.{is_under_way}
+use Rattle.block_command.specs.{Laws.IsEarned, Moments.Moment}
+use Rattle.block_disk.specs.{Laws.Page, Table.is_under_way}
 use Rattle.block_queue.specs.Line.{command_at, has_bit}
-use Rattle.sata_disk.specs.Sending.{IsOut}
-use Rattle.sata_disk.specs.State.{DiskState, commands, is_taken, new_disk}
+use Rattle.sata_disk.specs.{Sending.IsOut, State.{DiskState, commands, is_taken, new_disk}}
 use Rattle.sata_disk.specs.declared.out.Out.TheVariants as out
-use Rattle.sata_disk_books.specs.Books.{page_in}
-use Rattle.sata_disk_books.specs.Ended.{EndsAreOfPages, HasEarned}
-use Rattle.sata_disk_laws.specs.Calls.{AreCalls, Call, Sends}
-use Rattle.sata_disk_laws.specs.Laws.{reached}
+use Rattle.sata_disk_books.specs.{Books.page_in, Ended.{EndsAreOfPages, HasEarned}}
+use Rattle.sata_disk_laws.specs.{Calls.{AreCalls, Call, Sends}, Laws.reached}
 use Rattle.controller_laws.specs.Events.{Event}
 use Rattle.ahci_machine.specs.States.{MachineState}
 use Rattle.ahci_machine.specs.declared.act.Act.TheVariants as act
-use Rattle.machine_laws.specs.ControllerLaws.{RunsRuled, calls_in}
-use Rattle.machine_laws.specs.Controllers.{GathersDue}
-use Rattle.machine_laws.specs.Deeds.{Deed, Does, Moved}
-use Rattle.machine_laws.specs.Disks.{calls_at}
+use Rattle.machine_laws.specs.{ControllerLaws.{RunsRuled, calls_in}, Controllers.GathersDue, Deeds.{Deed, Does, Moved}, Disks.calls_at}
 use Rattle.machine_laws.specs.Falling.{sent_in}
-use Rattle.machine_theorem.specs.Commands.{AreNotIssued}
-use Rattle.machine_theorem.specs.Identity.{CommandsAreTheSlots, IsTheSlots, asked_of, calls_of}
-use Rattle.machine_theorem.specs.Orders.{fallen_in, ordered_in}
-use Rattle.machine_theorem.specs.Tags.{ended_with, heard_with, once_if}
-use Rattle.machine_theorem.proofs.Cut.{HasLast, LastOf, last_of}
-use Rattle.machine_theorem.proofs.EndsFew.{disk_same}
-use Rattle.machine_theorem.proofs.LastSaid.{IsEnd, all_ends, end_is, ends_by, long_both}
-use Rattle.machine_theorem.proofs.OneConn.{no_length}
-use Rattle.machine_theorem.proofs.Own.{last_ruled}
+use Rattle.machine_theorem.specs.{Commands.AreNotIssued, Identity.{CommandsAreTheSlots, IsTheSlots, asked_of, calls_of}, Orders.fallen_in}
+use Rattle.machine_theorem.specs.{Orders.ordered_in, Tags.{ended_with, heard_with, once_if}}
+use Rattle.machine_theorem.proofs.{Cut.{HasLast, LastOf, last_of}, EndsFew.disk_same, LastSaid.{IsEnd, all_ends, end_is, ends_by, long_both}}
+use Rattle.machine_theorem.proofs.{OneConn.no_length, Own.last_ruled, StillStands.none_issued, Stretch.{AllEnded, Fall, HasDisk, Stretch, asked}}
+use Rattle.machine_theorem.proofs.Stretch.{calls, counts, due_at, falls, front, has_disk, orders, own, stands, was_free, whole_run}
+use Rattle.machine_theorem.proofs.{TagCounts.{Counted, counted, ended_both, ends_it, first_calls, heard_both, under_way_held}, TagPages.page_same}
 use Rattle.machine_theorem.proofs.StillStands as standing
-use Rattle.machine_theorem.proofs.StillStands.{none_issued}
-use Rattle.machine_theorem.proofs.Stretch.{AllEnded, Fall, HasDisk, Stretch, asked, calls, counts, due_at, falls, front, has_disk, orders, own, stands, was_free, whole_run}
-use Rattle.machine_theorem.proofs.TagCounts.{Counted, counted, ended_both, ends_it, first_calls, heard_both, under_way_held}
-use Rattle.machine_theorem.proofs.TagPages.{page_same}
 use Rattle.machine_theorem.proofs.TheSlots as slots
 
 pub record Laws : Type 0 where

@@ -1,29 +1,22 @@
 -- What is sent is sent at a moment of the run, and the disk's command then came from a slot.
-use Rattle.std.proofs.Common.{◌≡◌, ◌⊎◌, ℕ, ◌<◌, Bool, true, List, [], ◌∷◌, ◌++◌, append_assoc, Option, Some, None, refl, sym, ap, ◌∙◌, subst, inl, inr}
+use Rattle.std.proofs.Common.{◌≡◌, ◌⊎◌, ℕ, ◌<◌, Bool, true, List, [], ◌∷◌, ◌++◌, append_assoc, Option, Some, None, refl, sym, ap, ◌∙◌, subst, inl}
+use Rattle.std.proofs.Common.{inr}
 use Rattle.fis_view.specs.Frames.{Stamped}
 use Rattle.block_disk.specs.Laws.{Page}
 use Rattle.block_queue.specs.Line.{command_at, has_bit}
 use Rattle.disk_pages.specs.declared.profile.Profile.{Profile}
-use Rattle.sata_disk.specs.Sending.{IsOut, part_at}
-use Rattle.sata_disk.specs.State.{DiskState, commands, new_disk}
+use Rattle.sata_disk.specs.{Sending.{IsOut, part_at}, State.{DiskState, commands, new_disk}}
 use Rattle.sata_disk.specs.declared.out.Out.TheVariants as out
-use Rattle.sata_disk_books.specs.Books.{AreOfPage, DataAreGiven, page_in}
-use Rattle.sata_disk_books.specs.Ended.{EndsAreOfPages, HasEarned}
+use Rattle.sata_disk_books.specs.{Books.{AreOfPage, DataAreGiven, page_in}, Ended.{EndsAreOfPages, HasEarned}}
 use Rattle.sata_disk_laws.specs.Calls.{AreCalls, Call, after_calls}
-use Rattle.ahci_machine.specs.Registers.{lent_bytes}
-use Rattle.ahci_machine.specs.States.{HasRules, IsOpeningMachine, MachineState, bay_at}
-use Rattle.ahci_machine.specs.declared.act.Act.{Act}
-use Rattle.ahci_machine.specs.declared.act.Act.TheVariants as act
+use Rattle.ahci_machine.specs.{Registers.lent_bytes, States.{HasRules, IsOpeningMachine, MachineState, bay_at}, declared.act.Act.Act}
 use Rattle.ahci_machine.specs.declared.bay.Unit.TheVariants.{Disk}
-use Rattle.machine_laws.specs.ControllerLaws.{RunsRuled}
-use Rattle.machine_laws.specs.Deeds.{Deed, Does, Moved}
-use Rattle.machine_laws.specs.Heard.{DisksHaveLived, HasLived, life_in, no_life}
-use Rattle.machine_theorem.specs.Commands.{CommandsOfNewDisks}
-use Rattle.machine_theorem.specs.Completed.{IsFisBy, IsFisIn}
-use Rattle.machine_theorem.specs.Ends.{EndOrigin, EndsAreOfDevices, HasEarnedAt, IsEndBy, IsEndIn, IsEnded}
-use Rattle.machine_theorem.specs.Moments.{CompletionsAreEarned, DataAreOfSlots, Earns, EndedAtMoments, EndsAreOfSlots, GivesNext, HasCommand, IsOfSlots, Moment, OfNewDisk, PayloadIsOfSlots, SentAtMoments, IsEndOfSlot}
-use Rattle.machine_theorem.specs.Origins.{IsSentBy, IsSentIn}
-use Rattle.machine_theorem.specs.Parts.{IsBrought, PayloadIsBrought}
+use Rattle.ahci_machine.specs.declared.act.Act.TheVariants as act
+use Rattle.machine_laws.specs.{ControllerLaws.RunsRuled, Deeds.{Deed, Does, Moved}, Heard.{DisksHaveLived, HasLived, life_in, no_life}}
+use Rattle.machine_theorem.specs.{Commands.CommandsOfNewDisks, Completed.{IsFisBy, IsFisIn}, Ends.{EndOrigin, EndsAreOfDevices, HasEarnedAt, IsEndBy}}
+use Rattle.machine_theorem.specs.{Ends.{IsEndIn, IsEnded}, Moments.{CompletionsAreEarned, DataAreOfSlots, Earns, EndedAtMoments, EndsAreOfSlots}}
+use Rattle.machine_theorem.specs.Moments.{GivesNext, HasCommand, IsOfSlots, Moment, OfNewDisk, PayloadIsOfSlots, SentAtMoments, IsEndOfSlot}
+use Rattle.machine_theorem.specs.{Origins.{IsSentBy, IsSentIn}, Parts.{IsBrought, PayloadIsBrought}}
 
 -- ---- moments
 

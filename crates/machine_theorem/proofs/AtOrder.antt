@@ -1,35 +1,22 @@
 -- The last FIS of a stretch that asks the disk for the tag: it went from the slot of this number, and nothing was issued there since.
-use Rattle.std.proofs.Common.{◌≡◌, ℕ, ◌+◌, ◌≤◌, Bool, true, List, [], ◌∷◌, ◌++◌, length, refl, sym, ap, subst, ◌∙◌, arith}
+use Rattle.std.proofs.{Common.{◌≡◌, ℕ, ◌+◌, ◌≤◌, Bool, true, List, [], ◌∷◌, ◌++◌, length, refl, sym, ap, subst, ◌∙◌, arith}, lemmas.Bool.and_parts}
+use Rattle.std.proofs.lemmas.Bool.{eqb-true}
 use Rattle.std.specs.Prelude.{if◌then◌else◌}
-use Rattle.std.proofs.lemmas.Bool.{and_parts, eqb-true}
 use Rattle.fis_view.specs.Frames.{Stamped, marked}
 use Rattle.slots.specs.Slots.{holds, issue_at}
 use Rattle.ahci_controller.specs.declared.next.Next.TheVariants as next
 use Rattle.controller_laws.specs.Events as call
 use Rattle.controller_laws.specs.Events.{Event}
-use Rattle.ahci_machine.specs.Gathers.{host_stamp}
-use Rattle.ahci_machine.specs.States.{HasRules, MachineState}
+use Rattle.ahci_machine.specs.{Gathers.host_stamp, States.{HasRules, MachineState}}
 use Rattle.ahci_machine.specs.declared.act.Act.TheVariants as act
-use Rattle.machine_laws.specs.ControllerLaws.{OpensSo, calls_in}
-use Rattle.machine_laws.specs.Controllers.{GathersDue}
-use Rattle.machine_laws.specs.Deeds.{Deed, Does, Moved}
-use Rattle.machine_laws.specs.Falling.{sent_in}
+use Rattle.machine_laws.specs.{ControllerLaws.{OpensSo, calls_in}, Controllers.GathersDue, Deeds.{Deed, Does, Moved}, Falling.sent_in}
 use Rattle.machine_laws.specs.Feeding.{OrdersAreIssued}
-use Rattle.machine_theorem.specs.Commands.{AreNotIssued, IsSentFrom}
-use Rattle.machine_theorem.specs.Identity.{asked_of, asks_of, heard_as, is_for}
-use Rattle.machine_theorem.specs.Orders.{fallen_in, is_fallen, is_ordered, is_sent_of, ordered_in, standing_in}
-use Rattle.machine_theorem.specs.Tags.{once_if}
-use Rattle.machine_theorem.proofs.Asking.{DataAskNone, deed_none, picked}
-use Rattle.machine_theorem.proofs.AtMoments.{more}
-use Rattle.machine_theorem.proofs.AtEnd.{Laws, due_now}
-use Rattle.machine_theorem.proofs.Cut.{Cut, HasLast, LastOf, last_of}
-use Rattle.machine_theorem.proofs.FallsFew.{none_few}
-use Rattle.machine_theorem.proofs.LastSaid.{IsAsk, all_asks, ask_is, asks_by, sent_both}
-use Rattle.machine_theorem.proofs.OneConn.{ends_same, no_length}
-use Rattle.machine_theorem.proofs.Ordered.{first_ruled}
-use Rattle.machine_theorem.proofs.Own.{last_ruled}
-use Rattle.machine_theorem.proofs.StillStands.{none_issued, once_most}
-use Rattle.machine_theorem.proofs.Stretch.{Stretch, asked, counts, due_at, falls, front, orders, own, stands, whole_run}
+use Rattle.machine_theorem.specs.{Commands.{AreNotIssued, IsSentFrom}, Identity.{asked_of, asks_of, heard_as, is_for}, Orders.{fallen_in, is_fallen}}
+use Rattle.machine_theorem.specs.{Orders.{is_ordered, is_sent_of, ordered_in, standing_in}, Tags.once_if}
+use Rattle.machine_theorem.proofs.{Asking.{DataAskNone, deed_none, picked}, AtMoments.more, AtEnd.{Laws, due_now}, Cut.{Cut, HasLast, LastOf}}
+use Rattle.machine_theorem.proofs.{Cut.last_of, FallsFew.none_few, LastSaid.{IsAsk, all_asks, ask_is, asks_by, sent_both}, OneConn.ends_same}
+use Rattle.machine_theorem.proofs.{OneConn.no_length, Ordered.first_ruled, Own.last_ruled, StillStands.{none_issued, once_most}, Stretch.Stretch}
+use Rattle.machine_theorem.proofs.Stretch.{asked, counts, due_at, falls, front, orders, own, stands, whole_run}
 
 abbrev pub orders_it : (s : Stretch) → (dev slot : ℕ) → (fis : List ℕ) → Deed
 orders_it s dev slot fis = Moved (act.Turns (next.Order dev slot fis))

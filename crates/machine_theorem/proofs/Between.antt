@@ -1,49 +1,30 @@
 -- Between a write and a read that the guest sees completed each store for a queued command is of one that stands in its slot.
-use Rattle.std.proofs.Common.{◌≡◌, ℕ, zero, suc, ◌<◌, ◌≤◌, Bool, true, false, List, [], ◌∷◌, ◌++◌, append_assoc, append-nil}
-use Rattle.std.proofs.Common.{Option, Some, None, refl, sym, ap, subst, ◌∙◌, inl, inr, arith}
+use Rattle.std.proofs.Common.{◌≡◌, ℕ, zero, suc, ◌<◌, ◌≤◌, Bool, true, false, List, [], ◌∷◌, ◌++◌, append_assoc, append-nil, Option, Some, None, refl}
+use Rattle.std.proofs.{Common.{sym, ap, subst, ◌∙◌, inl, inr, arith}, lemmas.{Bool.{cases_lt, false≢true, ltb-true}, List.append_cancel_left}}
 use Rattle.std.specs.Prelude.{◌&&◌, if◌then◌else◌, Result, Ok, Err}
-use Rattle.std.proofs.lemmas.Bool.{cases_lt, false≢true, ltb-true}
-use Rattle.std.proofs.lemmas.List.{append_cancel_left}
 use Rattle.fis_view.specs.Frames.{Stamped}
 use Rattle.block_command.specs.declared.command.Command.{Command}
 use Rattle.block_queue.specs.Line.{command_at, has_bit}
-use Rattle.block_engine.specs.declared.request.Range.{Range}
-use Rattle.block_engine.specs.declared.request.Request.{Request}
-use Rattle.block_engine.specs.declared.request.What.{What}
+use Rattle.block_engine.specs.declared.request.{Range.Range, Request.Request, What.What}
 use Rattle.block_engine.specs.declared.request.What.TheVariants as what
 use Rattle.disk_pages.specs.declared.profile.Profile.{Profile}
 use Rattle.sata_disk.specs.State.{DiskState, commands, new_disk}
 use Rattle.sata_disk.specs.declared.out.Out.TheVariants as out
-use Rattle.sata_disk_laws.specs.Calls.{AreCalls, Asks, Call, IsCall, Sends, after_call, after_calls}
-use Rattle.sata_disk_laws.specs.Laws.{reached}
+use Rattle.sata_disk_laws.specs.{Calls.{AreCalls, Asks, Call, IsCall, Sends, after_call, after_calls}, Laws.reached}
 use Rattle.sata_disk_laws.proofs.Door.{calls_after}
-use Rattle.sata_disk_media.specs.Cells.{covers}
-use Rattle.sata_disk_media.specs.Laws.{AreSparing, GivenIsWritten, Spares, StoresAreOfWrites, UndisturbedIsSpared, touches}
-use Rattle.ahci_machine.specs.States.{MachineState, bay_at}
-use Rattle.ahci_machine.specs.declared.act.Act.{Act}
+use Rattle.sata_disk_media.specs.{Cells.covers, Laws.{AreSparing, GivenIsWritten, Spares, StoresAreOfWrites, UndisturbedIsSpared, touches}}
+use Rattle.ahci_machine.specs.{States.{MachineState, bay_at}, declared.act.Act.Act}
 use Rattle.ahci_machine.specs.declared.act.Act.TheVariants as act
-use Rattle.machine_laws.specs.ControllerLaws.{RunsRuled}
-use Rattle.machine_laws.specs.Deeds.{Answered, Deed, Moved, Pulled}
-use Rattle.machine_laws.specs.Disks.{calls_at, calls_by, heard, unless_refused}
+use Rattle.machine_laws.specs.{ControllerLaws.RunsRuled, Deeds.{Answered, Deed, Moved, Pulled}, Disks.{calls_at, calls_by, heard, unless_refused}}
 use Rattle.machine_theorem.specs.Between.{AllOthersSpare, IsFollowedAmong, NoneStands, OthersSpare, ReadsFollowAmong, is_of_tag, is_store}
-use Rattle.machine_theorem.specs.FirstDeeds.{first_deeds, first_run, machine_at}
-use Rattle.machine_theorem.specs.Identity.{AllKeep, IsAtRest, calls_of, own_of}
-use Rattle.machine_theorem.specs.ReadsFollow.{IsFollowed}
-use Rattle.machine_theorem.specs.Tags.{ended_with, heard_with, once_if}
-use Rattle.machine_theorem.specs.Unheard.{SlotsTellOfWrites}
-use Rattle.machine_theorem.specs.Writes.{WritesAreSupplied}
+use Rattle.machine_theorem.specs.{FirstDeeds.{first_deeds, first_run, machine_at}, Identity.{AllKeep, IsAtRest, calls_of, own_of}}
+use Rattle.machine_theorem.specs.{ReadsFollow.IsFollowed, Tags.{ended_with, heard_with, once_if}, Unheard.SlotsTellOfWrites, Writes.WritesAreSupplied}
 use Rattle.machine_theorem.proofs.AsSupplied as supplied
-use Rattle.machine_theorem.proofs.AtEnd.{is_there}
-use Rattle.machine_theorem.proofs.FirstDeeds.{Fell, keeps_to, lasts_to, linked_to}
+use Rattle.machine_theorem.proofs.{AtEnd.is_there, FirstDeeds.{Fell, keeps_to, lasts_to, linked_to}, HeardAfter.{fall, to, with_tag}}
+use Rattle.machine_theorem.proofs.{HeardBehind.{calls_then, first_or, rest_of}, ReadsFollow.followed, Stretch.{Fall, Stretch, calls, counts, falls}}
+use Rattle.machine_theorem.proofs.{Stretch.{has_disk, was_free}, TagCounts.{Counted, all_heard, counted, ended_both, first_calls, heard_both}}
+use Rattle.machine_theorem.proofs.{TagCounts.{one_call_more, under_way_held}, TagKept.held_at, TagPages.page_same, TheirSlots.{ends_in, is_done}}
 use Rattle.machine_theorem.proofs.FirstDeeds as firsts
-use Rattle.machine_theorem.proofs.HeardAfter.{fall, to, with_tag}
-use Rattle.machine_theorem.proofs.HeardBehind.{calls_then, first_or, rest_of}
-use Rattle.machine_theorem.proofs.ReadsFollow.{followed}
-use Rattle.machine_theorem.proofs.Stretch.{Fall, Stretch, calls, counts, falls, has_disk, was_free}
-use Rattle.machine_theorem.proofs.TagCounts.{Counted, all_heard, counted, ended_both, first_calls, heard_both, one_call_more, under_way_held}
-use Rattle.machine_theorem.proofs.TagKept.{held_at}
-use Rattle.machine_theorem.proofs.TagPages.{page_same}
-use Rattle.machine_theorem.proofs.TheirSlots.{ends_in, is_done}
 
 -- ---- the moment of a call
 

@@ -1,28 +1,19 @@
 -- One Data FIS, from the device to the guest.
 use Rattle.std.proofs.Common.{◌≡◌, ◌<◌, ◌+◌, ℕ, Bool, List, [], ◌∷◌, Option, Some, None, refl, sym, ap, ◌∙◌, subst, arith}
+use Rattle.std.proofs.lemmas.{List.Elements.{All-nil}, Option.same_Some}
 use Rattle.std.specs.Prelude.{MatchOption, slice_index}
-use Rattle.std.proofs.lemmas.List.Elements.{All-nil}
-use Rattle.std.proofs.lemmas.Option.{same_Some}
 use Rattle.fis_view.specs.Frames.{Stamped}
-use Rattle.guest_fetch.specs.Commands.{Fetched}
-use Rattle.guest_fetch.specs.declared.moves.Move.{Move}
-use Rattle.ahci_controller.specs.States.{ControllerState, kept}
+use Rattle.guest_fetch.specs.{Commands.Fetched, declared.moves.Move.Move}
+use Rattle.ahci_controller.specs.{States.{ControllerState, kept}, declared.wants.Carried.Carried}
 use Rattle.ahci_controller.specs.declared.next.Next.TheVariants as next
-use Rattle.ahci_controller.specs.declared.wants.Carried.{Carried}
-use Rattle.controller_laws.specs.Carrying.{AllAreSaid, AreLeft, AreSaid, Carrying, carrying_after}
-use Rattle.controller_laws.specs.Places.{IsPlaced}
-use Rattle.controller_laws.specs.Sources.{AreSources, IsReadFrom, Source, command_of, no_sources, sources_after, unmoved}
-use Rattle.ahci_machine.specs.Registers.{lent_bytes, part_of}
-use Rattle.ahci_machine.specs.States.{HasRules, IsOpeningMachine, MachineState}
-use Rattle.machine_laws.specs.ControllerLaws.{ControllerHasLaws, ControllerRuns, HasLaws, OpensLawful, RunsAreCalls, RunsRuled, WritesArePlaced, calls_in}
-use Rattle.machine_laws.specs.Deeds.{Deed}
-use Rattle.machine_laws.specs.Lent.{CarriesTaken, FramesAreHeld, FramesAreLent, HoldsFrame, IsOf, OpensHolding, last_taken}
-use Rattle.machine_laws.specs.Rising.{DataAreSent, GoesOnRising, OpensRising, no_frames}
-use Rattle.machine_theorem.specs.Origins.{IsSentIn}
-use Rattle.machine_theorem.specs.Parts.{AreInOrder, IsBrought, PartsAreCarried, PayloadIsBrought}
-use Rattle.machine_theorem.proofs.Carried.{IsDataFis, carries_data}
-use Rattle.machine_theorem.proofs.Sent.{Laws as SentLaws, each_sent}
-use Rattle.machine_theorem.proofs.Taken.{IsKnown, taken_is_known}
+use Rattle.controller_laws.specs.{Carrying.{AllAreSaid, AreLeft, AreSaid, Carrying, carrying_after}, Places.IsPlaced, Sources.AreSources}
+use Rattle.controller_laws.specs.Sources.{IsReadFrom, Source, command_of, no_sources, sources_after, unmoved}
+use Rattle.ahci_machine.specs.{Registers.{lent_bytes, part_of}, States.{HasRules, IsOpeningMachine, MachineState}}
+use Rattle.machine_laws.specs.ControllerLaws.{ControllerHasLaws, ControllerRuns, HasLaws, OpensLawful, RunsAreCalls, RunsRuled, WritesArePlaced}
+use Rattle.machine_laws.specs.{ControllerLaws.calls_in, Deeds.Deed, Lent.{CarriesTaken, FramesAreHeld, FramesAreLent, HoldsFrame, IsOf, OpensHolding}}
+use Rattle.machine_laws.specs.{Lent.last_taken, Rising.{DataAreSent, GoesOnRising, OpensRising, no_frames}}
+use Rattle.machine_theorem.specs.{Origins.IsSentIn, Parts.{AreInOrder, IsBrought, PartsAreCarried, PayloadIsBrought}}
+use Rattle.machine_theorem.proofs.{Carried.{IsDataFis, carries_data}, Sent.{Laws as SentLaws, each_sent}, Taken.{IsKnown, taken_is_known}}
 
 -- the laws, as the crates below have them
 pub record Laws : Type 0 where

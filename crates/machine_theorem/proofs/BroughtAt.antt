@@ -1,47 +1,27 @@
 -- Each byte of a read that came was brought at a moment of the machine's run. So it is of a queued read that the guest sees completed.
-use Rattle.std.proofs.Common.{◌≡◌, ◌⊎◌, ℕ, ◌+◌, ◌<◌, Bool, true, false, List, [], ◌∷◌, ◌++◌, inl, inr, refl, sym, ap, subst, ◌∙◌, arith, get_or, Option}
-use Rattle.std.proofs.Common.{Some, None}
-use Rattle.std.specs.Prelude.{◌==◌, MatchOption, is_some}
-use Rattle.std.specs.List.{range_with_len}
-use Rattle.std.proofs.lemmas.Bool.{cases_Bool, false≢true}
-use Rattle.std.proofs.lemmas.List.Folds.{list_all_at}
-use Rattle.std.proofs.lemmas.List.FromFn.{get_or-range_with_len, length-range_with_len}
-use Rattle.slots.specs.Bytes.{is_over}
-use Rattle.slots.specs.Slots.{Issue, holds, issue_at, match_some, own_issue}
-use Rattle.slots.specs.Table.{IsIssue}
-use Rattle.slots.specs.Work.{is_read}
-use Rattle.slots.specs.declared.work.Kind.{Kind}
+use Rattle.std.proofs.Common.{◌≡◌, ◌⊎◌, ℕ, ◌+◌, ◌<◌, Bool, true, false, List, [], ◌∷◌, ◌++◌, inl, inr, refl, sym, ap, subst, ◌∙◌, arith, get_or}
+use Rattle.std.proofs.{Common.{Option, Some, None}, lemmas.{Bool.{cases_Bool, false≢true}, List.{Folds.list_all_at, FromFn.{get_or-range_with_len}}}}
+use Rattle.std.proofs.lemmas.List.FromFn.{length-range_with_len}
+use Rattle.std.specs.{Prelude.{◌==◌, MatchOption, is_some}, List.range_with_len}
+use Rattle.slots.specs.{Bytes.is_over, Slots.{Issue, holds, issue_at, match_some, own_issue}, Table.IsIssue, Work.is_read, declared.work.Kind.Kind}
 use Rattle.slots.specs.declared.work.Kind.TheVariants.{QueuedRead}
 use Rattle.hba_fbs.specs.Views.{view_of}
 use Rattle.hba_laws.proofs.Door.{own_here}
 use Rattle.hba_laws.specs.History.{filled, is_all_filled}
-use Rattle.ahci_controller.specs.States.{ControllerState}
-use Rattle.ahci_controller.specs.declared.taking.Took.{Took}
+use Rattle.ahci_controller.specs.{States.ControllerState, declared.taking.Took.Took}
 use Rattle.controller_laws.specs.Events as call
 use Rattle.controller_laws.specs.Events.{Event, IsController, Runs}
 use Rattle.ahci_machine.specs.States.{HasRules, IsOpeningMachine, MachineState}
 use Rattle.ahci_machine.specs.declared.act.Act.TheVariants as act
-use Rattle.machine_laws.specs.ControllerLaws.{RunsRuled, calls_in}
-use Rattle.machine_laws.specs.Controllers.{ControllerGoesOn, GathersDue, StaysDue, deed_calls}
-use Rattle.machine_laws.specs.Deeds.{Deed, Moved}
-use Rattle.machine_theorem.specs.Brought.{ByteIsBrought, IsReadDone, ReadsAreBrought, ReadsAreBroughtSince}
-use Rattle.machine_theorem.specs.Commands.{AreNotIssued}
-use Rattle.machine_theorem.specs.Filled.{AreNotBrought}
-use Rattle.machine_theorem.specs.Orders.{is_sent_of}
-use Rattle.machine_theorem.specs.ReadsWritten.{NoneTaken}
-use Rattle.machine_theorem.specs.SingleReads.{BringsFor, WasBroughtFor}
-use Rattle.machine_theorem.proofs.Cut.{Cut, cut_here, cut_more}
+use Rattle.machine_laws.specs.{ControllerLaws.{RunsRuled, calls_in}, Controllers.{ControllerGoesOn, GathersDue, StaysDue, deed_calls}, Deeds.Deed}
+use Rattle.machine_laws.specs.Deeds.{Moved}
+use Rattle.machine_theorem.specs.{Brought.{ByteIsBrought, IsReadDone, ReadsAreBrought, ReadsAreBroughtSince}, Commands.AreNotIssued}
+use Rattle.machine_theorem.specs.{Filled.AreNotBrought, Orders.is_sent_of, ReadsWritten.NoneTaken, SingleReads.{BringsFor, WasBroughtFor}}
+use Rattle.machine_theorem.proofs.{Cut.{Cut, cut_here, cut_more}, Falls.{Told, kept_of, named_by, told_now}, FilledCalls.{Then, calls_behind}}
+use Rattle.machine_theorem.proofs.{FilledCalls.{came_at_last, no_queued_read, none_at_first, queued_brings}, FilledCores.Behind, Ordered.first_ruled}
+use Rattle.machine_theorem.proofs.{Own.last_ruled, SentOnce.none_told, StillStands.none_both, Stretch.whole_run, WasTaken.deed_none}
 use Rattle.machine_theorem.proofs.Falls as falls
-use Rattle.machine_theorem.proofs.Falls.{Told, kept_of, named_by, told_now}
-use Rattle.machine_theorem.proofs.FilledCalls.{Then, calls_behind, came_at_last, no_queued_read, none_at_first, queued_brings}
-use Rattle.machine_theorem.proofs.FilledCores.{Behind}
-use Rattle.machine_theorem.proofs.Ordered.{first_ruled}
-use Rattle.machine_theorem.proofs.Own.{last_ruled}
-use Rattle.machine_theorem.proofs.SentOnce.{none_told}
 use Rattle.machine_theorem.proofs.SetupCalls as setup
-use Rattle.machine_theorem.proofs.StillStands.{none_both}
-use Rattle.machine_theorem.proofs.Stretch.{whole_run}
-use Rattle.machine_theorem.proofs.WasTaken.{deed_none}
 
 pub record Laws : Type 0 where
   pub falls : falls.Laws

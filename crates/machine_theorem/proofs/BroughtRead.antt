@@ -1,19 +1,14 @@
 -- Each byte of a queued read that the guest sees completed is the one of its number that the caller gave, for the command that the guest had supplied.
 use Rattle.std.proofs.Common.{◌≡◌, ℕ, ◌+◌, ◌-◌, ◌<◌, ◌≤◌, ◌&&◌, Bool, true, false, List, [], ◌∷◌, ◌++◌, get_or, length, refl, sym, ap, ◌∙◌, arith}
-use Rattle.std.proofs.Common.{Option, Some, None}
+use Rattle.std.proofs.{Common.{Option, Some, None}, lemmas.{Bool.{and_parts, eqb-true}, List.{get_or-append_right, get_or_append_left}}}
+use Rattle.std.proofs.lemmas.{List.{length-append}, Option.{slice_get-get_or}}
 use Rattle.std.specs.Prelude.{◌==◌, slice_get}
-use Rattle.std.proofs.lemmas.Bool.{and_parts, eqb-true}
-use Rattle.std.proofs.lemmas.List.{get_or-append_right, get_or_append_left, length-append}
-use Rattle.std.proofs.lemmas.Option.{slice_get-get_or}
 use Rattle.slots.specs.Slots.{Issue, holds, is_queued_issue}
 use Rattle.block_command.specs.Laws.{Ledger}
 use Rattle.sata_disk_books.specs.Books.{AreNext}
 use Rattle.controller_laws.specs.Events as call
 use Rattle.controller_laws.specs.Events.{Event}
-use Rattle.machine_theorem.specs.Commands.{AreNotIssued}
-use Rattle.machine_theorem.specs.Orders.{is_sent_of}
-use Rattle.machine_theorem.specs.OwnSlots.{NoneLost}
-use Rattle.machine_theorem.specs.Tags.{once_if}
+use Rattle.machine_theorem.specs.{Commands.AreNotIssued, Orders.is_sent_of, OwnSlots.NoneLost, Tags.once_if}
 
 -- ---- lists
 

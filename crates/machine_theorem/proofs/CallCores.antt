@@ -1,35 +1,24 @@
 -- What the calls of a controller are for its core, that take no FIS and send none: events that a test allows.
-use Rattle.std.proofs.Common.{ℕ, ◌+◌, ◌^◌, Bool, true, false, List, [], ◌∷◌, Option, Some, None, All}
+use Rattle.std.proofs.{Common.{ℕ, ◌+◌, ◌^◌, Bool, true, false, List, [], ◌∷◌, Option, Some, None, All}, lemmas.List.Elements.{All-append, All-cons}}
+use Rattle.std.proofs.lemmas.List.Elements.{All-nil}
 use Rattle.std.specs.Prelude.{◌==◌, ◌%◌, if◌then◌else◌}
-use Rattle.std.proofs.lemmas.List.Elements.{All-append, All-cons, All-nil}
 use Rattle.guest_fetch.specs.Commands.{Fetched}
 use Rattle.slots.specs.Slots.{match_some}
 use Rattle.ahci_registers.specs.Bits as line_bits
-use Rattle.ahci_registers.specs.Offsets.{register_at}
-use Rattle.ahci_registers.specs.declared.link.Effect.{Effect}
+use Rattle.ahci_registers.specs.{Offsets.register_at, declared.{link.Effect.Effect, register.Register.Register}}
 use Rattle.ahci_registers.specs.declared.link.Effect.TheVariants as effect
-use Rattle.ahci_registers.specs.declared.register.Register.{Register}
 use Rattle.ahci_registers.specs.declared.register.Register.TheVariants as ahci
 use Rattle.host_memory.specs.declared.table.Prd.{Prd}
-use Rattle.hba_fbs.specs.Offering.{Offer}
-use Rattle.hba_fbs.specs.Views.{Port}
-use Rattle.hba_fbs.specs.declared.error.WriteError.{WriteError}
-use Rattle.hba_fbs.specs.declared.greeting.Line.{Line}
+use Rattle.hba_fbs.specs.{Offering.Offer, Views.Port, declared.{error.WriteError.WriteError, greeting.Line.Line}}
 use Rattle.hba_fbs.specs.declared.register.Register as port_register
 use Rattle.hba_fbs.specs.declared.register.Register.TheVariants as on_port
 use Rattle.hba_laws.specs.Cores as core
 use Rattle.hba_laws.specs.Cores.{CoreEvent}
-use Rattle.ahci_controller.specs.Access.{high_of, low_of, merged, ones_of, spread_of}
-use Rattle.ahci_controller.specs.Issuing.{device_of, offered_command}
-use Rattle.ahci_controller.specs.Offers.{offer_in, offers_nothing}
-use Rattle.ahci_controller.specs.Reading.{shown}
-use Rattle.ahci_controller.specs.States.{ControllerState, kept}
-use Rattle.ahci_controller.specs.Wide.{WritesFitting, block_of}
-use Rattle.ahci_controller.specs.Writing.{clears_busy, link_effect, told_refusal}
-use Rattle.ahci_controller.specs.declared.access.Width.{Width}
-use Rattle.ahci_controller.specs.declared.issuing.Supply.{Supply}
-use Rattle.ahci_controller.specs.declared.issuing.Supply.TheVariants as supply_answer
+use Rattle.ahci_controller.specs.{Access.{high_of, low_of, merged, ones_of, spread_of}, Issuing.{device_of, offered_command}, Offers.offer_in}
+use Rattle.ahci_controller.specs.{Offers.offers_nothing, Reading.shown, States.{ControllerState, kept}, Wide.{WritesFitting, block_of}}
+use Rattle.ahci_controller.specs.{Writing.{clears_busy, link_effect, told_refusal}, declared.{access.Width.Width, issuing.Supply.Supply}}
 use Rattle.ahci_controller.specs.declared.wide.WideWritten.{WideWritten}
+use Rattle.ahci_controller.specs.declared.issuing.Supply.TheVariants as supply_answer
 use Rattle.controller_laws.specs.CoreEvents.{commanded_by, no_tables, of_part, of_register, of_supply, of_wide, overridden_by, relinked_by, reset_by}
 use Rattle.machine_theorem.proofs.SetupCores.{IsWritten}
 

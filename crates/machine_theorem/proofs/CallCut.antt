@@ -1,17 +1,14 @@
 -- A stretch, cut where the disk at a port hears a FIS.
-use Rattle.std.proofs.Common.{◌≡◌, ◌⊎◌, ℕ, Bool, true, false, List, [], ◌∷◌, ◌++◌, Option, Some, None, Result, Ok, Err, refl, sym, ap, subst, ◌∙◌, inl, inr}
+use Rattle.std.proofs.Common.{◌≡◌, ◌⊎◌, ℕ, Bool, true, false, List, [], ◌∷◌, ◌++◌, Option, Some, None, Result, Ok, Err, refl, sym, ap, subst, ◌∙◌}
+use Rattle.std.proofs.{Common.{inl, inr}, lemmas.Bool.{eqb-true}}
 use Rattle.std.specs.Prelude.{◌==◌, if◌then◌else◌}
-use Rattle.std.proofs.lemmas.Bool.{eqb-true}
 use Rattle.fis_view.specs.Frames.{Stamped}
 use Rattle.sata_disk.specs.declared.unheard.Unheard.{Unheard}
 use Rattle.sata_disk_laws.specs.Calls as call
 use Rattle.sata_disk_laws.specs.Calls.{Call}
-use Rattle.ahci_machine.specs.States.{MachineState, bay_at}
-use Rattle.ahci_machine.specs.declared.act.Act.{Act}
+use Rattle.ahci_machine.specs.{States.{MachineState, bay_at}, declared.act.Act.Act}
 use Rattle.ahci_machine.specs.declared.act.Act.TheVariants as act
-use Rattle.machine_laws.specs.ControllerLaws.{RunsRuled}
-use Rattle.machine_laws.specs.Deeds.{Answered, Deed, Moved, Pulled}
-use Rattle.machine_laws.specs.Disks.{calls_at, calls_by, heard, unless_refused}
+use Rattle.machine_laws.specs.{ControllerLaws.RunsRuled, Deeds.{Answered, Deed, Moved, Pulled}, Disks.{calls_at, calls_by, heard, unless_refused}}
 use Rattle.machine_theorem.specs.Identity.{calls_of}
 use Rattle.machine_theorem.proofs.Cut.{Cut, cut_here, cut_more}
 

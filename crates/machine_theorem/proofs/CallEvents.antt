@@ -1,46 +1,29 @@
 -- What a call of a controller that sends no command to a device is for its history: events that a test allows. So no slot of the device begins to wait by it, and
 -- only the PIO Setup FIS of a last block sets up the end of a PIO data-in.
-use Rattle.std.proofs.Common.{◌≡◌, ℕ, zero, suc, ◌&&◌, Bool, true, false, not, List, [], ◌∷◌, ◌++◌, append_assoc, drop, refl, sym, ◌∙◌, Option, Some, None, All}
+use Rattle.std.proofs.Common.{◌≡◌, ℕ, zero, suc, ◌&&◌, Bool, true, false, not, List, [], ◌∷◌, ◌++◌, append_assoc, drop, refl, sym, ◌∙◌, Option, Some}
+use Rattle.std.proofs.{Common.{None, All}, lemmas.List.Elements.{All-head, All-tail}}
 use Rattle.std.specs.Prelude.{◌==◌, IfSome, if◌then◌else◌}
-use Rattle.std.proofs.lemmas.List.Elements.{All-head, All-tail}
 use Rattle.host_memory.specs.declared.table.Prd.{Prd}
-use Rattle.slots.specs.Data.{payload}
-use Rattle.slots.specs.Slots.{Issue, context_of, holds, issue_at, match_some}
-use Rattle.slots.specs.Work.{is_dma, is_read}
+use Rattle.slots.specs.{Data.payload, Slots.{Issue, context_of, holds, issue_at, match_some}, Work.{is_dma, is_read}}
 use Rattle.hba_commands.specs.declared.command.Command.{Command}
 use Rattle.hba_fbs.specs.declared.register.Register.TheVariants as on_port
-use Rattle.hba_fbs.specs.declared.report.TakeReport.{TakeReport}
-use Rattle.hba_fbs.specs.declared.room.Room.{Room}
-use Rattle.hba_fbs.specs.declared.turn.Turn.{Turn}
-use Rattle.hba_fbs.specs.declared.turn.Turn.TheVariants.{Feeds, Orders, Rests}
-use Rattle.hba_fbs.specs.Offering.{asked_by}
-use Rattle.hba_fbs.specs.Registers.{falls}
-use Rattle.hba_fbs.specs.Taking.{port_of}
-use Rattle.hba_fbs.specs.Turning.{feeds}
-use Rattle.hba_fbs.specs.Views.{Port, last_command}
-use Rattle.hba_fbs.specs.Writing.{cleared_by, is_device}
-use Rattle.hba_laws.specs.Alike.{told_issue, told_issued}
-use Rattle.hba_laws.specs.CoreHistories.{event_by, happened, history_through, turned_for}
+use Rattle.hba_fbs.specs.declared.{report.TakeReport.TakeReport, room.Room.Room, turn.Turn.{Turn, TheVariants.{Feeds, Orders, Rests}}}
+use Rattle.hba_fbs.specs.{Offering.asked_by, Registers.falls, Taking.port_of, Turning.feeds, Views.{Port, last_command}, Writing.cleared_by}
+use Rattle.hba_fbs.specs.Writing.{is_device}
+use Rattle.hba_laws.specs.{Alike.{told_issue, told_issued}, CoreHistories.{event_by, happened, history_through, turned_for}, Cores.CoreEvent}
+use Rattle.hba_laws.specs.{Cores.RunsBy, Delivering.{begun_by, event_sent, is_control_issue}, History.{Event, History}}
 use Rattle.hba_laws.specs.Cores as core
-use Rattle.hba_laws.specs.Cores.{CoreEvent, RunsBy}
-use Rattle.hba_laws.specs.Delivering.{begun_by, event_sent, is_control_issue}
 use Rattle.hba_laws.specs.History as history
-use Rattle.hba_laws.specs.History.{Event, History}
-use Rattle.ahci_controller.specs.Access.{fits}
-use Rattle.ahci_controller.specs.Next.{is_halted, next_write, written}
-use Rattle.ahci_controller.specs.States.{ControllerState}
-use Rattle.ahci_controller.specs.declared.feeding.Fed.{Fed}
-use Rattle.ahci_controller.specs.declared.feeding.Fed.TheVariants as fed_answer
+use Rattle.ahci_controller.specs.{Access.fits, Next.{is_halted, next_write, written}, States.ControllerState, declared.feeding.Fed.Fed}
 use Rattle.ahci_controller.specs.declared.next.Next.{Next}
+use Rattle.ahci_controller.specs.declared.feeding.Fed.TheVariants as fed_answer
 use Rattle.ahci_controller.specs.declared.next.Next.TheVariants as next_step
 use Rattle.ahci_registers.specs.Offsets.{register_at}
-use Rattle.controller_laws.specs.CoreEvents.{of_event, of_fed, of_frame, of_next, of_turn}
+use Rattle.controller_laws.specs.{CoreEvents.{of_event, of_fed, of_frame, of_next, of_turn}, Events.{Does, Event as Call}}
 use Rattle.controller_laws.specs.Events as call
-use Rattle.controller_laws.specs.Events.{Does, Event as Call}
 use Rattle.machine_theorem.specs.Waits.{is_commanded}
-use Rattle.machine_theorem.proofs.Calm.{IsUnsentTurn, feeds_unsent, orders_unsent}
-use Rattle.machine_theorem.proofs.CallCores.{Allows, commanded_all, supply_all, wide_all, write_all}
-use Rattle.machine_theorem.proofs.SetupCores.{IsWritten}
+use Rattle.machine_theorem.proofs.{Calm.{IsUnsentTurn, feeds_unsent, orders_unsent}, CallCores.{Allows, commanded_all, supply_all, wide_all}}
+use Rattle.machine_theorem.proofs.{CallCores.write_all, SetupCores.IsWritten}
 
 -- ---- events of a history
 

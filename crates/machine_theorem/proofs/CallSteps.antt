@@ -1,52 +1,31 @@
 -- What a call of a controller is in the history of a device: the event of a FIS of the device, a command or Data that go to it, or commands that are
 -- issued and what empties it.
-use Rattle.std.proofs.Common.{◌≡◌, ◌⊎◌, ℕ, zero, suc, ◌<◌, Bool, true, false, List, [], ◌∷◌, ◌++◌, append_assoc, drop, length, refl, sym, ap, subst, ◌∙◌, inl, inr, arith, Option, Some, None, All}
-use Rattle.std.specs.Prelude.{◌==◌, is_some, if◌then◌else◌}
-use Rattle.std.specs.Option.{option_map}
-use Rattle.std.proofs.lemmas.Bool.{eqb-true, false≢true}
-use Rattle.std.proofs.lemmas.List.Elements.{All-head, All-tail}
+use Rattle.std.proofs.Common.{◌≡◌, ◌⊎◌, ℕ, zero, suc, ◌<◌, Bool, true, false, List, [], ◌∷◌, ◌++◌, append_assoc, drop, length, refl, sym, ap, subst}
+use Rattle.std.proofs.{Common.{◌∙◌, inl, inr, arith, Option, Some, None, All}, lemmas.{Bool.{eqb-true, false≢true}, List.Elements.{All-head}}}
+use Rattle.std.proofs.lemmas.List.Elements.{All-tail}
+use Rattle.std.specs.{Prelude.{◌==◌, is_some, if◌then◌else◌}, Option.option_map}
 use Rattle.host_memory.specs.declared.table.Prd.{Prd}
-use Rattle.slots.specs.Commands.{MayBeSent, after_sent, is_slot, sent_issue}
-use Rattle.slots.specs.Data.{payload}
-use Rattle.slots.specs.Setup.{begun, whole_context, with_own_context}
+use Rattle.slots.specs.{Commands.{MayBeSent, after_sent, is_slot, sent_issue}, Data.payload, Setup.{begun, whole_context, with_own_context}}
 use Rattle.slots.specs.Slots.{DeviceSlots, Issue, context_of, freed, holds, is_control, issue_at, match_some, own_issue, slots_of, with_own_issue}
-use Rattle.slots.specs.Work.{is_dma}
-use Rattle.slots.specs.declared.work.Kind.{Kind}
-use Rattle.slots.specs.declared.work.Kind.TheVariants.{DmaIn, DmaOut}
+use Rattle.slots.specs.{Work.is_dma, declared.work.Kind.{Kind, TheVariants.{DmaIn, DmaOut}}}
 use Rattle.hba_commands.specs.declared.command.Command.{Command}
-use Rattle.hba_fbs.specs.Offering.{asked_by}
-use Rattle.hba_fbs.specs.Registers.{falls}
-use Rattle.hba_fbs.specs.Taking.{port_of}
-use Rattle.hba_fbs.specs.Turning.{feeds}
-use Rattle.hba_fbs.specs.Choosing.{Chooses}
-use Rattle.hba_fbs.specs.Views.{DeviceView, Port, last_command, view_of}
-use Rattle.hba_fbs.specs.Writing.{cleared_by, is_device}
+use Rattle.hba_fbs.specs.{Offering.asked_by, Registers.falls, Taking.port_of, Turning.feeds, Choosing.Chooses, Views.{DeviceView, Port, last_command}}
+use Rattle.hba_fbs.specs.{Views.view_of, Writing.{cleared_by, is_device}, declared.{report.TakeReport.TakeReport, turn.Turn.TheVariants.Orders}}
+use Rattle.hba_fbs.specs.declared.turn.Turn.TheVariants.{Rests}
 use Rattle.hba_fbs.specs.declared.register.Register.TheVariants as on_port
-use Rattle.hba_fbs.specs.declared.report.TakeReport.{TakeReport}
-use Rattle.hba_fbs.specs.declared.turn.Turn.TheVariants.{Orders, Rests}
-use Rattle.hba_laws.specs.Agreement.{IsTold}
-use Rattle.hba_laws.specs.Alike.{told_issue, told_issued}
-use Rattle.hba_laws.specs.CoreHistories.{event_by, happened, history_through}
+use Rattle.hba_laws.specs.{Agreement.IsTold, Alike.{told_issue, told_issued}, CoreHistories.{event_by, happened, history_through}, Cores.CoreEvent}
+use Rattle.hba_laws.specs.{Cores.RunsBy, Delivering.{begun_by, event_sent}, History.History}
 use Rattle.hba_laws.specs.Cores as core
-use Rattle.hba_laws.specs.Cores.{CoreEvent, RunsBy}
-use Rattle.hba_laws.specs.Delivering.{begun_by, event_sent}
 use Rattle.hba_laws.specs.History as history
-use Rattle.hba_laws.specs.History.{History}
 use Rattle.hba_laws.proofs.Door.{own_here}
-use Rattle.ahci_controller.specs.Access.{fits}
-use Rattle.ahci_controller.specs.Next.{is_halted, next_write, written}
-use Rattle.ahci_controller.specs.States.{ControllerState}
-use Rattle.ahci_controller.specs.Taking.{room_for}
-use Rattle.ahci_controller.specs.declared.feeding.Fed.TheVariants as fed_answer
+use Rattle.ahci_controller.specs.{Access.fits, Next.{is_halted, next_write, written}, States.ControllerState, Taking.room_for}
 use Rattle.ahci_controller.specs.declared.next.Next.{Next}
+use Rattle.ahci_controller.specs.declared.feeding.Fed.TheVariants as fed_answer
 use Rattle.ahci_controller.specs.declared.next.Next.TheVariants as next_step
 use Rattle.ahci_registers.specs.Offsets.{register_at}
-use Rattle.controller_laws.specs.CoreEvents.{AreCoreEvents, of_event, of_frame, of_next, of_turn}
+use Rattle.controller_laws.specs.{CoreEvents.{AreCoreEvents, of_event, of_frame, of_next, of_turn}, Events.{Does, Event, IsController}}
 use Rattle.controller_laws.specs.Events as call
-use Rattle.controller_laws.specs.Events.{Does, Event, IsController}
-use Rattle.machine_theorem.proofs.CallCores.{Allows, commanded_all, supply_all, wide_all, write_all}
-use Rattle.machine_theorem.proofs.Ordered.{fed_some}
-use Rattle.machine_theorem.proofs.SetupCores.{IsWritten}
+use Rattle.machine_theorem.proofs.{CallCores.{Allows, commanded_all, supply_all, wide_all, write_all}, Ordered.fed_some, SetupCores.IsWritten}
 use Rattle.machine_theorem.proofs.Waiting.{Laws, core_events}
 
 -- ---- commands that are issued, and what empties the device

@@ -1,52 +1,32 @@
 -- A slot of a device begins to wait only as its command is sent: what the history of the device has of the slot that waits it had before any other call.
-use Rattle.std.proofs.Common.{◌≡◌, ℕ, zero, suc, ◌&&◌, Bool, true, false, not, List, [], ◌∷◌, ◌++◌, append_assoc, drop, refl, ap, subst, ◌∙◌, Option, Some, None, All}
+use Rattle.std.proofs.Common.{◌≡◌, ℕ, zero, suc, ◌&&◌, Bool, true, false, not, List, [], ◌∷◌, ◌++◌, append_assoc, drop, refl, ap, subst, ◌∙◌, Option}
+use Rattle.std.proofs.{Common.{Some, None, All}, lemmas.List.Elements.{All-head, All-tail}}
 use Rattle.std.specs.Prelude.{◌==◌, IfSome, if◌then◌else◌}
-use Rattle.std.proofs.lemmas.List.Elements.{All-head, All-tail}
 use Rattle.fis_view.specs.Seen.{seen}
 use Rattle.host_memory.specs.declared.table.Prd.{Prd}
-use Rattle.slots.specs.declared.answer.Answered.{Answered}
+use Rattle.slots.specs.{declared.answer.Answered.Answered, Data.payload, Slots.{Issue, context_of, holds, issue_at, match_some}, Work.is_dma}
+use Rattle.slots.specs.Work.{is_read}
 use Rattle.slots.specs.declared.answer.Answered.TheVariants as answer
-use Rattle.slots.specs.Data.{payload}
-use Rattle.slots.specs.Slots.{Issue, context_of, holds, issue_at, match_some}
-use Rattle.slots.specs.Work.{is_dma, is_read}
 use Rattle.hba_commands.specs.declared.command.Command.{Command}
-use Rattle.hba_fbs.specs.declared.hearing.Happening.{Happening}
+use Rattle.hba_fbs.specs.declared.{hearing.{Happening.Happening, Heard.Heard}, report.TakeReport.TakeReport, room.Room.Room, status.Block.Block}
+use Rattle.hba_fbs.specs.{declared.turn.Turn.{Turn, TheVariants.{Feeds, Orders, Rests}}, Deciding.decided, Offering.asked_by, Registers.falls}
+use Rattle.hba_fbs.specs.{Taking.{admitted, ignores, port_of}, Turning.feeds, Views.{Port, last_command, view_of}, Writing.{cleared_by, is_device}}
 use Rattle.hba_fbs.specs.declared.hearing.Happening.TheVariants as happening
-use Rattle.hba_fbs.specs.declared.hearing.Heard.{Heard}
 use Rattle.hba_fbs.specs.declared.register.Register.TheVariants as on_port
-use Rattle.hba_fbs.specs.declared.report.TakeReport.{TakeReport}
-use Rattle.hba_fbs.specs.declared.room.Room.{Room}
-use Rattle.hba_fbs.specs.declared.status.Block.{Block}
-use Rattle.hba_fbs.specs.declared.turn.Turn.{Turn}
-use Rattle.hba_fbs.specs.declared.turn.Turn.TheVariants.{Feeds, Orders, Rests}
-use Rattle.hba_fbs.specs.Deciding.{decided}
-use Rattle.hba_fbs.specs.Offering.{asked_by}
-use Rattle.hba_fbs.specs.Registers.{falls}
-use Rattle.hba_fbs.specs.Taking.{admitted, ignores, port_of}
-use Rattle.hba_fbs.specs.Turning.{feeds}
-use Rattle.hba_fbs.specs.Views.{Port, last_command, view_of}
-use Rattle.hba_fbs.specs.Writing.{cleared_by, is_device}
-use Rattle.hba_laws.specs.Alike.{told_issue, told_issued}
-use Rattle.hba_laws.specs.CoreHistories.{event_by, happened, history_through, turned_for}
-use Rattle.hba_laws.specs.Cores as core
-use Rattle.hba_laws.specs.Cores.{CoreEvent, RunsBy}
-use Rattle.hba_laws.specs.Delivering.{begun_by, event_heard, event_of, event_of_answer, event_of_block, event_sent, is_control_issue}
-use Rattle.hba_laws.specs.History as history
+use Rattle.hba_laws.specs.{Alike.{told_issue, told_issued}, CoreHistories.{event_by, happened, history_through, turned_for}, Cores.CoreEvent}
+use Rattle.hba_laws.specs.{Cores.RunsBy, Delivering.{begun_by, event_heard, event_of, event_of_answer, event_of_block, event_sent, is_control_issue}}
 use Rattle.hba_laws.specs.History.{Event, History, is_at, unless, waiting_in}
-use Rattle.ahci_controller.specs.Access.{fits}
-use Rattle.ahci_controller.specs.Next.{is_halted, next_write, written}
-use Rattle.ahci_controller.specs.States.{ControllerState}
-use Rattle.ahci_controller.specs.declared.feeding.Fed.{Fed}
-use Rattle.ahci_controller.specs.declared.feeding.Fed.TheVariants as fed_answer
+use Rattle.hba_laws.specs.Cores as core
+use Rattle.hba_laws.specs.History as history
+use Rattle.ahci_controller.specs.{Access.fits, Next.{is_halted, next_write, written}, States.ControllerState, declared.feeding.Fed.Fed}
 use Rattle.ahci_controller.specs.declared.next.Next.{Next}
+use Rattle.ahci_controller.specs.declared.feeding.Fed.TheVariants as fed_answer
 use Rattle.ahci_controller.specs.declared.next.Next.TheVariants as next_step
 use Rattle.ahci_registers.specs.Offsets.{register_at}
-use Rattle.controller_laws.specs.CoreEvents.{of_event, of_fed, of_frame, of_next, of_turn}
+use Rattle.controller_laws.specs.{CoreEvents.{of_event, of_fed, of_frame, of_next, of_turn}, Events.{Does, Event as Call}}
 use Rattle.controller_laws.specs.Events as call
-use Rattle.controller_laws.specs.Events.{Does, Event as Call}
 use Rattle.machine_theorem.specs.Waits.{is_command_issue, is_commanded}
-use Rattle.machine_theorem.proofs.CallCores.{Allows, commanded_all, supply_all, wide_all, write_all}
-use Rattle.machine_theorem.proofs.SetupCores.{IsWritten}
+use Rattle.machine_theorem.proofs.{CallCores.{Allows, commanded_all, supply_all, wide_all, write_all}, SetupCores.IsWritten}
 
 -- ---- histories
 

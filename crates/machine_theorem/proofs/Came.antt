@@ -1,42 +1,29 @@
 -- All Data that came for the command of a page are the payload of Data FISes that were heard behind the FIS which asked for it.
-use Rattle.std.proofs.Common.{◌≡◌, ◌⊎◌, ℕ, zero, suc, Bool, true, false, List, [], ◌∷◌, ◌++◌, append_assoc, append-nil, drop, get_or, set, length, Option, Some, None, Result, Ok, refl, sym, ap, ◌∙◌, subst, inl, inr}
-use Rattle.std.specs.Prelude.{◌&&◌, ◌==◌, if◌then◌else◌, replicate, slice_index}
-use Rattle.std.specs.Option.{option_map}
-use Rattle.fis_view.specs.Seen.{frame_of, seen as view_seen}
-use Rattle.fis_view.specs.declared.view.Fis.{Fis}
+use Rattle.std.proofs.Common.{◌≡◌, ◌⊎◌, ℕ, zero, suc, Bool, true, false, List, [], ◌∷◌, ◌++◌, append_assoc, append-nil, drop, get_or, set, length}
+use Rattle.std.proofs.Common.{Option, Some, None, Result, Ok, refl, sym, ap, ◌∙◌, subst, inl, inr}
+use Rattle.std.specs.{Prelude.{◌&&◌, ◌==◌, if◌then◌else◌, replicate, slice_index}, Option.option_map}
+use Rattle.fis_view.specs.{Seen.{frame_of, seen as view_seen}, declared.view.{Fis.Fis, FisFault.FisFault}}
 use Rattle.fis_view.specs.declared.view.Fis.TheVariants as view
-use Rattle.fis_view.specs.declared.view.FisFault.{FisFault}
-use Rattle.block_command.specs.declared.command.Command.{Command}
-use Rattle.block_command.specs.declared.command.Turn.{Turn}
+use Rattle.block_command.specs.{declared.command.{Command.Command, Turn.Turn}, Moments.{Moment, turn_of}, Laws.{CameData, Comes, Flushed, Goes}}
+use Rattle.block_command.specs.Laws.{Happening, Input, Ledger, Loaded, Loads, SentSetUp, Stored, blank, entered, given_to, shown, stored_in}
 use Rattle.block_command.specs.declared.command.Turn.TheVariants as turn
-use Rattle.block_command.specs.Moments.{Moment, turn_of}
-use Rattle.block_command.specs.Laws.{CameData, Comes, Flushed, Goes, Happening, Input, Ledger, Loaded, Loads, SentSetUp, Stored, blank, entered, given_to, shown, stored_in}
 use Rattle.block_disk.specs.Table as table
-use Rattle.block_disk.specs.Table.{is_under_way}
-use Rattle.block_disk.specs.Laws.{At, Page, Refused, Reset, Shown, Took, at_page, entered_in, page_entered, shown_at}
+use Rattle.block_disk.specs.{Table.is_under_way, Laws.{At, Page, Refused, Reset, Shown, Took, at_page, entered_in, page_entered, shown_at}}
 use Rattle.block_disk.specs.Requests.{Answered, Asked, Books, Drawn, OnLink, Seen, entered_by, is_out, no_books, seen, told}
 use Rattle.block_disk.proofs.Door.{each_is}
 use Rattle.block_queue.specs.Deeds as deed
-use Rattle.block_queue.specs.Deeds.{Deed, act_of, after_deed, seen_of}
-use Rattle.block_queue.specs.Line.{Line, may_send}
-use Rattle.block_scheduler.specs.Sets.{ends_at}
-use Rattle.block_scheduler.specs.Schedule.{Schedule, ends_all, ends_sent}
+use Rattle.block_queue.specs.{Deeds.{Deed, act_of, after_deed, seen_of}, Line.{Line, may_send}}
+use Rattle.block_scheduler.specs.{Sets.ends_at, Schedule.{Schedule, ends_all, ends_sent}, Laws.{Move, after_move, all_deeds, deeds_of, end_deeds}}
+use Rattle.block_scheduler.specs.Laws.{ends_deeds}
 use Rattle.block_scheduler.specs.Laws as move
-use Rattle.block_scheduler.specs.Laws.{Move, after_move, all_deeds, deeds_of, end_deeds, ends_deeds}
-use Rattle.block_engine.specs.declared.request.Answer.{Answer}
+use Rattle.block_engine.specs.{declared.request.{Answer.Answer, Range.Range}, Engine.{EngineState, place_of}, Laws.{Step, after_step, all_moves}}
+use Rattle.block_engine.specs.Laws.{answer_moves, moves_of}
 use Rattle.block_engine.specs.declared.request.Answer.TheVariants as answers
-use Rattle.block_engine.specs.declared.request.Range.{Range}
-use Rattle.block_engine.specs.Engine.{EngineState, place_of}
 use Rattle.block_engine.specs.Laws as engine
-use Rattle.block_engine.specs.Laws.{Step, after_step, all_moves, answer_moves, moves_of}
-use Rattle.ata_front.specs.Fronts.{heard_data}
-use Rattle.ata_front.specs.declared.task.Act.{Act}
+use Rattle.ata_front.specs.{Fronts.heard_data, declared.task.Act.Act}
 use Rattle.ata_front.specs.declared.task.Act.TheVariants as act
-use Rattle.disk_pages.specs.Profiles.{facts_of}
-use Rattle.disk_pages.specs.declared.profile.Profile.{Profile}
-use Rattle.sata_disk.specs.State.{DiskState, commands, data_place, new_disk}
-use Rattle.sata_disk.specs.Hearing.{ranges_of, register_told}
-use Rattle.sata_disk.specs.declared.out.Out.{Out}
+use Rattle.disk_pages.specs.{Profiles.facts_of, declared.profile.Profile.Profile}
+use Rattle.sata_disk.specs.{State.{DiskState, commands, data_place, new_disk}, Hearing.{ranges_of, register_told}, declared.out.Out.Out}
 use Rattle.sata_disk.specs.declared.out.Out.TheVariants as out
 use Rattle.sata_disk_laws.specs.Calls as call
 use Rattle.sata_disk_laws.specs.Calls.{Call, act_steps, all_steps, ask_steps, data_steps, fis_steps, out_steps, range_steps, start_steps, steps_of}
@@ -44,8 +31,7 @@ use Rattle.sata_disk_laws.specs.Laws.{reached, seen_in}
 use Rattle.sata_disk_books.specs.Books.{CommandsAreAsked, IsAskedFor, books_after, page_in}
 use Rattle.sata_disk_books.proofs.Door.{books_both, shown_both, shown_from}
 use Rattle.machine_theorem.specs.Writes.{AreHeard, payloads}
-use Rattle.machine_theorem.proofs.IsData.{payload_type}
-use Rattle.machine_theorem.proofs.Sent.{seen_data}
+use Rattle.machine_theorem.proofs.{IsData.payload_type, Sent.seen_data}
 
 -- ---- FISes that are heard
 

@@ -1,25 +1,16 @@
 -- Where a FIS of a connection is taken, no more ends came than were sent before it: so no more bits fell until then.
-use Rattle.std.proofs.Common.{◌≡◌, ℕ, ◌≤◌, Bool, true, false, List, [], ◌∷◌, ◌++◌, append-nil, sym, ap, subst, ◌∙◌, inl, inr, arith}
-use Rattle.std.proofs.Common.{Contains, refl}
+use Rattle.std.proofs.Common.{◌≡◌, ℕ, ◌≤◌, Bool, true, false, List, [], ◌∷◌, ◌++◌, append-nil, sym, ap, subst, ◌∙◌, inl, inr, arith, Contains, refl}
+use Rattle.std.proofs.lemmas.{Bool.{and_parts, eq-eqb, eqb-true, false≢true}, List.Elements.{Contains-push}}
 use Rattle.std.specs.Prelude.{◌==◌, if◌then◌else◌}
-use Rattle.std.proofs.lemmas.Bool.{and_parts, eq-eqb, eqb-true, false≢true}
-use Rattle.std.proofs.lemmas.List.Elements.{Contains-push}
 use Rattle.fis_view.specs.Frames.{Stamped}
 use Rattle.multiplier.specs.Passing.{of_conn}
 use Rattle.hba_fbs.specs.declared.report.Wrote.{Wrote}
 use Rattle.ahci_machine.specs.States.{MachineState}
-use Rattle.machine_laws.specs.ControllerLaws.{RunsRuled}
-use Rattle.machine_laws.specs.Deeds.{Deed, Does}
-use Rattle.machine_laws.specs.Rising.{sent_by, untaken}
-use Rattle.machine_theorem.specs.Identity.{calls_of, picks}
-use Rattle.machine_theorem.specs.OwnSlots.{AllKeepLine, BeginsClear, KeepsLine, is_of}
-use Rattle.machine_theorem.specs.Tags.{ended_with}
-use Rattle.machine_theorem.proofs.EndsFew.{sent_few, sent_of}
-use Rattle.machine_theorem.proofs.OwnPlace.{IsFound, one_sent}
-use Rattle.machine_theorem.proofs.Risen.{Begins, came_few, names_tag}
-use Rattle.machine_theorem.proofs.RisenTold.{conn_both}
-use Rattle.machine_theorem.proofs.Stretch.{Stretch, came_begins, comes, falls, fell_few, sends}
-use Rattle.machine_theorem.proofs.TheSlots.{Laws, begins_first, none_first}
+use Rattle.machine_laws.specs.{ControllerLaws.RunsRuled, Deeds.{Deed, Does}, Rising.{sent_by, untaken}}
+use Rattle.machine_theorem.specs.{Identity.{calls_of, picks}, OwnSlots.{AllKeepLine, BeginsClear, KeepsLine, is_of}, Tags.ended_with}
+use Rattle.machine_theorem.proofs.{EndsFew.{sent_few, sent_of}, OwnPlace.{IsFound, one_sent}, Risen.{Begins, came_few, names_tag}}
+use Rattle.machine_theorem.proofs.{RisenTold.conn_both, Stretch.{Stretch, came_begins, comes, falls, fell_few, sends}, TheSlots.{Laws, begins_first}}
+use Rattle.machine_theorem.proofs.TheSlots.{none_first}
 
 -- ---- other connections of the port
 

@@ -1,45 +1,34 @@
 -- Each byte that came for a queued command that is under way, and has not failed, came by a Data FIS that the disk heard while the command awaited it; the
 -- command did not end since.
-use Rattle.std.proofs.Common.{◌≡◌, ◌⊎◌, ℕ, ◌+◌, ◌-◌, ◌<◌, ◌≤◌, Bool, true, false, not, List, [], ◌∷◌, ◌++◌, append_assoc, append-nil, drop, get_or, length, set, Option, Some, None, Ok}
-use Rattle.std.proofs.Common.{arith, refl, sym, ap, ◌∙◌, subst, inl, inr}
-use Rattle.std.specs.Prelude.{if◌then◌else◌, slice_get}
-use Rattle.std.specs.Option.{option_map}
-use Rattle.std.proofs.lemmas.Bool.{cases_eq, cases_lt, false≢true}
-use Rattle.std.proofs.lemmas.List.{get_or-append_right, get_or-set_other, get_or_append_left, length-append}
-use Rattle.std.proofs.lemmas.Option.{same_Some, slice_get-get_or}
+use Rattle.std.proofs.Common.{◌≡◌, ◌⊎◌, ℕ, ◌+◌, ◌-◌, ◌<◌, ◌≤◌, Bool, true, false, not, List, [], ◌∷◌, ◌++◌, append_assoc, append-nil, drop, get_or}
+use Rattle.std.proofs.{Common.{length, set, Option, Some, None, Ok, arith, refl, sym, ap, ◌∙◌, subst, inl, inr}, lemmas.Bool.{cases_eq, cases_lt}}
+use Rattle.std.proofs.lemmas.{Bool.{false≢true}, List.{get_or-append_right, get_or-set_other, get_or_append_left, length-append}, Option.same_Some}
+use Rattle.std.proofs.lemmas.Option.{slice_get-get_or}
+use Rattle.std.specs.{Prelude.{if◌then◌else◌, slice_get}, Option.option_map}
 use Rattle.fis_view.specs.Seen.{seen as view_seen}
 use Rattle.fis_view.specs.declared.view.Fis.TheVariants as view
-use Rattle.block_command.specs.declared.command.Command.{Command}
-use Rattle.block_command.specs.declared.command.Stage.{Stage}
-use Rattle.block_command.specs.declared.command.Stage.TheVariants.{End, Ended, Fail, Receiving}
-use Rattle.block_command.specs.Moments.{Moment, after_came, after_failed, after_flushed, after_loaded, after_stored, gone, is_ended, opening, turn_of}
+use Rattle.block_command.specs.{declared.command.{Command.Command, Stage.{Stage, TheVariants.{End, Ended, Fail, Receiving}}}, Moments.Moment}
+use Rattle.block_command.specs.Moments.{after_came, after_failed, after_flushed, after_loaded, after_stored, gone, is_ended, opening, turn_of}
 use Rattle.block_command.specs.Laws.{CameData, Comes, Fails, Flushes, Goes, Happening, Input, Ledger, Loads, Stores, after, blank, happening}
 use Rattle.block_command.proofs.Door.{Agrees, at}
-use Rattle.block_disk.specs.Laws.{At, Page, Refused, Took, at_page, entered_in, page_entered, shown_at}
-use Rattle.block_disk.specs.Requests.{Books, Queue, entered_by, is_out, no_books, seen, told}
-use Rattle.block_disk.specs.Table.{is_under_way, with_command, with_input}
+use Rattle.block_disk.specs.{Laws.{At, Page, Refused, Took, at_page, entered_in, page_entered, shown_at}, Requests.{Books, Queue, entered_by, is_out}}
+use Rattle.block_disk.specs.{Requests.{no_books, seen, told}, Table.{is_under_way, with_command, with_input}}
 use Rattle.block_disk.proofs.Door.{Agree, Matches, each_is}
 use Rattle.block_queue.specs.Deeds as deed
-use Rattle.block_queue.specs.Deeds.{Deed, act_of, after_deed, seen_of}
-use Rattle.block_queue.specs.Line.{Line, command_at, has_bit}
+use Rattle.block_queue.specs.{Deeds.{Deed, act_of, after_deed, seen_of}, Line.{Line, command_at, has_bit}}
 use Rattle.block_scheduler.specs.Laws.{all_deeds}
-use Rattle.block_engine.specs.Engine.{EngineState}
+use Rattle.block_engine.specs.{Engine.EngineState, Laws.{Step, all_moves}}
 use Rattle.block_engine.specs.Laws as engine
-use Rattle.block_engine.specs.Laws.{Step, all_moves}
 use Rattle.disk_pages.specs.declared.profile.Profile.{Profile}
-use Rattle.sata_disk.specs.Hearing.{is_receiving, receives}
-use Rattle.sata_disk.specs.State.{DiskState, commands, is_taken, new_disk}
+use Rattle.sata_disk.specs.{Hearing.{is_receiving, receives}, State.{DiskState, commands, is_taken, new_disk}}
 use Rattle.sata_disk.specs.declared.out.Out.TheVariants as out
-use Rattle.sata_disk_books.specs.Books.{books_after, page_in}
-use Rattle.sata_disk_books.specs.Counted.{counted_after}
+use Rattle.sata_disk_books.specs.{Books.{books_after, page_in}, Counted.counted_after}
 use Rattle.sata_disk_books.proofs.Door.{Good, after_deeds, books_both, calls_good, deeds_by, line_by, new_good, shown_both, shown_from}
-use Rattle.sata_disk_laws.specs.Calls.{AreCalls, Call, Plugs, Hears, Starts, Asks, Answers, Sends, steps_of}
-use Rattle.sata_disk_laws.specs.Laws.{reached, seen_in}
+use Rattle.sata_disk_laws.specs.{Calls.{AreCalls, Call, Plugs, Hears, Starts, Asks, Answers, Sends, steps_of}, Laws.{reached, seen_in}}
 use Rattle.machine_theorem.specs.Tags.{ended_with, ends_with, once_if}
-use Rattle.machine_theorem.proofs.Came.{CallSteps, Each, NoDeed, NoHappening, call_kind, ledger_holds, moves_deeds, none_happens, one_call, steps_moves, told_none, turn_none}
-use Rattle.machine_theorem.proofs.Came.CallSteps.{Quiet, Brings}
-use Rattle.machine_theorem.proofs.TagCounts.{Laws, ended_both, ends_it, first_calls, one_call_more}
-use Rattle.machine_theorem.proofs.TagPages.{here_or}
+use Rattle.machine_theorem.proofs.Came.{CallSteps, Each, NoDeed, NoHappening, call_kind, ledger_holds, moves_deeds, none_happens, one_call}
+use Rattle.machine_theorem.proofs.{Came.{steps_moves, told_none, turn_none, CallSteps.{Quiet, Brings}}, TagCounts.{Laws, ended_both, ends_it}}
+use Rattle.machine_theorem.proofs.{TagCounts.{first_calls, one_call_more}, TagPages.here_or}
 
 -- ---- a command that has neither ended nor failed
 

@@ -1,18 +1,14 @@
 -- The frame whose bytes go to the guest is a Data FIS.
 use Rattle.std.proofs.Common.{◌≡◌, ℕ, Bool, true, false, List, [], ◌∷◌, Option, Some, None, not}
 use Rattle.std.specs.Prelude.{slice_index}
-use Rattle.guest_fetch.specs.Commands.{Fetched}
-use Rattle.guest_fetch.specs.declared.moves.Move.{Move}
+use Rattle.guest_fetch.specs.{Commands.Fetched, declared.moves.Move.Move}
 use Rattle.slots.specs.Slots.{match_some}
 use Rattle.hba_fbs.specs.declared.report.Wrote.{Wrote as Brought}
-use Rattle.ahci_controller.specs.Access.{fits}
-use Rattle.ahci_controller.specs.States.{ControllerState, kept}
-use Rattle.ahci_controller.specs.Wide.{WritesFitting}
-use Rattle.ahci_controller.specs.declared.access.Width.{Width}
+use Rattle.ahci_controller.specs.{Access.fits, States.{ControllerState, kept}, Wide.WritesFitting, declared.access.Width.Width}
 use Rattle.ahci_controller.specs.declared.wide.WideWritten.{WideWritten}
 use Rattle.controller_laws.specs.Carrying.{Carrying, carrying_after, carrying_by, carrying_of, cut_if, cut_wide, moves_in, moves_said, said_more}
-use Rattle.controller_laws.specs.Events as call
 use Rattle.controller_laws.specs.Events.{Event}
+use Rattle.controller_laws.specs.Events as call
 use Rattle.machine_theorem.proofs.IsData.{IsDataOr, brings_data}
 
 abbrev pub IsDataFis : Option Carrying → Type 0

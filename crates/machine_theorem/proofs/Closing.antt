@@ -1,49 +1,30 @@
 -- No more commands are sent to a device than FISes of it settle some, and one more where a slot waits that is not shut. Where the slot that waits is shut, the last
 -- FIS that settled a command is the PIO Setup FIS of its last block, or one more came than were sent.
-use Rattle.std.proofs.Common.{◌≡◌, ◌⊎◌, ℕ, ◌+◌, ◌<◌, ◌≤◌, ◌&&◌, Bool, true, false, not, List, [], ◌∷◌, ◌++◌, append_assoc, length, refl, sym, ap, subst, ◌∙◌, inl, inr, arith, Option, Some, None}
-use Rattle.std.specs.Prelude.{◌==◌, ◌||◌, IfSome, MatchOption, if◌then◌else◌, Result, Ok}
-use Rattle.std.specs.Option.{option_map}
-use Rattle.std.proofs.lemmas.Bool.{and_parts, eq-eqb, eqb-true, false≢true}
+use Rattle.std.proofs.Common.{◌≡◌, ◌⊎◌, ℕ, ◌+◌, ◌<◌, ◌≤◌, ◌&&◌, Bool, true, false, not, List, [], ◌∷◌, ◌++◌, append_assoc, length, refl, sym, ap}
+use Rattle.std.proofs.{Common.{subst, ◌∙◌, inl, inr, arith, Option, Some, None}, lemmas.Bool.{and_parts, eq-eqb, eqb-true, false≢true}}
 use Rattle.std.proofs.lemmas.List.{length-append}
-use Rattle.fis_view.specs.Seen.{seen}
+use Rattle.std.specs.{Prelude.{◌==◌, ◌||◌, IfSome, MatchOption, if◌then◌else◌, Result, Ok}, Option.option_map}
+use Rattle.fis_view.specs.{Seen.seen, Table.field, declared.view.{Fis.Fis, FisFault.FisFault}}
 use Rattle.fis_view.specs.Table as table
-use Rattle.fis_view.specs.Table.{field}
-use Rattle.fis_view.specs.declared.view.Fis.{Fis}
 use Rattle.fis_view.specs.declared.view.Fis.TheVariants as view
-use Rattle.fis_view.specs.declared.view.FisFault.{FisFault}
-use Rattle.slots.specs.Slots.{Issue, context_of, holds, is_control, is_queued_issue, issue_at, match_some, own_issue, slots_of}
-use Rattle.slots.specs.Table.{IsContext, IsContextOf, IsIssue}
-use Rattle.slots.specs.Work.{needs_all}
-use Rattle.slots.specs.declared.table.Context.{Context}
-use Rattle.slots.specs.declared.work.Work.{Work}
-use Rattle.hba_fbs.specs.Status.{is_quiet}
-use Rattle.hba_fbs.specs.Taking.{port_of}
-use Rattle.hba_fbs.specs.Views.{Port, view_of}
-use Rattle.hba_fbs.specs.declared.report.TakeReport.{TakeReport}
-use Rattle.hba_laws.specs.Agreement.{IsTold, is_for, work_of_issue}
-use Rattle.hba_laws.specs.CoreHistories.{event_by, history_through}
-use Rattle.hba_laws.specs.Cores.{RunsBy}
+use Rattle.slots.specs.{Slots.{Issue, context_of, holds, is_control, is_queued_issue, issue_at, match_some, own_issue, slots_of}, Table.IsContext}
+use Rattle.slots.specs.{Table.{IsContextOf, IsIssue}, Work.needs_all, declared.{table.Context.Context, work.Work.Work}}
+use Rattle.hba_fbs.specs.{Status.is_quiet, Taking.port_of, Views.{Port, view_of}, declared.report.TakeReport.TakeReport}
+use Rattle.hba_laws.specs.{Agreement.{IsTold, is_for, work_of_issue}, CoreHistories.{event_by, history_through}, Cores.RunsBy}
+use Rattle.hba_laws.specs.History.{Event as HistoryEvent, History, Setup, Transfer, completes, ends_well, is_at, is_set_up, issued, last_setup}
+use Rattle.hba_laws.specs.History.{unless, waiting_in}
 use Rattle.hba_laws.specs.History as history
-use Rattle.hba_laws.specs.History.{Event as HistoryEvent, History, Setup, Transfer, completes, ends_well, is_at, is_set_up, issued, last_setup, unless, waiting_in}
 use Rattle.hba_laws.proofs.Door.{own_here, own_in}
-use Rattle.ahci_controller.specs.States.{ControllerState}
-use Rattle.ahci_controller.specs.Taking.{room_for}
-use Rattle.ahci_controller.specs.declared.taking.Took.{Took}
+use Rattle.ahci_controller.specs.{States.ControllerState, Taking.room_for, declared.taking.Took.Took}
 use Rattle.ahci_controller.specs.declared.next.Next.TheVariants as next
-use Rattle.controller_laws.specs.CoreEvents.{of_frame}
+use Rattle.controller_laws.specs.{CoreEvents.of_frame, Events.{Does, Event, IsController, Runs}}
 use Rattle.controller_laws.specs.Events as call
-use Rattle.controller_laws.specs.Events.{Does, Event, IsController, Runs}
-use Rattle.machine_theorem.specs.Ending.{AllKeepEnding, KeepsEnding, carries, is_data_of}
-use Rattle.machine_theorem.specs.InTurn.{answers, is_answering}
-use Rattle.machine_theorem.specs.Tags.{once_if}
+use Rattle.machine_theorem.specs.{Ending.{AllKeepEnding, KeepsEnding, carries, is_data_of}, InTurn.{answers, is_answering}, Tags.once_if}
 use Rattle.machine_theorem.specs.Waits.{commanded_in, is_answered, is_command_issue, is_commanded, waits_in}
-use Rattle.machine_theorem.proofs.CallEvents.{AllOf, AnyTurn, IsNoBlock, any_goes, grown, no_block, turn_any}
-use Rattle.machine_theorem.proofs.FisEvents.{IsCarrying, closes, fis_carries}
-use Rattle.machine_theorem.proofs.OrderedOnce.{IsOrderedOnce, ordered_once}
-use Rattle.machine_theorem.proofs.PlainWaits.{at_some}
-use Rattle.machine_theorem.proofs.SetupFrames.{the_issue}
-use Rattle.machine_theorem.proofs.Shutting.{OneWaits, is_closing, is_shut, one_waits, shut, shut_back, shut_told, shut_view, then', told_then, waits_back}
-use Rattle.machine_theorem.proofs.Waiting.{IsSent, Laws, core_events, first_kept, low_slot, sent_now, some_waits}
+use Rattle.machine_theorem.proofs.{CallEvents.{AllOf, AnyTurn, IsNoBlock, any_goes, grown, no_block, turn_any}, FisEvents.{IsCarrying, closes}}
+use Rattle.machine_theorem.proofs.{FisEvents.fis_carries, OrderedOnce.{IsOrderedOnce, ordered_once}, PlainWaits.at_some, SetupFrames.the_issue}
+use Rattle.machine_theorem.proofs.Shutting.{OneWaits, is_closing, is_shut, one_waits, shut, shut_back, shut_told, shut_view, then', told_then}
+use Rattle.machine_theorem.proofs.{Shutting.waits_back, Waiting.{IsSent, Laws, core_events, first_kept, low_slot, sent_now, some_waits}}
 
 -- ---- what settles
 

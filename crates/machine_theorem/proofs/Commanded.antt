@@ -1,39 +1,22 @@
 -- The FISes of a stretch of calls that are commands for a disk are those of slots of its device.
-use Rattle.std.proofs.Common.{◌≡◌, ℕ, zero, suc, ◌+◌, ◌≤◌, ◌&&◌, Bool, true, false, List, [], ◌∷◌, ◌++◌, append_assoc, append-nil, length, map, Result, Ok, Err, refl, sym, ap, subst, ◌∙◌, arith}
-use Rattle.std.specs.Prelude.{◌==◌, if◌then◌else◌}
-use Rattle.std.specs.List.{flat_map}
-use Rattle.std.proofs.lemmas.Bool.{eq-eqb, false≢true}
-use Rattle.std.proofs.lemmas.Grind.{flat_map-append}
+use Rattle.std.proofs.Common.{◌≡◌, ℕ, zero, suc, ◌+◌, ◌≤◌, ◌&&◌, Bool, true, false, List, [], ◌∷◌, ◌++◌, append_assoc, append-nil, length, map}
+use Rattle.std.proofs.{Common.{Result, Ok, Err, refl, sym, ap, subst, ◌∙◌, arith}, lemmas.{Bool.{eq-eqb, false≢true}, Grind.{flat_map-append}}}
 use Rattle.std.proofs.lemmas.List.{length-append}
-use Rattle.fis_view.specs.Frames.{Stamped, marked}
-use Rattle.fis_view.specs.Seen.{seen}
-use Rattle.fis_view.specs.declared.view.Fis.{Fis}
+use Rattle.std.specs.{Prelude.{◌==◌, if◌then◌else◌}, List.flat_map}
+use Rattle.fis_view.specs.{Frames.{Stamped, marked}, Seen.seen, declared.view.{Fis.Fis, FisFault.FisFault}}
 use Rattle.fis_view.specs.declared.view.Fis.TheVariants as view
-use Rattle.fis_view.specs.declared.view.FisFault.{FisFault}
 use Rattle.ahci_controller.specs.States.{ControllerState}
 use Rattle.ahci_controller.specs.declared.feeding.Fed.TheVariants as fed
 use Rattle.ahci_controller.specs.declared.next.Next.TheVariants as next
 use Rattle.controller_laws.specs.Events as call
 use Rattle.controller_laws.specs.Events.{Event, Runs}
 use Rattle.sata_disk.specs.Hearing.{is_command}
-use Rattle.sata_disk_laws.specs.Calls.{Answers, Asks, Call, Hears, Plugs, Sends, Starts}
-use Rattle.sata_disk_laws.specs.Once.{place_in}
-use Rattle.ahci_machine.specs.Gathers.{host_stamp}
-use Rattle.ahci_machine.specs.States.{MachineState}
-use Rattle.machine_laws.specs.ControllerLaws.{RunsRuled, calls_in}
-use Rattle.machine_laws.specs.Controllers.{deed_calls}
-use Rattle.machine_laws.specs.Deeds.{Deed}
-use Rattle.machine_laws.specs.Falling.{heard_by, sent_by, sent_in}
-use Rattle.machine_theorem.specs.Identity.{heard_as, is_for, picks}
-use Rattle.machine_theorem.specs.InTurn.{commands, heard_in, is_asking}
-use Rattle.machine_theorem.specs.Singles.{AllOfDevice}
-use Rattle.machine_theorem.specs.Tags.{asks_with, once_if}
-use Rattle.machine_theorem.specs.Following.{AllHeardWell}
-use Rattle.machine_theorem.specs.Waits.{AllKeepWaiting, AllPlain, commanded_in, is_commanded, taken_in}
-use Rattle.machine_theorem.proofs.Asking.{AllDataAskNone, DataAskNone}
-use Rattle.machine_theorem.proofs.Fallen.{if_one, map_both}
-use Rattle.machine_theorem.proofs.OneConn.{no_length}
-use Rattle.machine_theorem.proofs.Within.{picks_both}
+use Rattle.sata_disk_laws.specs.{Calls.{Answers, Asks, Call, Hears, Plugs, Sends, Starts}, Once.place_in}
+use Rattle.ahci_machine.specs.{Gathers.host_stamp, States.MachineState}
+use Rattle.machine_laws.specs.{ControllerLaws.{RunsRuled, calls_in}, Controllers.deed_calls, Deeds.Deed, Falling.{heard_by, sent_by, sent_in}}
+use Rattle.machine_theorem.specs.{Identity.{heard_as, is_for, picks}, InTurn.{commands, heard_in, is_asking}, Singles.AllOfDevice, Tags.asks_with}
+use Rattle.machine_theorem.specs.{Tags.once_if, Following.AllHeardWell, Waits.{AllKeepWaiting, AllPlain, commanded_in, is_commanded, taken_in}}
+use Rattle.machine_theorem.proofs.{Asking.{AllDataAskNone, DataAskNone}, Fallen.{if_one, map_both}, OneConn.no_length, Within.picks_both}
 
 -- ---- what a disk heard
 

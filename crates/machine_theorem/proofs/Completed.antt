@@ -1,48 +1,29 @@
 -- What ends a command as a FIS is taken, by the history of its device.
-use Rattle.std.proofs.Common.{◌≡◌, ◌⊎◌, ℕ, ◌<◌, ◌||◌, Bool, true, false, List, [], ◌∷◌, ◌++◌, drop, refl, sym, ap, ◌∙◌, subst, inl, inr, Option, Some, None, arith}
-use Rattle.std.specs.Prelude.{◌==◌, ◌&&◌, IfSome, MatchOption, if◌then◌else◌}
-use Rattle.std.specs.Option.{option_map}
-use Rattle.std.proofs.lemmas.Bool.{eqb-true, false≢true}
+use Rattle.std.proofs.Common.{◌≡◌, ◌⊎◌, ℕ, ◌<◌, ◌||◌, Bool, true, false, List, [], ◌∷◌, ◌++◌, drop, refl, sym, ap, ◌∙◌, subst, inl, inr, Option, Some}
+use Rattle.std.proofs.{Common.{None, arith}, lemmas.Bool.{eqb-true, false≢true}}
+use Rattle.std.specs.{Prelude.{◌==◌, ◌&&◌, IfSome, MatchOption, if◌then◌else◌}, Option.option_map}
 use Rattle.fis_view.specs.Seen.{seen}
-use Rattle.slots.specs.Commands.{slots_where}
-use Rattle.slots.specs.Slots.{Issue, has_bit, holds, is_queued_issue, issue_at, match_some, own_issue, slots_of}
-use Rattle.slots.specs.Table.{IsIssue}
-use Rattle.slots.specs.Work.{is_queued}
+use Rattle.slots.specs.{Commands.slots_where, Slots.{Issue, has_bit, holds, is_queued_issue, issue_at, match_some, own_issue, slots_of}}
+use Rattle.slots.specs.{Table.IsIssue, Work.is_queued, declared.work.Work.Work}
 use Rattle.slots.specs.declared.answer.Answered as answered_type
 use Rattle.slots.specs.declared.answer.Answered.TheVariants as answer
-use Rattle.slots.specs.declared.work.Work.{Work}
 use Rattle.ahci_registers.specs.declared.register.Register.TheVariants.{PxCi, PxSact}
-use Rattle.hba_fbs.specs.Deciding.{decided}
-use Rattle.hba_fbs.specs.Taking.{admitted, ignores, port_of}
-use Rattle.hba_fbs.specs.Views.{Port, view_of}
-use Rattle.hba_fbs.specs.declared.hearing.Happening.{Happening}
+use Rattle.hba_fbs.specs.{Deciding.decided, Taking.{admitted, ignores, port_of}, Views.{Port, view_of}, declared.hearing.Happening.Happening}
+use Rattle.hba_fbs.specs.declared.{room.Room.Room, status.Block.Block}
 use Rattle.hba_fbs.specs.declared.hearing.Happening.TheVariants as happening
-use Rattle.hba_fbs.specs.declared.room.Room.{Room}
-use Rattle.hba_fbs.specs.declared.status.Block.{Block}
-use Rattle.hba_laws.specs.Agreement.{work_of_issue, work_of_transfer}
-use Rattle.hba_laws.specs.CoreHistories.{event_by, frees, is_freed_in}
-use Rattle.hba_laws.specs.Cores.{RunsBy}
-use Rattle.hba_laws.specs.Delivering.{event_heard, event_of, event_of_answer, event_of_block}
+use Rattle.hba_laws.specs.{Agreement.{work_of_issue, work_of_transfer}, CoreHistories.{event_by, frees, is_freed_in}, Cores.RunsBy}
+use Rattle.hba_laws.specs.{Delivering.{event_heard, event_of, event_of_answer, event_of_block}, History.{Event, History, Transfer, completes, issued}}
 use Rattle.hba_laws.specs.History as history
-use Rattle.hba_laws.specs.History.{Event, History, Transfer, completes, issued}
 use Rattle.hba_laws.proofs.Door.{own_here}
-use Rattle.ahci_controller.specs.Reading.{shown}
-use Rattle.ahci_controller.specs.States.{ControllerState}
-use Rattle.ahci_controller.specs.Taking.{room_for}
-use Rattle.ahci_controller.specs.declared.taking.Took.{Took}
+use Rattle.ahci_controller.specs.{Reading.shown, States.ControllerState, Taking.room_for, declared.taking.Took.Took}
 use Rattle.ahci_controller.proofs.Door.{or_right}
-use Rattle.controller_laws.specs.CoreEvents.{AreCoreEvents, of_event, of_frame}
-use Rattle.controller_laws.specs.Ends.{AreTold, Falls, IsFreed, IssuesFall}
+use Rattle.controller_laws.specs.{CoreEvents.{AreCoreEvents, of_event, of_frame}, Ends.{AreTold, Falls, IsFreed, IssuesFall}, Events.IsController}
 use Rattle.controller_laws.specs.Events as call
-use Rattle.controller_laws.specs.Events.{IsController}
 use Rattle.ahci_machine.specs.States.{HasRules, IsOpeningMachine, MachineState}
 use Rattle.ahci_machine.specs.declared.act.Act.TheVariants as act
-use Rattle.machine_laws.specs.ControllerLaws.{RunsRuled}
-use Rattle.machine_laws.specs.Deeds.{Deed, Does, Moved}
+use Rattle.machine_laws.specs.{ControllerLaws.RunsRuled, Deeds.{Deed, Does, Moved}}
 use Rattle.machine_theorem.specs.Completed.{IsCompleted, IsEndedInHistory}
-use Rattle.machine_theorem.proofs.Armed.{queued_bit, sact_is}
-use Rattle.machine_theorem.proofs.Falls.{Laws, Told, core_events, kept_of, told_now}
-use Rattle.machine_theorem.proofs.Own.{last_ruled}
+use Rattle.machine_theorem.proofs.{Armed.{queued_bit, sact_is}, Falls.{Laws, Told, core_events, kept_of, told_now}, Own.last_ruled}
 
 -- ---- the events of a FIS
 

@@ -1,69 +1,38 @@
 -- Where the guest sees a queued read completed: each of its bytes, as it was sent and as it was taken.
-use Rattle.std.proofs.Common.{◌≡◌, ℕ, ◌<◌, Bool, true, false, List, [], ◌∷◌, ◌++◌, append_assoc, drop, length, refl, sym, ap, subst, ◌∙◌, arith, Result}
-use Rattle.std.proofs.Common.{Ok, Err, Contains}
-use Rattle.std.specs.Prelude.{◌==◌, nat_lt, slice_index}
-use Rattle.std.specs.List.{flat_map}
-use Rattle.std.proofs.lemmas.Bool.{and_parts, eq-eqb, false≢true, ltb-true}
-use Rattle.std.proofs.lemmas.Grind.{flat_map-append}
+use Rattle.std.proofs.Common.{◌≡◌, ℕ, ◌<◌, Bool, true, false, List, [], ◌∷◌, ◌++◌, append_assoc, drop, length, refl, sym, ap, subst, ◌∙◌, arith}
+use Rattle.std.proofs.{Common.{Result, Ok, Err, Contains}, lemmas.{Bool.{and_parts, eq-eqb, false≢true, ltb-true}, Grind.{flat_map-append}}}
 use Rattle.std.proofs.lemmas.List.Elements.{All-contains, Contains-push}
+use Rattle.std.specs.{Prelude.{◌==◌, nat_lt, slice_index}, List.flat_map}
 use Rattle.fis_view.specs.Frames.{Stamped}
-use Rattle.slots.specs.Slots.{Issue, holds, issue_at}
-use Rattle.slots.specs.declared.work.Kind.TheVariants.{QueuedRead}
-use Rattle.hba_fbs.specs.Taking.{port_of}
-use Rattle.hba_fbs.specs.declared.report.Wrote.{Wrote}
+use Rattle.slots.specs.{Slots.{Issue, holds, issue_at}, declared.work.Kind.TheVariants.QueuedRead}
+use Rattle.hba_fbs.specs.{Taking.port_of, declared.report.Wrote.Wrote}
 use Rattle.ahci_controller.specs.declared.next.Next.TheVariants as next
 use Rattle.controller_laws.specs.Events as call
 use Rattle.controller_laws.specs.Events.{Event}
-use Rattle.sata_disk.specs.State.{new_disk}
-use Rattle.sata_disk.specs.declared.out.Out.{Out}
+use Rattle.sata_disk.specs.{State.new_disk, declared.out.Out.Out}
 use Rattle.sata_disk.specs.declared.out.Out.TheVariants as out
-use Rattle.sata_disk_laws.specs.Calls.{AreCalls}
-use Rattle.sata_disk_laws.specs.Laws.{reached}
-use Rattle.sata_disk_laws.specs.Once.{Host, IsDataAt, IsOutDue, host_of, new_host}
-use Rattle.ahci_machine.specs.States.{IsOpeningMachine, bay_at}
-use Rattle.ahci_machine.specs.declared.act.Act.{Act}
+use Rattle.sata_disk_laws.specs.{Calls.AreCalls, Laws.reached, Once.{Host, IsDataAt, IsOutDue, host_of, new_host}}
+use Rattle.ahci_machine.specs.{States.{IsOpeningMachine, bay_at}, declared.act.Act.Act}
 use Rattle.ahci_machine.specs.declared.act.Act.TheVariants as act
-use Rattle.machine_laws.specs.ControllerLaws.{RunsRuled, calls_in}
-use Rattle.machine_laws.specs.Controllers.{deed_calls}
-use Rattle.machine_laws.specs.Deeds.{Deed, Does, FrameOffered, Moved}
+use Rattle.machine_laws.specs.{ControllerLaws.{RunsRuled, calls_in}, Controllers.deed_calls, Deeds.{Deed, Does, FrameOffered, Moved}, Falling.AllLast}
+use Rattle.machine_laws.specs.{Falling.{HasLink, heard_by, sent_in}, Rising.{risen, sent_by, unless_back}}
 use Rattle.machine_laws.specs.Falling as falling
-use Rattle.machine_laws.specs.Falling.{AllLast, HasLink, heard_by, sent_in}
-use Rattle.machine_laws.specs.Rising.{risen, sent_by, unless_back}
 use Rattle.machine_theorem.specs.Brought.{AllTakenWell, ByteIsRead, CompletedReadsAreBrought, DiskStretch, IsItsByte, IsReadDone, OfItsByte}
-use Rattle.machine_theorem.specs.Commands.{AreNotIssued}
-use Rattle.machine_theorem.specs.Following.{IsHeardWell}
-use Rattle.machine_theorem.specs.Given.{IsWhole}
-use Rattle.machine_theorem.specs.Identity.{AllKeep, IsAtRest, own_of}
-use Rattle.machine_theorem.specs.Orders.{fallen_in, is_sent_of}
-use Rattle.machine_theorem.specs.OwnSlots.{AllKeepLine, BeginsClear, NoneLost, is_of}
-use Rattle.machine_theorem.specs.QueuedOnly.{ByteIsOfDisk, NoneSingle, QueuedReadsAreBrought, SendsQueued}
-use Rattle.machine_theorem.specs.Reads.{IsReadOf}
-use Rattle.machine_theorem.specs.SingleReads.{IsWrittenThen}
-use Rattle.machine_theorem.specs.Tags.{ended_with}
+use Rattle.machine_theorem.specs.{Commands.AreNotIssued, Following.IsHeardWell, Given.IsWhole, Identity.{AllKeep, IsAtRest, own_of}, Orders.fallen_in}
+use Rattle.machine_theorem.specs.{Orders.is_sent_of, OwnSlots.{AllKeepLine, BeginsClear, NoneLost, is_of}, QueuedOnly.{ByteIsOfDisk, NoneSingle}}
+use Rattle.machine_theorem.specs.{QueuedOnly.{QueuedReadsAreBrought, SendsQueued}, Reads.IsReadOf, SingleReads.IsWrittenThen, Tags.ended_with}
 use Rattle.machine_theorem.proofs.AsSupplied as supplied
-use Rattle.machine_theorem.proofs.AsSupplied.{Went, supplied_at}
-use Rattle.machine_theorem.proofs.AtEnd.{none_behind}
-use Rattle.machine_theorem.proofs.BroughtAt as moments
-use Rattle.machine_theorem.proofs.BroughtAt.{Brought, brought_since, byte_is}
-use Rattle.machine_theorem.proofs.BroughtRead.{byte_of, none_first, none_later, none_of}
-use Rattle.machine_theorem.proofs.Cut.{Cut}
-use Rattle.machine_theorem.proofs.EndsFew.{disk_same, own_not, sender_is}
-use Rattle.machine_theorem.proofs.Fallen.{heard_within}
-use Rattle.machine_theorem.proofs.FallsBehind.{few_behind}
-use Rattle.machine_theorem.proofs.Given.{Numbers, counted_now, out_due, queued_now}
-use Rattle.machine_theorem.proofs.HostShut.{IsShut, calls_shut, host_both, none_heard, single_first}
-use Rattle.machine_theorem.proofs.IsData.{IsDataOr, brings_data}
-use Rattle.machine_theorem.proofs.OwnPlace as places
-use Rattle.machine_theorem.proofs.OwnPlace.{IsFound, found_at, speaker}
-use Rattle.machine_theorem.proofs.Own.{last_ruled}
-use Rattle.machine_theorem.proofs.ReadsOwn.{read_of}
-use Rattle.machine_theorem.proofs.Sent as sent
-use Rattle.machine_theorem.proofs.Sent.{HasOrigin, origins}
-use Rattle.machine_theorem.proofs.StillStands.{none_both}
+use Rattle.machine_theorem.proofs.{AsSupplied.{Went, supplied_at}, AtEnd.none_behind, BroughtAt.{Brought, brought_since, byte_is}}
+use Rattle.machine_theorem.proofs.{BroughtRead.{byte_of, none_first, none_later, none_of}, Cut.Cut, EndsFew.{disk_same, own_not, sender_is}}
+use Rattle.machine_theorem.proofs.{Fallen.heard_within, FallsBehind.few_behind, Given.{Numbers, counted_now, out_due, queued_now}, HostShut.IsShut}
+use Rattle.machine_theorem.proofs.{HostShut.{calls_shut, host_both, none_heard, single_first}, IsData.{IsDataOr, brings_data}, OwnPlace.IsFound}
+use Rattle.machine_theorem.proofs.{OwnPlace.{found_at, speaker}, Own.last_ruled, ReadsOwn.read_of, Sent.{HasOrigin, origins}, StillStands.none_both}
 use Rattle.machine_theorem.proofs.Stretch.{Stretch, asked, calls, counts, due_at, falls, front, has_disk, orders, stands, whole_run}
-use Rattle.machine_theorem.proofs.TakenWell.{WellRun, well_run}
+use Rattle.machine_theorem.proofs.{TakenWell.{WellRun, well_run}, WrittenBytes.{is_written, table_is, written_then}}
+use Rattle.machine_theorem.proofs.BroughtAt as moments
+use Rattle.machine_theorem.proofs.OwnPlace as places
+use Rattle.machine_theorem.proofs.Sent as sent
 use Rattle.machine_theorem.proofs.WrittenBytes as written
-use Rattle.machine_theorem.proofs.WrittenBytes.{is_written, table_is, written_then}
 
 pub record Laws : Type 0 where
   pub moments : moments.Laws

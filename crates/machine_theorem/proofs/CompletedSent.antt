@@ -5,26 +5,16 @@ use Rattle.fis_view.specs.Frames.{Stamped}
 use Rattle.hba_fbs.specs.Taking.{port_of}
 use Rattle.controller_laws.specs.Ends.{IssuesFall}
 use Rattle.ata_reply.specs.declared.reply.Reply.TheVariants as replies
-use Rattle.sata_disk.specs.Sending.{IsFis as IsDiskFis, IsOut}
-use Rattle.sata_disk.specs.State.{DiskState}
-use Rattle.sata_disk.specs.declared.out.Out.{Out}
+use Rattle.sata_disk.specs.{Sending.{IsFis as IsDiskFis, IsOut}, State.DiskState, declared.out.Out.Out}
 use Rattle.sata_disk.specs.declared.out.Out.TheVariants as out
 use Rattle.sata_disk_books.specs.Ended.{SinglesAreOfPages}
-use Rattle.ahci_machine.specs.States.{HasRules, MachineState, bay_at}
-use Rattle.ahci_machine.specs.declared.bay.Unit.TheVariants.{Disk}
-use Rattle.ahci_machine.specs.declared.act.Act.{Act}
+use Rattle.ahci_machine.specs.{States.{HasRules, MachineState, bay_at}, declared.{bay.Unit.TheVariants.Disk, act.Act.Act}}
 use Rattle.ahci_machine.specs.declared.act.Act.TheVariants as act
-use Rattle.machine_laws.specs.ControllerLaws.{RunsRuled}
-use Rattle.machine_laws.specs.Deeds.{Deed, Does, Moved, FrameOffered}
-use Rattle.machine_laws.specs.Marks.{AreMarked, GoesOnMarked, IsMarked, OpensMarked, PortFramesAreSent}
-use Rattle.machine_laws.specs.Rising.{Frames, HaveRisen, came_by, frames_after, frames_in, is_multiplier, is_reset, no_frames, risen, sent_by, unless_back}
-use Rattle.machine_theorem.specs.Completed.{CompletionsAreOfDevices, FisOrigin, IsFisIn}
-use Rattle.machine_theorem.specs.Origins.{sender}
-use Rattle.machine_theorem.proofs.Completed.{ended_now}
-use Rattle.machine_theorem.proofs.Falls.{Laws}
-use Rattle.machine_theorem.proofs.Own.{all_in, last_ruled}
-use Rattle.machine_theorem.proofs.Sent.{AllSent, only, stamped}
-use Rattle.machine_theorem.proofs.Taken.{more_sent}
+use Rattle.machine_laws.specs.{ControllerLaws.RunsRuled, Deeds.{Deed, Does, Moved, FrameOffered}, Marks.{AreMarked, GoesOnMarked, IsMarked}}
+use Rattle.machine_laws.specs.{Marks.{OpensMarked, PortFramesAreSent}, Rising.{Frames, HaveRisen, came_by, frames_after, frames_in, is_multiplier}}
+use Rattle.machine_laws.specs.Rising.{is_reset, no_frames, risen, sent_by, unless_back}
+use Rattle.machine_theorem.specs.{Completed.{CompletionsAreOfDevices, FisOrigin, IsFisIn}, Origins.sender}
+use Rattle.machine_theorem.proofs.{Completed.ended_now, Falls.Laws, Own.{all_in, last_ruled}, Sent.{AllSent, only, stamped}, Taken.more_sent}
 
 pub record Marks : Type 0 where
   pub opens : OpensMarked

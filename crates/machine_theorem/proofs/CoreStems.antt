@@ -1,56 +1,33 @@
 -- What is issued in a slot was issued there before a call of the controller, unless the call issues it; and once its command was sent it stays so.
-use Rattle.std.proofs.Common.{◌≡◌, ℕ, ◌+◌, ◌<◌, ◌^◌, ◌&&◌, Bool, true, false, List, [], ◌∷◌, ◌++◌, refl, sym, ap, subst, ◌∙◌, inl, inr, arith, Option, Some, None}
+use Rattle.std.proofs.Common.{◌≡◌, ℕ, ◌+◌, ◌<◌, ◌^◌, ◌&&◌, Bool, true, false, List, [], ◌∷◌, ◌++◌, refl, sym, ap, subst, ◌∙◌, inl, inr, arith, Option}
+use Rattle.std.proofs.{Common.{Some, None}, lemmas.{Bool.{cases_eq, eq-eqb, true≢false}, List.{get_or-replicate}, Nat.Bits.{bit_at-pow_other}}}
 use Rattle.std.specs.Prelude.{◌==◌, ◌%◌, MatchOption, if◌then◌else◌}
-use Rattle.std.proofs.lemmas.Bool.{cases_eq, eq-eqb, true≢false}
-use Rattle.std.proofs.lemmas.List.{get_or-replicate}
-use Rattle.std.proofs.lemmas.Nat.Bits.{bit_at-pow_other}
 use Rattle.guest_fetch.specs.Commands.{Fetched}
-use Rattle.slots.specs.Slots.{Issue, has_bit, issue_at, match_some, own_issue, slots_of}
-use Rattle.slots.specs.Table.{IsIssue, IsTable}
+use Rattle.slots.specs.{Slots.{Issue, has_bit, issue_at, match_some, own_issue, slots_of}, Table.{IsIssue, IsTable}}
 use Rattle.ahci_registers.specs.Bits as line_bits
-use Rattle.ahci_registers.specs.Offsets.{register_at}
-use Rattle.ahci_registers.specs.declared.link.Effect.{Effect}
+use Rattle.ahci_registers.specs.{Offsets.register_at, declared.{link.Effect.Effect, register.Register.Register}}
 use Rattle.ahci_registers.specs.declared.link.Effect.TheVariants as effect
-use Rattle.ahci_registers.specs.declared.register.Register.{Register}
 use Rattle.ahci_registers.specs.declared.register.Register.TheVariants as ahci
-use Rattle.hba_fbs.specs.Choosing.{Chooses}
-use Rattle.hba_fbs.specs.Deciding.{decided}
-use Rattle.hba_fbs.specs.Greeting.{Greets}
-use Rattle.hba_fbs.specs.Offering.{Offer, asked_by, view_by}
-use Rattle.hba_fbs.specs.Registers.{falls}
-use Rattle.hba_fbs.specs.Stopping.{fallen_view}
-use Rattle.hba_fbs.specs.Taking.{admitted, ignores, port_of}
-use Rattle.hba_fbs.specs.Views.{DeviceView, LeavesOtherViews, Port, stopped_view, view_of}
-use Rattle.hba_fbs.specs.Writing.{cleared_by, is_device}
-use Rattle.hba_fbs.specs.declared.error.WriteError.{WriteError}
+use Rattle.hba_fbs.specs.{Choosing.Chooses, Deciding.decided, Greeting.Greets, Offering.{Offer, asked_by, view_by}, Registers.falls}
+use Rattle.hba_fbs.specs.{Stopping.fallen_view, Taking.{admitted, ignores, port_of}, Views.{DeviceView, LeavesOtherViews, Port, stopped_view}}
+use Rattle.hba_fbs.specs.{Views.view_of, Writing.{cleared_by, is_device}, declared.{error.WriteError.WriteError, report.TakeReport.TakeReport}}
+use Rattle.hba_fbs.specs.declared.turn.Turn.{Turn, TheVariants.{Feeds, Orders, Rests}}
 use Rattle.hba_fbs.specs.declared.register.Register as port_register
 use Rattle.hba_fbs.specs.declared.register.Register.TheVariants as on_port
-use Rattle.hba_fbs.specs.declared.report.TakeReport.{TakeReport}
-use Rattle.hba_fbs.specs.declared.turn.Turn.{Turn}
-use Rattle.hba_fbs.specs.declared.turn.Turn.TheVariants.{Feeds, Orders, Rests}
 use Rattle.fis_view.specs.Seen.{seen}
 use Rattle.hba_laws.specs.Cores as core
 use Rattle.hba_laws.specs.Cores.{AreCores, CoreEvent, DoesBy, IsCore, RunsBy}
 use Rattle.hba_laws.proofs.Door.{own_here, own_in}
-use Rattle.ahci_controller.specs.Access.{fits, high_of, low_of, merged, ones_of, spread_of}
-use Rattle.ahci_controller.specs.Issuing.{device_of, offered_command}
-use Rattle.ahci_controller.specs.Next.{is_halted, next_write, written}
-use Rattle.ahci_controller.specs.Offers.{offer_in, offers_nothing}
-use Rattle.ahci_controller.specs.Reading.{shown}
-use Rattle.ahci_controller.specs.States.{ControllerState, kept}
-use Rattle.ahci_controller.specs.Wide.{WritesFitting, block_of}
-use Rattle.ahci_controller.specs.Writing.{clears_busy, link_effect, told_refusal}
-use Rattle.ahci_controller.specs.declared.access.Width.{Width}
-use Rattle.ahci_controller.specs.declared.feeding.Fed.{Fed}
+use Rattle.ahci_controller.specs.{Access.{fits, high_of, low_of, merged, ones_of, spread_of}, Issuing.{device_of, offered_command}, Next.is_halted}
+use Rattle.ahci_controller.specs.{Next.{next_write, written}, Offers.{offer_in, offers_nothing}, Reading.shown, States.{ControllerState, kept}}
+use Rattle.ahci_controller.specs.{Wide.{WritesFitting, block_of}, Writing.{clears_busy, link_effect, told_refusal}, declared.access.Width.Width}
+use Rattle.ahci_controller.specs.declared.{feeding.Fed.Fed, issuing.Supply.Supply, next.Next.Next, wide.WideWritten.WideWritten}
 use Rattle.ahci_controller.specs.declared.feeding.Fed.TheVariants as fed_answer
-use Rattle.ahci_controller.specs.declared.issuing.Supply.{Supply}
 use Rattle.ahci_controller.specs.declared.issuing.Supply.TheVariants as supply_answer
-use Rattle.ahci_controller.specs.declared.next.Next.{Next}
 use Rattle.ahci_controller.specs.declared.next.Next.TheVariants as next_step
-use Rattle.ahci_controller.specs.declared.wide.WideWritten.{WideWritten}
-use Rattle.controller_laws.specs.CoreEvents.{AreCoreEvents, commanded_by, no_tables, of_event, of_fed, of_frame, of_next, of_part, of_register, of_supply, of_turn, of_wide, overridden_by, relinked_by, reset_by, told}
+use Rattle.controller_laws.specs.CoreEvents.{AreCoreEvents, commanded_by, no_tables, of_event, of_fed, of_frame, of_next, of_part, of_register}
+use Rattle.controller_laws.specs.{CoreEvents.{of_supply, of_turn, of_wide, overridden_by, relinked_by, reset_by, told}, Events.{Does, Event}}
 use Rattle.controller_laws.specs.Events as call
-use Rattle.controller_laws.specs.Events.{Does, Event}
 use Rattle.machine_theorem.specs.Commands.{is_issue, issues_in}
 use Rattle.machine_theorem.proofs.Stems.{Stem, Stems, fed_own, moved_own, none_own, none_stems, placed_own, same_stems, sent_own, stems_then}
 

@@ -4,19 +4,11 @@ use Rattle.fis_view.specs.Frames.{Stamped}
 use Rattle.controller_laws.specs.Events.{Event}
 use Rattle.sata_disk_laws.specs.Calls.{Call}
 use Rattle.ahci_machine.specs.States.{MachineState}
-use Rattle.machine_laws.specs.ControllerLaws.{RunsRuled, calls_in}
-use Rattle.machine_laws.specs.Controllers.{deed_calls}
-use Rattle.machine_laws.specs.Deeds.{Deed, Does}
-use Rattle.machine_laws.specs.Disks.{calls_at}
-use Rattle.machine_laws.specs.Falling.{AllLast, HasLink, Lasts}
-use Rattle.machine_laws.specs.Rising.{sent_by}
-use Rattle.machine_theorem.specs.Brought.{AllTakenWell, TakesWell}
-use Rattle.machine_theorem.specs.Identity.{AllKeep, Keeps, calls_of}
-use Rattle.machine_theorem.specs.Orders.{are_ordered, fallen_in, is_fallen, ordered_in}
-use Rattle.machine_theorem.specs.OwnSlots.{AllKeepLine, KeepsLine}
-use Rattle.machine_theorem.specs.QueuedWrites.{AllQueued, HasQueued}
-use Rattle.machine_theorem.specs.SingleBytes.{AllKeepPlain, KeepsPlain}
-use Rattle.machine_theorem.specs.Tags.{once_if}
+use Rattle.machine_laws.specs.{ControllerLaws.{RunsRuled, calls_in}, Controllers.deed_calls, Deeds.{Deed, Does}, Disks.calls_at, Falling.AllLast}
+use Rattle.machine_laws.specs.{Falling.{HasLink, Lasts}, Rising.sent_by}
+use Rattle.machine_theorem.specs.{Brought.{AllTakenWell, TakesWell}, Identity.{AllKeep, Keeps, calls_of}, Orders.{are_ordered, fallen_in, is_fallen}}
+use Rattle.machine_theorem.specs.{Orders.ordered_in, OwnSlots.{AllKeepLine, KeepsLine}, QueuedWrites.{AllQueued, HasQueued}, SingleBytes.AllKeepPlain}
+use Rattle.machine_theorem.specs.{SingleBytes.KeepsPlain, Tags.once_if}
 use Rattle.machine_theorem.proofs.EndsFew.{sent_of}
 
 pub record Cut (deed : Deed) (at : MachineState) (deeds : List Deed) (now : MachineState) (run : RunsRuled at deeds now) : Type 0 where

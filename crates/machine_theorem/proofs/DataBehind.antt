@@ -1,38 +1,27 @@
 -- All that came for the command that a disk ended, and that is not queued, is the payload of Data which it heard behind this command.
-use Rattle.std.proofs.Common.{◌≡◌, ◌⊎◌, ℕ, zero, suc, Bool, true, false, List, [], ◌∷◌, ◌++◌, append_assoc, append-nil, drop, get_or, set, Option, Some, None, refl, sym, ap, ◌∙◌, subst, inl, inr, arith}
+use Rattle.std.proofs.Common.{◌≡◌, ◌⊎◌, ℕ, zero, suc, Bool, true, false, List, [], ◌∷◌, ◌++◌, append_assoc, append-nil, drop, get_or, set, Option}
+use Rattle.std.proofs.{Common.{Some, None, refl, sym, ap, ◌∙◌, subst, inl, inr, arith}, lemmas.{Bool.{false≢true}, List.Elements.{All-append}}}
+use Rattle.std.proofs.lemmas.List.Elements.{All-cons, All-nil}
 use Rattle.std.specs.Prelude.{if◌then◌else◌}
-use Rattle.std.proofs.lemmas.Bool.{false≢true}
-use Rattle.std.proofs.lemmas.List.Elements.{All-append, All-cons, All-nil}
 use Rattle.fis_view.specs.Seen.{seen}
-use Rattle.block_command.specs.declared.command.Command.{Command}
-use Rattle.block_command.specs.Laws.{blank}
-use Rattle.block_disk.specs.Laws.{Page, Refused, Took}
-use Rattle.block_disk.specs.Requests.{Books, OnLink, Seen, entered_by, no_books}
-use Rattle.block_disk.specs.Table.{is_under_way}
-use Rattle.block_queue.specs.Deeds.{seen_of}
-use Rattle.block_queue.specs.Line.{command_at}
+use Rattle.block_command.specs.{declared.command.Command.Command, Laws.blank}
+use Rattle.block_disk.specs.{Laws.{Page, Refused, Took}, Requests.{Books, OnLink, Seen, entered_by, no_books}, Table.is_under_way}
+use Rattle.block_queue.specs.{Deeds.seen_of, Line.command_at}
 use Rattle.block_scheduler.specs.Laws.{all_deeds}
 use Rattle.block_engine.specs.Laws as engine
 use Rattle.block_engine.specs.Laws.{Step, all_moves}
 use Rattle.ata_reply.specs.declared.reply.Reply.TheVariants as replies
 use Rattle.disk_pages.specs.declared.profile.Profile.{Profile}
 use Rattle.sata_disk.specs.State.{DiskState, commands as line_of, is_taken, new_disk}
-use Rattle.sata_disk_books.specs.Books.{books_after, page_in}
-use Rattle.sata_disk_books.specs.Ended.{PagesAreOfPlaces}
+use Rattle.sata_disk_books.specs.{Books.{books_after, page_in}, Ended.PagesAreOfPlaces}
 use Rattle.sata_disk_books.proofs.Door.{books_both, shown_both, shown_from}
-use Rattle.sata_disk_laws.specs.Awaited.{OutsAreUnderWay, SinglesAreAwaited}
-use Rattle.sata_disk_laws.specs.Calls.{Answers, AreCalls, Asks, Call, Hears, Plugs, Sends, Starts, after_call, steps_of}
-use Rattle.sata_disk_laws.specs.Laws.{reached, seen_in}
-use Rattle.sata_disk_laws.specs.Once.{ForNothing, Wait, host_of, is_for_data, new_host}
-use Rattle.machine_theorem.specs.DataCame.{AreOfHeard, DataComeBehind, IsDataFis, IsWrittenBehind}
-use Rattle.machine_theorem.specs.InTurn.{commands, heard_in, hears_one}
+use Rattle.sata_disk_laws.specs.{Awaited.{OutsAreUnderWay, SinglesAreAwaited}, Calls.{Answers, AreCalls, Asks, Call, Hears, Plugs, Sends, Starts}}
+use Rattle.sata_disk_laws.specs.{Calls.{after_call, steps_of}, Laws.{reached, seen_in}, Once.{ForNothing, Wait, host_of, is_for_data, new_host}}
+use Rattle.machine_theorem.specs.{DataCame.{AreOfHeard, DataComeBehind, IsDataFis, IsWrittenBehind}, InTurn.{commands, heard_in, hears_one}}
 use Rattle.machine_theorem.specs.Tags.{once_if}
 use Rattle.machine_theorem.proofs.Came.{HearsData, Holding, OfPage, OfPages, books_of, heard_last, heard_longer, next_pages, one_call, payload_last}
-use Rattle.machine_theorem.proofs.TagAsked.{Outcome, outcome}
-use Rattle.machine_theorem.proofs.TagAsked.Outcome.{Nothing, Taken}
-use Rattle.machine_theorem.proofs.TagCounts.{first_calls, held_of_taken, none_held, one_call_more}
-use Rattle.machine_theorem.proofs.TagKept.{StepNone, call_held, call_takes, held_at, others_none}
-use Rattle.machine_theorem.proofs.TagPages.{page_same}
+use Rattle.machine_theorem.proofs.{TagAsked.{Outcome, outcome, Outcome.{Nothing, Taken}}, TagCounts.{first_calls, held_of_taken, none_held}}
+use Rattle.machine_theorem.proofs.{TagCounts.one_call_more, TagKept.{StepNone, call_held, call_takes, held_at, others_none}, TagPages.page_same}
 
 pub record Laws : Type 0 where
   pub outs : OutsAreUnderWay

@@ -1,44 +1,24 @@
 -- The deeds of a stretch, as calls of the controller: which take FISes, which send Data, and which send a command.
 use Rattle.std.proofs.Common.{◌≡◌, ◌⊎◌, ℕ, Bool, true, false, List, [], ◌∷◌, ◌++◌, refl, sym, ap, subst, ◌∙◌, inl, inr, Option, Some, None}
-use Rattle.std.specs.Prelude.{◌==◌, MatchOption, slice_index, if◌then◌else◌, Result, Ok, Err}
-use Rattle.std.specs.Bool.{MatchBool}
-use Rattle.std.specs.declared.alloc.AllocError.{AllocError}
-use Rattle.fis_view.specs.Frames.{Stamped, marked}
-use Rattle.fis_view.specs.Seen.{seen}
-use Rattle.fis_view.specs.declared.view.Fis.{Fis}
+use Rattle.std.specs.{Prelude.{◌==◌, MatchOption, slice_index, if◌then◌else◌, Result, Ok, Err}, Bool.MatchBool, declared.alloc.AllocError.AllocError}
+use Rattle.fis_view.specs.{Frames.{Stamped, marked}, Seen.seen, declared.view.{Fis.Fis, FisFault.FisFault}}
 use Rattle.fis_view.specs.declared.view.Fis.TheVariants as view
-use Rattle.fis_view.specs.declared.view.FisFault.{FisFault}
-use Rattle.ahci_controller.specs.Opening.{IsOpening}
-use Rattle.ahci_controller.specs.States.{ControllerState}
-use Rattle.ahci_controller.specs.declared.feeding.Fed.{Fed}
+use Rattle.ahci_controller.specs.{Opening.IsOpening, States.ControllerState, declared.{feeding.Fed.Fed, next.Next.Next, taking.Hindrance.Hindrance}}
 use Rattle.ahci_controller.specs.declared.feeding.Fed.TheVariants as fed_answer
-use Rattle.ahci_controller.specs.declared.next.Next.{Next}
 use Rattle.ahci_controller.specs.declared.next.Next.TheVariants as next
-use Rattle.ahci_controller.specs.declared.taking.Hindrance.{Hindrance}
 use Rattle.controller_laws.specs.Events as call
 use Rattle.controller_laws.specs.Events.{Event, Runs}
 use Rattle.ahci_machine.specs.Acts as acts
-use Rattle.ahci_machine.specs.Answers.{IsStale, MissesFor, MissesMachine, SuppliesMachine, is_wanted}
-use Rattle.ahci_machine.specs.Gathers.{GatheringState}
-use Rattle.ahci_machine.specs.States.{HasRules, MachineState, gathering_at}
-use Rattle.ahci_machine.specs.declared.act.Act.{Act}
-use Rattle.ahci_machine.specs.declared.act.Act.TheVariants as act
-use Rattle.ahci_machine.specs.declared.answers.Told.{Told}
-use Rattle.ahci_machine.specs.declared.request.Wanted.{Wanted}
+use Rattle.ahci_machine.specs.{Answers.{IsStale, MissesFor, MissesMachine, SuppliesMachine, is_wanted}, Gathers.GatheringState, States.HasRules}
+use Rattle.ahci_machine.specs.{States.{MachineState, gathering_at}, declared.{act.Act.Act, answers.Told.Told, request.Wanted.Wanted}}
 use Rattle.ahci_machine.specs.declared.request.Wanted.TheVariants.{Command, Data}
-use Rattle.machine_laws.specs.ControllerLaws.{RunsRuled, calls_in}
-use Rattle.machine_laws.specs.Controllers.{ControllerGoesOn, GathersDue, StaysDue, data_calls, deed_calls, lost_calls, miss_calls, move_calls, rest_calls, supply_calls}
-use Rattle.machine_laws.specs.Deeds.{Deed, Does, Missed, Moved, Supplied, Wrote}
-use Rattle.machine_laws.specs.Feeding.{OrdersAreIssued}
-use Rattle.machine_theorem.specs.Brought.{AllTakenWell, TakesWell}
-use Rattle.machine_theorem.specs.Commands.{IsSentFrom}
-use Rattle.machine_theorem.specs.OwnSlots.{AllKeepLine, KeepsLine}
-use Rattle.machine_theorem.proofs.Cut.{Cut, cut_here, cut_more}
-use Rattle.machine_theorem.proofs.DataDown.{ArePlain, IsPlain, data_sent, is_payload, plain_both, sent_both}
-use Rattle.machine_theorem.proofs.IsData.{payload_type}
-use Rattle.machine_theorem.proofs.Ordered.{append_runs, first_ruled}
-use Rattle.machine_theorem.proofs.Registered.{order_is_no_data}
-use Rattle.machine_theorem.proofs.Sent.{marked_type}
+use Rattle.ahci_machine.specs.declared.act.Act.TheVariants as act
+use Rattle.machine_laws.specs.{ControllerLaws.{RunsRuled, calls_in}, Controllers.{ControllerGoesOn, GathersDue, StaysDue, data_calls, deed_calls}}
+use Rattle.machine_laws.specs.{Controllers.{lost_calls, miss_calls, move_calls, rest_calls, supply_calls}, Deeds.{Deed, Does, Missed, Moved}}
+use Rattle.machine_laws.specs.{Deeds.{Supplied, Wrote}, Feeding.OrdersAreIssued}
+use Rattle.machine_theorem.specs.{Brought.{AllTakenWell, TakesWell}, Commands.IsSentFrom, OwnSlots.{AllKeepLine, KeepsLine}}
+use Rattle.machine_theorem.proofs.{Cut.{Cut, cut_here, cut_more}, DataDown.{ArePlain, IsPlain, data_sent, is_payload, plain_both, sent_both}}
+use Rattle.machine_theorem.proofs.{IsData.payload_type, Ordered.{append_runs, first_ruled}, Registered.order_is_no_data, Sent.marked_type}
 
 -- ---- calls that send no Data
 

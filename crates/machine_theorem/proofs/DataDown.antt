@@ -1,32 +1,21 @@
 -- The Data that a disk hears are, in order, some of those that the controller sent to its device.
 use Rattle.std.proofs.Common.{◌≡◌, ℕ, ◌-◌, Bool, true, false, List, [], ◌∷◌, ◌++◌, length, map, refl, sym, ap, ◌∙◌, inl, inr}
-use Rattle.std.specs.Prelude.{◌==◌, drop, if◌then◌else◌, Result, Ok, Err}
-use Rattle.std.specs.List.{flat_map}
-use Rattle.std.proofs.lemmas.Bool.{false≢true}
-use Rattle.std.proofs.lemmas.List.{length-drop}
-use Rattle.fis_view.specs.Frames.{Stamped, marked}
-use Rattle.fis_view.specs.Seen.{frame_of, seen}
-use Rattle.fis_view.specs.declared.view.Fis.{Fis}
+use Rattle.std.proofs.lemmas.{Bool.{false≢true}, List.{length-drop}}
+use Rattle.std.specs.{Prelude.{◌==◌, drop, if◌then◌else◌, Result, Ok, Err}, List.flat_map}
+use Rattle.fis_view.specs.{Frames.{Stamped, marked}, Seen.{frame_of, seen}, declared.view.{Fis.Fis, FisFault.FisFault}}
 use Rattle.fis_view.specs.declared.view.Fis.TheVariants as view
-use Rattle.fis_view.specs.declared.view.FisFault.{FisFault}
 use Rattle.hba_fbs.specs.Taking.{port_of}
 use Rattle.ahci_controller.specs.declared.feeding.Fed.TheVariants as fed_answer
 use Rattle.ahci_controller.specs.declared.next.Next.TheVariants as next
 use Rattle.ahci_machine.specs.Gathers.{host_stamp}
 use Rattle.controller_laws.specs.Events as call
 use Rattle.controller_laws.specs.Events.{Event}
-use Rattle.sata_disk_books.specs.InTurn.{calls_steps, data_steps}
-use Rattle.sata_disk_books.specs.Talks.{Down, Sign, Step, Up, sign_of}
+use Rattle.sata_disk_books.specs.{InTurn.{calls_steps, data_steps}, Talks.{Down, Sign, Step, Up, sign_of}}
 use Rattle.sata_disk_laws.specs.Calls as disk_call
 use Rattle.sata_disk_laws.specs.Calls.{Call}
 use Rattle.machine_laws.specs.Falling.{heard_by, sent_in}
-use Rattle.machine_theorem.specs.Asking.{events_steps}
-use Rattle.machine_theorem.specs.Crossing.{Within, downs}
-use Rattle.machine_theorem.specs.Identity.{heard_as, is_for, picks}
-use Rattle.machine_theorem.specs.OwnWrites.{AreOwnData}
-use Rattle.machine_theorem.proofs.IsData.{payload_type}
-use Rattle.machine_theorem.proofs.Sent.{marked_rest, seen_data}
-use Rattle.machine_theorem.proofs.Within.{past}
+use Rattle.machine_theorem.specs.{Asking.events_steps, Crossing.{Within, downs}, Identity.{heard_as, is_for, picks}, OwnWrites.AreOwnData}
+use Rattle.machine_theorem.proofs.{IsData.payload_type, Sent.{marked_rest, seen_data}, Within.past}
 
 -- ---- Data FISes
 

@@ -1,21 +1,12 @@
 -- What a disk heard behind the last command, of a link that keeps the order: some of what was sent behind it, in order.
 use Rattle.std.proofs.Common.{◌≡◌, ℕ, ◌≤◌, Bool, true, false, List, [], ◌∷◌, ◌++◌, drop, length, map, refl, sym, ap, subst, ◌∙◌, inl, inr, arith, All}
-use Rattle.std.specs.Prelude.{if◌then◌else◌}
-use Rattle.std.specs.List.{flat_map}
-use Rattle.std.proofs.lemmas.Bool.{false≢true}
-use Rattle.std.proofs.lemmas.Grind.{flat_map-append}
-use Rattle.std.proofs.lemmas.List.{length-append}
-use Rattle.std.proofs.lemmas.List.Elements.{All-head, All-tail}
+use Rattle.std.proofs.lemmas.{Bool.{false≢true}, Grind.{flat_map-append}, List.{length-append, Elements.{All-head, All-tail}}}
+use Rattle.std.specs.{Prelude.{if◌then◌else◌}, List.flat_map}
 use Rattle.sata_disk_laws.specs.Calls.{Call, Hears}
 use Rattle.machine_laws.specs.Falling.{heard_by}
-use Rattle.machine_theorem.specs.Crossing.{Within}
-use Rattle.machine_theorem.specs.DataCame.{IsDataFis}
-use Rattle.machine_theorem.specs.Identity.{picks}
-use Rattle.machine_theorem.specs.Writes.{AreHeard, payloads}
-use Rattle.machine_theorem.proofs.DataDown.{as_heard, is_data, is_payload}
-use Rattle.machine_theorem.proofs.OneConn.{no_length}
-use Rattle.machine_theorem.proofs.Sent.{marked_rest}
-use Rattle.machine_theorem.proofs.Within.{all_within, past, picks_both, within_both, within_then}
+use Rattle.machine_theorem.specs.{Crossing.Within, DataCame.IsDataFis, Identity.picks, Writes.{AreHeard, payloads}}
+use Rattle.machine_theorem.proofs.{DataDown.{as_heard, is_data, is_payload}, OneConn.no_length, Sent.marked_rest, Within.{all_within, past}}
+use Rattle.machine_theorem.proofs.Within.{picks_both, within_both, within_then}
 
 -- ---- behind an element
 

@@ -3,17 +3,12 @@ use Rattle.std.proofs.Common.{ℕ, Bool, List}
 use Rattle.ata_reply.specs.declared.reply.Reply.TheVariants as replies
 use Rattle.sata_disk.specs.declared.out.Out.TheVariants as out
 use Rattle.sata_disk_books.specs.Ended.{SinglesAreOfPages}
-use Rattle.ahci_machine.specs.States.{IsOpeningMachine, MachineState}
-use Rattle.ahci_machine.specs.declared.act.Act.{Act}
+use Rattle.ahci_machine.specs.{States.{IsOpeningMachine, MachineState}, declared.act.Act.Act}
 use Rattle.ahci_machine.specs.declared.act.Act.TheVariants as act
-use Rattle.machine_laws.specs.ControllerLaws.{RunsRuled}
-use Rattle.machine_laws.specs.Deeds.{Deed, Moved}
-use Rattle.machine_theorem.specs.Completed.{CompletionsAreOfDevices, FisOrigin, IsCompletedBy, IsFisBy}
-use Rattle.machine_theorem.specs.Moments.{Moment}
+use Rattle.machine_laws.specs.{ControllerLaws.RunsRuled, Deeds.{Deed, Moved}}
+use Rattle.machine_theorem.specs.{Completed.{CompletionsAreOfDevices, FisOrigin, IsCompletedBy, IsFisBy}, Moments.Moment}
 use Rattle.machine_theorem.specs.Writes.{DoneWritesAreSupplied, FallsAreSupplied, IsSuppliedDone}
-use Rattle.machine_theorem.proofs.AtMoments.{fis_at}
-use Rattle.machine_theorem.proofs.CompletedSent.{origin_of}
-use Rattle.machine_theorem.proofs.Stored.{Laws, of_earned}
+use Rattle.machine_theorem.proofs.{AtMoments.fis_at, CompletedSent.origin_of, Stored.{Laws, of_earned}}
 
 pub done_are : Laws → SinglesAreOfPages → DoneWritesAreSupplied
 done_are laws singles ports legacy old opening deeds now run n place new does =

@@ -1,41 +1,23 @@
 -- What each device sends that names a slot in a Set Device Bits FIS.
-use Rattle.std.proofs.Common.{◌≡◌, ℕ, zero, suc, ◌+◌, ◌*◌, ◌/◌, ◌%◌, ◌^◌, ◌<◌, ◌≤◌, Bool, true, false, List, [], ◌∷◌, length, Some, Result, Ok, Err, refl, sym, ap, ◌∙◌, subst, arith, inl, inr, All, Contains}
-use Rattle.std.specs.Prelude.{◌==◌, if◌then◌else◌, slice_index, slice_set}
-use Rattle.std.specs.Int.{bit_at}
-use Rattle.std.proofs.lemmas.Bool.{false≢true}
-use Rattle.std.proofs.lemmas.List.{get_or-set_other}
-use Rattle.std.proofs.lemmas.List.Elements.{All-contains, All-contains_itself, All-nil, All-weaker}
-use Rattle.std.proofs.lemmas.Nat.Bits.{bit_at-zero, bit_at_cat_low}
-use Rattle.fis_view.specs.Bits.{bits}
-use Rattle.fis_view.specs.Built.{cut}
-use Rattle.fis_view.specs.Frames.{Stamped, marked}
-use Rattle.fis_view.specs.Seen.{kind_of, may_have, seen, view_as}
+use Rattle.std.proofs.Common.{◌≡◌, ℕ, zero, suc, ◌+◌, ◌*◌, ◌/◌, ◌%◌, ◌^◌, ◌<◌, ◌≤◌, Bool, true, false, List, [], ◌∷◌, length, Some, Result, Ok, Err}
+use Rattle.std.proofs.{Common.{refl, sym, ap, ◌∙◌, subst, arith, inl, inr, All, Contains}, lemmas.{Bool.{false≢true}, List.{get_or-set_other}}}
+use Rattle.std.proofs.lemmas.{List.Elements.{All-contains, All-contains_itself, All-nil, All-weaker}, Nat.Bits.{bit_at-zero, bit_at_cat_low}}
+use Rattle.std.specs.{Prelude.{◌==◌, if◌then◌else◌, slice_index, slice_set}, Int.bit_at}
+use Rattle.fis_view.specs.{Bits.bits, Built.cut, Frames.{Stamped, marked}, Seen.{kind_of, may_have, seen, view_as}, Table.{Bits, Kind, Run, SActive}}
+use Rattle.fis_view.specs.{Table.{field, places, spelled}, declared.view.{Fis.Fis, FisFault.{FisFault, TheVariants.WrongLength}}}
 use Rattle.fis_view.specs.Table as table
-use Rattle.fis_view.specs.Table.{Bits, Kind, Run, SActive, field, places, spelled}
-use Rattle.fis_view.specs.declared.view.Fis.{Fis}
 use Rattle.fis_view.specs.declared.view.Fis.TheVariants as view
-use Rattle.fis_view.specs.declared.view.FisFault.{FisFault}
-use Rattle.fis_view.specs.declared.view.FisFault.TheVariants.{WrongLength}
 use Rattle.slots.specs.Slots.{has_bit}
-use Rattle.fan_out.specs.declared.fan_out.FanOut.{FanOut}
-use Rattle.fan_out.specs.declared.fan_out.FanOut.TheVariants.{Device, Multiplier}
-use Rattle.ata_reply.specs.Replies.{Shows}
-use Rattle.ata_reply.specs.declared.reply.Reply.{Reply}
+use Rattle.fan_out.specs.declared.fan_out.FanOut.{FanOut, TheVariants.{Device, Multiplier}}
+use Rattle.ata_reply.specs.{Replies.Shows, declared.reply.Reply.Reply}
 use Rattle.ata_reply.specs.declared.reply.Reply.TheVariants as reply
-use Rattle.sata_disk.specs.Sending.{IsOut}
-use Rattle.sata_disk.specs.State.{DiskState}
-use Rattle.sata_disk.specs.declared.out.Out.{Out}
+use Rattle.sata_disk.specs.{Sending.IsOut, State.DiskState, declared.out.Out.Out}
 use Rattle.sata_disk.specs.declared.out.Out.TheVariants as out
 use Rattle.sata_disk_books.specs.Ended.{EndsAreOfPages, IsNoEnd, NamesNone, OnlyEndsEnd}
-use Rattle.ahci_machine.specs.States.{MachineState, bay_at}
-use Rattle.ahci_machine.specs.declared.act.Act.{Act}
+use Rattle.ahci_machine.specs.{States.{MachineState, bay_at}, declared.{act.Act.Act, bay.Unit.TheVariants.Disk}}
 use Rattle.ahci_machine.specs.declared.act.Act.TheVariants as act
-use Rattle.ahci_machine.specs.declared.bay.Unit.TheVariants.{Disk}
-use Rattle.machine_laws.specs.ControllerLaws.{RunsRuled}
-use Rattle.machine_laws.specs.Deeds.{Deed, Does, Moved, FrameOffered}
-use Rattle.machine_laws.specs.Rising.{is_multiplier, risen, sent_by, unless_back}
-use Rattle.machine_theorem.specs.Ends.{EndOrigin, IsEndIn}
-use Rattle.machine_theorem.specs.Origins.{sender}
+use Rattle.machine_laws.specs.{ControllerLaws.RunsRuled, Deeds.{Deed, Does, Moved, FrameOffered}, Rising.{is_multiplier, risen, sent_by, unless_back}}
+use Rattle.machine_theorem.specs.{Ends.{EndOrigin, IsEndIn}, Origins.sender}
 use Rattle.machine_theorem.proofs.Sent.{AllSent, only, stamped, type_is}
 
 -- the laws, as the crates below have them

@@ -1,25 +1,19 @@
 -- A command that a FIS ends which is no Register FIS is a PIO data-in whose last block is set up, and the FIS is its Data. Among the calls of a disk the PIO Setup FIS
 -- of this block is found by what settles.
-use Rattle.std.proofs.Common.{◌≡◌, ◌⊎◌, ℕ, ◌+◌, ◌<◌, ◌≤◌, ◌&&◌, Bool, true, false, List, [], ◌∷◌, ◌++◌, append-nil, length, Option, Some, None, refl, sym, ap, subst, ◌∙◌, inl, inr, arith}
+use Rattle.std.proofs.Common.{◌≡◌, ◌⊎◌, ℕ, ◌+◌, ◌<◌, ◌≤◌, ◌&&◌, Bool, true, false, List, [], ◌∷◌, ◌++◌, append-nil, length, Option, Some, None, refl}
+use Rattle.std.proofs.Common.{sym, ap, subst, ◌∙◌, inl, inr, arith}
 use Rattle.std.specs.Prelude.{◌==◌, ◌||◌, if◌then◌else◌, slice_index, IfSome, MatchOption, Result, Ok}
-use Rattle.fis_view.specs.Seen.{kind_of, seen}
+use Rattle.fis_view.specs.{Seen.{kind_of, seen}, declared.view.{Fis.Fis, FisFault.FisFault}}
 use Rattle.fis_view.specs.Table as table
-use Rattle.fis_view.specs.declared.view.Fis.{Fis}
 use Rattle.fis_view.specs.declared.view.Fis.TheVariants as view
-use Rattle.fis_view.specs.declared.view.FisFault.{FisFault}
-use Rattle.slots.specs.Slots.{Issue, is_pio, is_queued_issue, is_waiting, issue_at, match_some, own_issue, slots_of}
-use Rattle.slots.specs.Table.{IsIssue}
-use Rattle.hba_fbs.specs.Status.{is_quiet}
-use Rattle.hba_fbs.specs.Views.{view_of}
-use Rattle.hba_fbs.specs.Taking.{port_of}
-use Rattle.hba_laws.specs.Agreement.{IsTold}
-use Rattle.hba_laws.specs.History.{Answered, Carried, Event as HistoryEvent, History, Setup, completes, ends_well, is_set_up, last_setup, waiting_in}
+use Rattle.slots.specs.{Slots.{Issue, is_pio, is_queued_issue, is_waiting, issue_at, match_some, own_issue, slots_of}, Table.IsIssue}
+use Rattle.hba_fbs.specs.{Status.is_quiet, Views.view_of, Taking.port_of}
+use Rattle.hba_laws.specs.{Agreement.IsTold, History.{Answered, Carried, Event as HistoryEvent, History, Setup, completes, ends_well, is_set_up}}
+use Rattle.hba_laws.specs.History.{last_setup, waiting_in}
 use Rattle.hba_laws.proofs.Door.{own_here}
-use Rattle.ahci_controller.specs.States.{ControllerState}
-use Rattle.ahci_controller.specs.Taking.{room_for}
+use Rattle.ahci_controller.specs.{States.ControllerState, Taking.room_for}
 use Rattle.controller_laws.specs.Events.{IsController}
-use Rattle.ata_reply.specs.Replies.{Shows}
-use Rattle.ata_reply.specs.declared.reply.Reply.{Reply}
+use Rattle.ata_reply.specs.{Replies.Shows, declared.reply.Reply.Reply}
 use Rattle.ata_reply.specs.declared.reply.Reply.TheVariants as replies
 use Rattle.sata_disk.specs.declared.out.Out.{Out}
 use Rattle.sata_disk.specs.declared.out.Out.TheVariants as out
@@ -27,22 +21,12 @@ use Rattle.sata_disk_books.specs.LastData.{sets_up_last}
 use Rattle.sata_disk_laws.specs.Calls.{Answers, Asks, Call, Hears, Plugs, Sends, Starts}
 use Rattle.ahci_machine.specs.States.{MachineState}
 use Rattle.ahci_machine.specs.declared.act.Act.TheVariants as act
-use Rattle.machine_laws.specs.Deeds.{Does, Moved}
-use Rattle.machine_laws.specs.Rising.{risen}
-use Rattle.machine_theorem.specs.Completed.{IsCompleted, IsEndedInHistory}
-use Rattle.machine_theorem.specs.Ending.{carries}
-use Rattle.machine_theorem.specs.InTurn.{answered_in, is_answer, is_answering}
-use Rattle.machine_theorem.specs.Settled.{IsBehindLastBlock, is_data, settled_in}
-use Rattle.machine_theorem.specs.Tags.{once_if}
-use Rattle.machine_theorem.proofs.AnswersHeard.{IsMild, fis_mild}
-use Rattle.machine_theorem.proofs.Closing.{EndsTrue}
-use Rattle.machine_theorem.proofs.EndSent.{kind_view, seen_kind}
-use Rattle.machine_theorem.proofs.FisEvents.{IsNoData, fis_plain}
-use Rattle.machine_theorem.proofs.KindsSent.{call_kinds, said_kinds, said_long}
-use Rattle.machine_theorem.proofs.PlainWaits.{at_some}
-use Rattle.machine_theorem.proofs.Sent.{type_is}
-use Rattle.machine_theorem.proofs.Shutting.{is_shut, shut, shut_view}
-use Rattle.machine_theorem.proofs.SinglesOwn.{completed_waits}
+use Rattle.machine_laws.specs.{Deeds.{Does, Moved}, Rising.risen}
+use Rattle.machine_theorem.specs.{Completed.{IsCompleted, IsEndedInHistory}, Ending.carries, InTurn.{answered_in, is_answer, is_answering}}
+use Rattle.machine_theorem.specs.{Settled.{IsBehindLastBlock, is_data, settled_in}, Tags.once_if}
+use Rattle.machine_theorem.proofs.{AnswersHeard.{IsMild, fis_mild}, Closing.EndsTrue, EndSent.{kind_view, seen_kind}, FisEvents.{IsNoData, fis_plain}}
+use Rattle.machine_theorem.proofs.{KindsSent.{call_kinds, said_kinds, said_long}, PlainWaits.at_some, Sent.type_is, Shutting.{is_shut, shut}}
+use Rattle.machine_theorem.proofs.{Shutting.shut_view, SinglesOwn.completed_waits}
 
 -- ---- what the FIS is that ends the command of the slot
 

@@ -1,23 +1,18 @@
 -- No more commands are sent to a device than it ended or answered, and one more where a slot waits. The command that was sent last is the one that waits.
-use Rattle.std.proofs.Common.{◌≡◌, ℕ, ◌+◌, ◌<◌, ◌≤◌, ◌&&◌, ◌||◌, Bool, true, false, not, List, [], ◌∷◌, length, refl, sym, ap, subst, ◌∙◌, arith, Option, Some, None}
-use Rattle.std.proofs.lemmas.Bool.{eqb-true, false≢true}
+use Rattle.std.proofs.Common.{◌≡◌, ℕ, ◌+◌, ◌<◌, ◌≤◌, ◌&&◌, ◌||◌, Bool, true, false, not, List, [], ◌∷◌, length, refl, sym, ap, subst, ◌∙◌, arith}
+use Rattle.std.proofs.{Common.{Option, Some, None}, lemmas.Bool.{eqb-true, false≢true}}
 use Rattle.slots.specs.Slots.{Issue, is_waiting, issue_at, own_issue, slots_of}
 use Rattle.slots.proofs.Door.{own_at}
 use Rattle.hba_fbs.specs.Views.{view_of}
-use Rattle.hba_laws.specs.Agreement.{IsTold}
-use Rattle.hba_laws.specs.History.{History, is_at, waiting_in}
+use Rattle.hba_laws.specs.{Agreement.IsTold, History.{History, is_at, waiting_in}}
 use Rattle.hba_laws.proofs.Door.{own_here, own_in}
 use Rattle.ahci_controller.specs.States.{ControllerState}
 use Rattle.ahci_controller.specs.declared.next.Next.TheVariants as next
 use Rattle.controller_laws.specs.Events as call
 use Rattle.controller_laws.specs.Events.{Does, Event, IsController, Runs}
-use Rattle.machine_theorem.specs.Commands.{AreNotIssued, issues_in}
-use Rattle.machine_theorem.specs.Ending.{CommandsAwaitEnds, KeepsEnding, SentLastWait, is_data_of, is_ended}
-use Rattle.machine_theorem.specs.Tags.{once_if}
-use Rattle.machine_theorem.specs.Waits.{commanded_in, is_answered, is_commanded, waits_in}
-use Rattle.machine_theorem.proofs.Shutting.{OneWaits, one_waits, then', told_then, waited, waits_back}
-use Rattle.machine_theorem.proofs.Ordered.{last_kept}
-use Rattle.machine_theorem.proofs.Unread.{is_alone}
+use Rattle.machine_theorem.specs.{Commands.{AreNotIssued, issues_in}, Ending.{CommandsAwaitEnds, KeepsEnding, SentLastWait, is_data_of, is_ended}}
+use Rattle.machine_theorem.specs.{Tags.once_if, Waits.{commanded_in, is_answered, is_commanded, waits_in}}
+use Rattle.machine_theorem.proofs.{Shutting.{OneWaits, one_waits, then', told_then, waited, waits_back}, Ordered.last_kept, Unread.is_alone}
 use Rattle.machine_theorem.proofs.Waiting.{IsSent, Laws, commanded_free, first_kept, low_slot, owner, sent_now, some_waits}
 
 -- ---- counts

@@ -1,44 +1,25 @@
 -- A disk sends no more FISes that name a tag than ends with it, and nobody else sends one at its port.
-use Rattle.std.proofs.Common.{◌≡◌, ℕ, ◌+◌, ◌<◌, ◌≤◌, Bool, true, false, List, [], ◌∷◌, ◌++◌, length, Some, Result, Ok, Err, refl, sym, ap, subst, ◌∙◌, arith}
+use Rattle.std.proofs.Common.{◌≡◌, ℕ, ◌+◌, ◌<◌, ◌≤◌, Bool, true, false, List, [], ◌∷◌, ◌++◌, length, Some, Result, Ok, Err, refl, sym, ap, subst, ◌∙◌}
+use Rattle.std.proofs.{Common.arith, lemmas.{Bool.{and_parts, eq-eqb, eqb-true, false≢true, ltb-true}, List.{length-append}}}
 use Rattle.std.specs.Prelude.{◌==◌, if◌then◌else◌}
-use Rattle.std.proofs.lemmas.Bool.{and_parts, eq-eqb, eqb-true, false≢true, ltb-true}
-use Rattle.std.proofs.lemmas.List.{length-append}
-use Rattle.fis_view.specs.Frames.{Stamped}
-use Rattle.fis_view.specs.Seen.{seen}
-use Rattle.fis_view.specs.Table.{SActive}
+use Rattle.fis_view.specs.{Frames.Stamped, Seen.seen, Table.SActive}
 use Rattle.fis_view.specs.declared.view.Fis.TheVariants as view
 use Rattle.slots.specs.Slots.{has_bit}
-use Rattle.fan_out.specs.FanOuts.{wants_at}
-use Rattle.fan_out.specs.declared.fan_out.FanOut.{FanOut}
-use Rattle.fan_out.specs.declared.fan_out.FanOut.TheVariants.{Device, Multiplier}
-use Rattle.ata_reply.specs.Replies.{Shows}
-use Rattle.ata_reply.specs.declared.reply.Reply.{Reply}
+use Rattle.fan_out.specs.{FanOuts.wants_at, declared.fan_out.FanOut.{FanOut, TheVariants.{Device, Multiplier}}}
+use Rattle.ata_reply.specs.{Replies.Shows, declared.reply.Reply.Reply}
 use Rattle.disk_pages.specs.declared.profile.Profile.{Profile}
-use Rattle.sata_disk.specs.Sending.{IsOut}
-use Rattle.sata_disk.specs.State.{DiskState, new_disk}
-use Rattle.sata_disk.specs.declared.out.Out.{Out}
+use Rattle.sata_disk.specs.{Sending.IsOut, State.{DiskState, new_disk}, declared.out.Out.Out}
 use Rattle.sata_disk.specs.declared.out.Out.TheVariants as out
 use Rattle.sata_disk_books.specs.Ended.{IsNoEnd, NamesNone, OnlyEndsEnd}
-use Rattle.sata_disk_laws.specs.Calls.{Call, Sends, after_calls}
-use Rattle.sata_disk_laws.specs.Laws.{reached}
+use Rattle.sata_disk_laws.specs.{Calls.{Call, Sends, after_calls}, Laws.reached}
 use Rattle.sata_disk_laws.proofs.Door.{calls_after}
-use Rattle.ahci_machine.specs.Answers.{is_own}
-use Rattle.ahci_machine.specs.States.{MachineState, bay_at}
+use Rattle.ahci_machine.specs.{Answers.is_own, States.{MachineState, bay_at}, declared.bay.Unit.{Unit as Inside, TheVariants.Disk}}
 use Rattle.ahci_machine.specs.declared.act.Act.TheVariants as act
-use Rattle.ahci_machine.specs.declared.bay.Unit.{Unit as Inside}
-use Rattle.ahci_machine.specs.declared.bay.Unit.TheVariants.{Disk}
-use Rattle.machine_laws.specs.ControllerLaws.{RunsRuled}
-use Rattle.machine_laws.specs.Deeds.{Deed, Does, FrameOffered, Moved}
-use Rattle.machine_laws.specs.Disks.{DisksGoOn, calls_at}
-use Rattle.machine_laws.specs.Rising.{is_multiplier, risen, sent_by, unless_back}
-use Rattle.machine_theorem.specs.Identity.{AllKeep, IsThere, calls_of, names_in, picks}
-use Rattle.machine_theorem.specs.Tags.{ended_with, ends_with, once_if}
-use Rattle.machine_theorem.proofs.EndSent.{cut_bit, no_reply, other_kind, risen_sactive}
-use Rattle.machine_theorem.proofs.Fallen.{left_there}
-use Rattle.machine_theorem.proofs.Risen.{IsNaming, names_of, naming_is}
-use Rattle.machine_theorem.proofs.Sent.{stamped, type_is}
-use Rattle.machine_theorem.proofs.TagCounts.{ended_both}
-use Rattle.machine_theorem.proofs.Within.{picks_both}
+use Rattle.machine_laws.specs.{ControllerLaws.RunsRuled, Deeds.{Deed, Does, FrameOffered, Moved}, Disks.{DisksGoOn, calls_at}, Rising.is_multiplier}
+use Rattle.machine_laws.specs.Rising.{risen, sent_by, unless_back}
+use Rattle.machine_theorem.specs.{Identity.{AllKeep, IsThere, calls_of, names_in, picks}, Tags.{ended_with, ends_with, once_if}}
+use Rattle.machine_theorem.proofs.{EndSent.{cut_bit, no_reply, other_kind, risen_sactive}, Fallen.left_there, Risen.{IsNaming, names_of, naming_is}}
+use Rattle.machine_theorem.proofs.{Sent.{stamped, type_is}, TagCounts.ended_both, Within.picks_both}
 
 -- ---- which port it is
 

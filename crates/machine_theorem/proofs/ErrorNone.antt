@@ -1,46 +1,29 @@
 -- A Register FIS with an error completes no command, and a disk that says that a command failed sends such a one.
-use Rattle.std.proofs.Common.{◌≡◌, ◌⊎◌, ℕ, ◌+◌, ◌*◌, ◌/◌, ◌%◌, ◌^◌, Bool, true, false, List, drop, length, Option, Some, None, refl, sym, ap, subst, ◌∙◌, inl, inr, arith}
+use Rattle.std.proofs.Common.{◌≡◌, ◌⊎◌, ℕ, ◌+◌, ◌*◌, ◌/◌, ◌%◌, ◌^◌, Bool, true, false, List, drop, length, Option, Some, None, refl, sym, ap, subst}
+use Rattle.std.proofs.Common.{◌∙◌, inl, inr, arith}
 use Rattle.std.specs.Prelude.{if◌then◌else◌, slice_index, Result, Ok, Err}
-use Rattle.fis_view.specs.Built.{cut}
-use Rattle.fis_view.specs.Frames.{Stamped, marked}
-use Rattle.fis_view.specs.Seen.{kind_of, kind_of_type, may_have, seen, view_as}
+use Rattle.fis_view.specs.{Built.cut, Frames.{Stamped, marked}, Seen.{kind_of, kind_of_type, may_have, seen, view_as}, Table.{D2h, Kind, Status}}
+use Rattle.fis_view.specs.{Table.{field, places, spelled}, declared.view.{Fis.Fis, FisFault.{FisFault, TheVariants.WrongLength}}}
 use Rattle.fis_view.specs.Table as table
-use Rattle.fis_view.specs.Table.{D2h, Kind, Status, field, places, spelled}
-use Rattle.fis_view.specs.declared.view.Fis.{Fis}
 use Rattle.fis_view.specs.declared.view.Fis.TheVariants as view
-use Rattle.fis_view.specs.declared.view.FisFault.{FisFault}
-use Rattle.fis_view.specs.declared.view.FisFault.TheVariants.{WrongLength}
 use Rattle.port_errors.specs.declared.cause.DeviceCause.TheVariants as cause
-use Rattle.slots.specs.Commands.{answer_of}
-use Rattle.slots.specs.Slots.{DeviceSlots}
-use Rattle.hba_fbs.specs.Deciding.{decided, heard_within}
-use Rattle.hba_fbs.specs.Hearing.{answered, faulty, heard_fis, heard_register, quietly}
-use Rattle.hba_fbs.specs.Status.{after_reset, is_busy, is_error, with_file}
-use Rattle.hba_fbs.specs.Taking.{admitted, ignores, port_of}
-use Rattle.hba_fbs.specs.Views.{DeviceView, Port, view_of}
-use Rattle.hba_fbs.specs.declared.hearing.Happening.{Happening}
-use Rattle.hba_fbs.specs.declared.hearing.Happening.TheVariants as happening
-use Rattle.hba_fbs.specs.declared.hearing.Heard.{Heard}
-use Rattle.hba_fbs.specs.declared.room.Room.{Room}
-use Rattle.hba_fbs.specs.declared.room.Room.TheVariants.{Bytes, NoTable, Whole}
+use Rattle.slots.specs.{Commands.answer_of, Slots.DeviceSlots}
+use Rattle.hba_fbs.specs.{Deciding.{decided, heard_within}, Hearing.{answered, faulty, heard_fis, heard_register, quietly}, Status.after_reset}
+use Rattle.hba_fbs.specs.{Status.{is_busy, is_error, with_file}, Taking.{admitted, ignores, port_of}, Views.{DeviceView, Port, view_of}}
+use Rattle.hba_fbs.specs.declared.{hearing.{Happening.Happening, Heard.Heard}, room.Room.{Room, TheVariants.{Bytes, NoTable, Whole}}}
 use Rattle.hba_fbs.specs.declared.state.DeviceState.{DeviceState}
-use Rattle.hba_laws.specs.CoreHistories.{event_by}
-use Rattle.hba_laws.specs.Delivering.{event_heard, event_of}
-use Rattle.hba_laws.specs.History.{Event}
-use Rattle.fan_out.specs.declared.fan_out.FanOut.{FanOut}
-use Rattle.fan_out.specs.declared.fan_out.FanOut.TheVariants.{Device, Multiplier}
-use Rattle.ata_reply.specs.Replies.{Shows}
-use Rattle.ata_reply.specs.declared.reply.Reply.{Reply}
+use Rattle.hba_fbs.specs.declared.hearing.Happening.TheVariants as happening
+use Rattle.hba_laws.specs.{CoreHistories.event_by, Delivering.{event_heard, event_of}, History.Event}
+use Rattle.fan_out.specs.declared.fan_out.FanOut.{FanOut, TheVariants.{Device, Multiplier}}
+use Rattle.ata_reply.specs.{Replies.Shows, declared.reply.Reply.Reply}
 use Rattle.ata_reply.specs.declared.reply.Reply.TheVariants as replies
 use Rattle.sata_disk.specs.declared.out.Out.{Out}
 use Rattle.sata_disk.specs.declared.out.Out.TheVariants as out
 use Rattle.ahci_machine.specs.States.{MachineState}
 use Rattle.ahci_machine.specs.declared.act.Act.TheVariants as act
-use Rattle.machine_laws.specs.Deeds.{Does, Moved}
-use Rattle.machine_laws.specs.Rising.{risen}
+use Rattle.machine_laws.specs.{Deeds.{Does, Moved}, Rising.risen}
 use Rattle.machine_theorem.specs.Transfers.{fails, fails_by}
-use Rattle.machine_theorem.proofs.EndSent.{cut_run, seen_kind, set_kept}
-use Rattle.machine_theorem.proofs.Sent.{type_is}
+use Rattle.machine_theorem.proofs.{EndSent.{cut_run, seen_kind, set_kept}, Sent.type_is}
 
 -- ---- what the controller makes of it
 

@@ -1,33 +1,22 @@
 -- What the disk at a port heard in a stretch that begins at rest are some of the FISes that the controller sent in it, in order.
-use Rattle.std.proofs.Common.{◌≡◌, ℕ, ◌+◌, Bool, true, false, not, List, [], ◌∷◌, ◌++◌, append_assoc, length, map, Option, Some, None, refl, sym, ap, subst, ◌∙◌, inl, arith}
-use Rattle.std.specs.Prelude.{◌==◌, ◌||◌, if◌then◌else◌}
-use Rattle.std.specs.List.{flat_map}
-use Rattle.std.specs.Option.{option_to_list}
-use Rattle.std.proofs.lemmas.Bool.{false≢true}
-use Rattle.std.proofs.lemmas.Grind.{flat_map-append}
+use Rattle.std.proofs.Common.{◌≡◌, ℕ, ◌+◌, Bool, true, false, not, List, [], ◌∷◌, ◌++◌, append_assoc, length, map, Option, Some, None, refl, sym, ap}
+use Rattle.std.proofs.{Common.{subst, ◌∙◌, inl, arith}, lemmas.{Bool.{false≢true}, Grind.{flat_map-append}}}
+use Rattle.std.specs.{Prelude.{◌==◌, ◌||◌, if◌then◌else◌}, List.flat_map, Option.option_to_list}
 use Rattle.fis_view.specs.Frames.{Stamped}
-use Rattle.multiplier.specs.Arbiter.{control_port}
-use Rattle.multiplier.specs.State.{falling, passes_to, pm_port}
+use Rattle.multiplier.specs.{Arbiter.control_port, State.{falling, passes_to, pm_port}, declared.multiplier.Passed.Passed}
 use Rattle.multiplier.specs.declared.multiplier.Passed.TheVariants as passed
 use Rattle.slots.specs.Slots.{match_some}
-use Rattle.fan_out.specs.declared.fan_out.FanOut.{FanOut}
-use Rattle.fan_out.specs.declared.fan_out.FanOut.TheVariants.{Device, Multiplier}
-use Rattle.multiplier.specs.declared.multiplier.Passed.{Passed}
+use Rattle.fan_out.specs.declared.fan_out.FanOut.{FanOut, TheVariants.{Device, Multiplier}}
 use Rattle.sata_disk.specs.State.{DiskState}
 use Rattle.sata_disk_laws.specs.Calls.{Call, Plugs, Hears, Starts, Asks, Answers, Sends, after_calls}
-use Rattle.ahci_machine.specs.States.{MachineState, bay_at}
+use Rattle.ahci_machine.specs.{States.{MachineState, bay_at}, declared.bay.Unit.TheVariants.Disk}
 use Rattle.ahci_machine.specs.declared.act.Act.TheVariants as act
-use Rattle.ahci_machine.specs.declared.bay.Unit.TheVariants.{Disk}
-use Rattle.machine_laws.specs.ControllerLaws.{RunsRuled, calls_in}
-use Rattle.machine_laws.specs.Controllers.{GathersDue}
-use Rattle.machine_laws.specs.Deeds.{Deed, Does, Moved, Removed}
-use Rattle.machine_laws.specs.Disks.{DisksGoOn, calls_at, is_removed}
-use Rattle.machine_laws.specs.Rising.{is_multiplier}
-use Rattle.machine_laws.specs.Falling.{AllLast, ArrivesAt, DisksHearThem, FramesGoWhereTheyShould, HasLink, LinksPassInOrder, PortsPassInOrder, arrived, arrives, ended, ends, falls, fell, goes_to, heard_by, is_down_to, leaving, reached_at, sent_in, waits_down, way_to}
-use Rattle.machine_theorem.specs.Identity.{AllKeep, IsThere, asks_of, calls_of, heard_as, is_for, is_left, picks}
-use Rattle.machine_theorem.specs.OwnSlots.{AllKeepLine}
-use Rattle.machine_theorem.specs.Tags.{heard_with, once_if}
-use Rattle.machine_theorem.specs.Crossing.{Within}
+use Rattle.machine_laws.specs.{ControllerLaws.{RunsRuled, calls_in}, Controllers.GathersDue, Deeds.{Deed, Does, Moved, Removed}, Disks.DisksGoOn}
+use Rattle.machine_laws.specs.{Disks.{calls_at, is_removed}, Rising.is_multiplier, Falling.{AllLast, ArrivesAt, DisksHearThem}}
+use Rattle.machine_laws.specs.Falling.{FramesGoWhereTheyShould, HasLink, LinksPassInOrder, PortsPassInOrder, arrived, arrives, ended, ends, falls}
+use Rattle.machine_laws.specs.Falling.{fell, goes_to, heard_by, is_down_to, leaving, reached_at, sent_in, waits_down, way_to}
+use Rattle.machine_theorem.specs.{Identity.{AllKeep, IsThere, asks_of, calls_of, heard_as, is_for, is_left, picks}, OwnSlots.AllKeepLine}
+use Rattle.machine_theorem.specs.{Tags.{heard_with, once_if}, Crossing.Within}
 use Rattle.machine_theorem.proofs.Within.{first_within, picks_both, within_both, within_map, within_picks, within_then}
 
 pub record Laws : Type 0 where

@@ -1,49 +1,29 @@
 -- A bit of PxSACT falls by a FIS of the device that owns the slot's command.
-use Rattle.std.proofs.Common.{◌≡◌, ◌⊎◌, ℕ, ◌<◌, Bool, true, false, List, [], ◌∷◌, ◌++◌, append-nil, Option, Some, None, Result, Ok, Err, refl, sym, ap, ◌∙◌, subst, inl, inr, All, Contains}
-use Rattle.std.specs.Prelude.{◌==◌, MatchOption}
-use Rattle.std.specs.Bool.{MatchBool}
-use Rattle.std.specs.declared.alloc.AllocError.{AllocError}
-use Rattle.std.proofs.lemmas.Bool.{false≢true}
-use Rattle.std.proofs.lemmas.List.Elements.{All-contains, All-nil, Contains-append_right, Contains-push}
-use Rattle.std.proofs.lemmas.Nat.Bits.{bit_at-zero}
-use Rattle.std.specs.Int.{bit_at}
-use Rattle.fis_view.specs.Frames.{Stamped}
-use Rattle.fis_view.specs.Table.{Bits, SActive, field}
+use Rattle.std.proofs.Common.{◌≡◌, ◌⊎◌, ℕ, ◌<◌, Bool, true, false, List, [], ◌∷◌, ◌++◌, append-nil, Option, Some, None, Result, Ok, Err, refl, sym}
+use Rattle.std.proofs.{Common.{ap, ◌∙◌, subst, inl, inr, All, Contains}, lemmas.{Bool.{false≢true}, List.Elements.{All-contains, All-nil}}}
+use Rattle.std.proofs.lemmas.{List.Elements.{Contains-append_right, Contains-push}, Nat.Bits.{bit_at-zero}}
+use Rattle.std.specs.{Prelude.{◌==◌, MatchOption}, Bool.MatchBool, declared.alloc.AllocError.AllocError, Int.bit_at}
+use Rattle.fis_view.specs.{Frames.Stamped, Table.{Bits, SActive, field}}
 use Rattle.slots.specs.Slots.{has_bit}
 use Rattle.ahci_registers.specs.declared.register.Register.TheVariants.{PxSact}
-use Rattle.hba_laws.specs.CoreHistories.{history_through}
-use Rattle.hba_laws.specs.Cores.{CoreEvent}
-use Rattle.hba_laws.specs.History.{History}
-use Rattle.ahci_controller.specs.Reading.{shown}
-use Rattle.ahci_controller.specs.States.{ControllerState}
-use Rattle.ahci_controller.specs.Taking.{room_for}
+use Rattle.hba_laws.specs.{CoreHistories.history_through, Cores.CoreEvent, History.History}
+use Rattle.ahci_controller.specs.{Reading.shown, States.ControllerState, Taking.room_for, declared.taking.{Hindrance.Hindrance, Took.Took}}
 use Rattle.hba_fbs.specs.Taking.{port_of}
-use Rattle.ahci_controller.specs.declared.taking.Hindrance.{Hindrance}
-use Rattle.ahci_controller.specs.declared.taking.Took.{Took}
-use Rattle.controller_laws.specs.Active.{ActiveBitsFall, ActiveFalls, IsNamed}
-use Rattle.controller_laws.specs.CoreEvents.{AreCoreEvents, EventsAreCoreEvents, of_event}
-use Rattle.controller_laws.specs.Ends.{AreTold, HistoriesGoOn}
+use Rattle.controller_laws.specs.{Active.{ActiveBitsFall, ActiveFalls, IsNamed}, CoreEvents.{AreCoreEvents, EventsAreCoreEvents, of_event}}
+use Rattle.controller_laws.specs.{Ends.{AreTold, HistoriesGoOn}, Events.{Event, IsController}}
 use Rattle.controller_laws.specs.Events as call
-use Rattle.controller_laws.specs.Events.{Event, IsController}
 use Rattle.ahci_machine.specs.Acts as acts
-use Rattle.ahci_machine.specs.Answers.{IsStale, MissesFor, MissesMachine, SuppliesMachine, is_wanted}
-use Rattle.ahci_machine.specs.Gathers.{GatheringState}
-use Rattle.ahci_machine.specs.States.{HasRules, IsOpeningMachine, MachineState, gathering_at}
-use Rattle.ahci_machine.specs.declared.act.Act.{Act}
+use Rattle.ahci_machine.specs.{Answers.{IsStale, MissesFor, MissesMachine, SuppliesMachine, is_wanted}, Gathers.GatheringState, States.HasRules}
+use Rattle.ahci_machine.specs.{States.{IsOpeningMachine, MachineState, gathering_at}, declared.{act.Act.Act, answers.Told.Told as Answer}}
+use Rattle.ahci_machine.specs.declared.request.Wanted.{Wanted, TheVariants.{Command, Data}}
 use Rattle.ahci_machine.specs.declared.act.Act.TheVariants as act
-use Rattle.ahci_machine.specs.declared.answers.Told.{Told as Answer}
-use Rattle.ahci_machine.specs.declared.request.Wanted.{Wanted}
-use Rattle.ahci_machine.specs.declared.request.Wanted.TheVariants.{Command, Data}
 use Rattle.machine_laws.specs.ControllerLaws.{ControllerHasLaws, ControllerRuns, OpensLawful, OpensSo, RunsAreCalls, RunsRuled, calls_in}
-use Rattle.machine_laws.specs.Controllers.{data_calls, deed_calls, lost_calls, miss_calls, move_calls, rest_calls, supply_calls}
-use Rattle.machine_laws.specs.Deeds.{Deed, Does, Moved, Wrote, Supplied, Missed}
-use Rattle.machine_laws.specs.Rising.{Frames, GoesOnRising, HaveRisen, IsOfDevice, NamingAreSent, OpensRising, came_by, frames_after, frames_in, is_reset, no_frames, sent_by}
+use Rattle.machine_laws.specs.{Controllers.{data_calls, deed_calls, lost_calls, miss_calls, move_calls, rest_calls, supply_calls}, Deeds.{Deed, Does}}
+use Rattle.machine_laws.specs.{Deeds.{Moved, Wrote, Supplied, Missed}, Rising.{Frames, GoesOnRising, HaveRisen, IsOfDevice, NamingAreSent}}
+use Rattle.machine_laws.specs.Rising.{OpensRising, came_by, frames_after, frames_in, is_reset, no_frames, sent_by}
 use Rattle.machine_theorem.specs.Ends.{EndsAreOfDevices, IsEndIn, MayEnd, OthersEndNone}
 use Rattle.machine_theorem.proofs.EndSent as ends
-use Rattle.machine_theorem.proofs.EndSent.{IsNamingTag, each_end}
-use Rattle.machine_theorem.proofs.Names.{IsNamingOf, names}
-use Rattle.machine_theorem.proofs.Own.{all_in, last_ruled}
-use Rattle.machine_theorem.proofs.Taken.{more_sent}
+use Rattle.machine_theorem.proofs.{EndSent.{IsNamingTag, each_end}, Names.{IsNamingOf, names}, Own.{all_in, last_ruled}, Taken.more_sent}
 
 pub record Laws : Type 0 where
   pub ends : ends.Laws

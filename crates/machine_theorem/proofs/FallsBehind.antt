@@ -1,26 +1,16 @@
 -- From the moment at which a disk sends Data of a tag until they are taken no bit of its slot falls: FISes come in order, and the disk has not ended the
 -- command that it sends them for.
-use Rattle.std.proofs.Common.{◌≡◌, ℕ, ◌≤◌, ◌&&◌, Bool, true, false, List, [], ◌∷◌, ◌++◌, append-nil, inl, inr, refl, sym, ap, subst, ◌∙◌, arith, Contains}
+use Rattle.std.proofs.Common.{◌≡◌, ℕ, ◌≤◌, ◌&&◌, Bool, true, false, List, [], ◌∷◌, ◌++◌, append-nil, inl, inr, refl, sym, ap, subst, ◌∙◌, arith}
+use Rattle.std.proofs.{Common.Contains, lemmas.{Bool.{eq-eqb, eqb-true, false≢true}, List.Elements.{Contains-push}}}
 use Rattle.std.specs.Prelude.{◌==◌, if◌then◌else◌}
-use Rattle.std.proofs.lemmas.Bool.{eq-eqb, eqb-true, false≢true}
-use Rattle.std.proofs.lemmas.List.Elements.{Contains-push}
 use Rattle.fis_view.specs.Frames.{Stamped}
 use Rattle.multiplier.specs.Passing.{of_conn}
 use Rattle.ahci_machine.specs.States.{MachineState}
-use Rattle.machine_laws.specs.ControllerLaws.{RunsRuled}
-use Rattle.machine_laws.specs.Deeds.{Deed, Does}
-use Rattle.machine_laws.specs.Rising.{sent_by, untaken}
-use Rattle.machine_theorem.specs.Identity.{picks}
-use Rattle.machine_theorem.specs.OwnSlots.{AllKeepLine, BeginsClear, KeepsLine}
-use Rattle.machine_theorem.specs.Tags.{ended_with}
-use Rattle.machine_theorem.proofs.Cut.{Cut}
-use Rattle.machine_theorem.proofs.EndsFew.{sent_few, sent_of}
-use Rattle.machine_theorem.proofs.FallsFew.{came_of}
-use Rattle.machine_theorem.proofs.OwnPlace.{one_sent}
-use Rattle.machine_theorem.proofs.Risen.{Begins, came_few, names_tag}
-use Rattle.machine_theorem.proofs.RisenTold.{conn_both}
-use Rattle.machine_theorem.proofs.Stretch.{Stretch, calls, came_begins, comes, falls, fell_few, front, sends}
-use Rattle.machine_theorem.proofs.TheSlots.{Laws, begins_first, none_first}
+use Rattle.machine_laws.specs.{ControllerLaws.RunsRuled, Deeds.{Deed, Does}, Rising.{sent_by, untaken}}
+use Rattle.machine_theorem.specs.{Identity.picks, OwnSlots.{AllKeepLine, BeginsClear, KeepsLine}, Tags.ended_with}
+use Rattle.machine_theorem.proofs.{Cut.Cut, EndsFew.{sent_few, sent_of}, FallsFew.came_of, OwnPlace.one_sent, Risen.{Begins, came_few, names_tag}}
+use Rattle.machine_theorem.proofs.{RisenTold.conn_both, Stretch.{Stretch, calls, came_begins, comes, falls, fell_few, front, sends}, TheSlots.Laws}
+use Rattle.machine_theorem.proofs.TheSlots.{begins_first, none_first}
 
 -- ---- the device at the port sends on one connection
 

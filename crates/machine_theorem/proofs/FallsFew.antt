@@ -1,39 +1,24 @@
 -- Each bit of the slot that falls as a FIS is taken falls by one that came, names the tag, and is of the port.
-use Rattle.std.proofs.Common.{◌≡◌, ℕ, ◌+◌, ◌<◌, ◌≤◌, ◌&&◌, Bool, true, false, not, List, [], ◌∷◌, ◌++◌, length, Ok, refl, sym, ap, subst, ◌∙◌, arith, All}
-use Rattle.std.proofs.Common.{Contains}
+use Rattle.std.proofs.Common.{◌≡◌, ℕ, ◌+◌, ◌<◌, ◌≤◌, ◌&&◌, Bool, true, false, not, List, [], ◌∷◌, ◌++◌, length, Ok, refl, sym, ap, subst, ◌∙◌, arith}
+use Rattle.std.proofs.{Common.{All, Contains}, lemmas.{Bool.{and_parts, eq-eqb, eqb-true, false≢true}, List.{length-append, Elements.{All-append}}}}
+use Rattle.std.proofs.lemmas.List.Elements.{All-contains, All-cons, All-nil, All-same, Contains-append_right, Contains-push}
 use Rattle.std.specs.Prelude.{◌==◌, ◌||◌, if◌then◌else◌}
-use Rattle.std.proofs.lemmas.Bool.{and_parts, eq-eqb, eqb-true, false≢true}
-use Rattle.std.proofs.lemmas.List.{length-append}
-use Rattle.std.proofs.lemmas.List.Elements.{All-append, All-contains, All-cons, All-nil, All-same, Contains-append_right, Contains-push}
-use Rattle.fis_view.specs.Frames.{Stamped}
-use Rattle.fis_view.specs.Seen.{seen}
-use Rattle.fis_view.specs.Table.{Bits, SActive, field}
+use Rattle.fis_view.specs.{Frames.Stamped, Seen.seen, Table.{Bits, SActive, field}}
 use Rattle.pm_ports.specs.declared.port.Offered.TheVariants.{Held}
 use Rattle.multiplier.specs.State.{pm_port}
-use Rattle.fan_out.specs.Calls.{FanCall, Offer}
-use Rattle.fan_out.specs.declared.fan_out.FanOut.{FanOut}
+use Rattle.fan_out.specs.{Calls.{FanCall, Offer}, declared.fan_out.FanOut.FanOut}
 use Rattle.slots.specs.Slots.{has_bit, holds, issue_at}
 use Rattle.ahci_registers.specs.declared.register.Register.TheVariants.{PxSact}
-use Rattle.ahci_controller.specs.Reading.{shown}
-use Rattle.ahci_controller.specs.States.{ControllerState}
-use Rattle.ahci_controller.specs.declared.taking.Took.{Took}
+use Rattle.ahci_controller.specs.{Reading.shown, States.ControllerState, declared.taking.Took.Took}
 use Rattle.ahci_machine.specs.States.{HasRules, IsOpeningMachine, MachineState}
 use Rattle.ahci_machine.specs.declared.act.Act.TheVariants as act
-use Rattle.machine_laws.specs.ControllerLaws.{RunsRuled}
-use Rattle.machine_laws.specs.Deeds.{Deed, Does, Moved, Wrote}
-use Rattle.machine_laws.specs.Rising.{Frames, HaveRisen, IsOfDevice, Sends, came_by, frames_after, is_multiplier, risen, sent_call}
+use Rattle.machine_laws.specs.{ControllerLaws.RunsRuled, Deeds.{Deed, Does, Moved, Wrote}, Rising.{Frames, HaveRisen, IsOfDevice, Sends, came_by}}
+use Rattle.machine_laws.specs.Rising.{frames_after, is_multiplier, risen, sent_call}
 use Rattle.machine_laws.proofs.RisRun.{crosses}
-use Rattle.machine_theorem.specs.Ends.{MayEnd, OthersEndNone}
-use Rattle.machine_theorem.specs.Identity.{AllKeep, IsThere, Spares, names_in, own_of, picks}
-use Rattle.machine_theorem.specs.Orders.{fallen_in, is_fallen, is_queued_of}
-use Rattle.machine_theorem.specs.Tags.{once_if}
-use Rattle.machine_theorem.proofs.AtMoments.{more}
-use Rattle.machine_theorem.proofs.EndsFew.{straight_port}
-use Rattle.machine_theorem.proofs.Falls.{Laws, named_by, naming, some_named, told_now}
-use Rattle.machine_theorem.proofs.Names.{IsNamingOf}
-use Rattle.machine_theorem.proofs.Ordered.{first_ruled}
-use Rattle.machine_theorem.proofs.Risen.{names_of}
-use Rattle.machine_theorem.proofs.Within.{picks_both}
+use Rattle.machine_theorem.specs.{Ends.{MayEnd, OthersEndNone}, Identity.{AllKeep, IsThere, Spares, names_in, own_of, picks}, Orders.fallen_in}
+use Rattle.machine_theorem.specs.{Orders.{is_fallen, is_queued_of}, Tags.once_if}
+use Rattle.machine_theorem.proofs.{AtMoments.more, EndsFew.straight_port, Falls.{Laws, named_by, naming, some_named, told_now}, Names.IsNamingOf}
+use Rattle.machine_theorem.proofs.{Ordered.first_ruled, Risen.names_of, Within.picks_both}
 
 -- ---- what came
 

@@ -1,39 +1,23 @@
 -- The history of a device beside what its FISes say and the Data that went to it, over the calls of a controller.
 use Rattle.std.proofs.Common.{◌≡◌, ℕ, ◌-◌, length, ◌<◌, Bool, true, false, List, [], ◌∷◌, refl, sym, ap, subst, ◌∙◌, Option, Some, None}
-use Rattle.std.specs.Prelude.{◌==◌, MatchOption, is_some, if◌then◌else◌, Result, Ok, Err}
 use Rattle.std.proofs.lemmas.Bool.{eqb-true, false≢true}
-use Rattle.fis_view.specs.Seen.{seen}
-use Rattle.fis_view.specs.declared.view.Fis.{Fis}
+use Rattle.std.specs.Prelude.{◌==◌, MatchOption, is_some, if◌then◌else◌, Result, Ok, Err}
+use Rattle.fis_view.specs.{Seen.seen, declared.view.{Fis.Fis, FisFault.FisFault}}
 use Rattle.fis_view.specs.declared.view.Fis.TheVariants as view
-use Rattle.fis_view.specs.declared.view.FisFault.{FisFault}
-use Rattle.slots.specs.Data.{payload, payload_len}
-use Rattle.slots.specs.Slots.{Issue, Slots, context_of, issue_at, match_some}
-use Rattle.slots.specs.Table.{IsContext, IsContextOf}
-use Rattle.slots.specs.Work.{is_read}
-use Rattle.slots.specs.declared.table.Context.{Context}
-use Rattle.slots.specs.declared.work.Kind.TheVariants.{QueuedWrite}
-use Rattle.hba_fbs.specs.Choosing.{MayChoose, may_feed}
-use Rattle.hba_fbs.specs.Taking.{port_of}
-use Rattle.hba_fbs.specs.Turning.{feeds}
-use Rattle.hba_fbs.specs.Views.{view_of}
-use Rattle.hba_fbs.specs.declared.turn.Turn.TheVariants.{Rests}
-use Rattle.hba_laws.specs.CoreHistories.{FillsFrom}
-use Rattle.hba_laws.specs.Cores.{HasBytes}
-use Rattle.ahci_controller.specs.Feeding.{GathersIf, SendsData, SendsIf, without_feeding}
-use Rattle.ahci_controller.specs.Next.{is_fed}
-use Rattle.ahci_controller.specs.States.{ControllerState}
-use Rattle.ahci_controller.specs.declared.feeding.Fed.TheVariants as fed_answer
+use Rattle.slots.specs.{Data.{payload, payload_len}, Slots.{Issue, Slots, context_of, issue_at, match_some}, Table.{IsContext, IsContextOf}}
+use Rattle.slots.specs.{Work.is_read, declared.{table.Context.Context, work.Kind.TheVariants.QueuedWrite}}
+use Rattle.hba_fbs.specs.{Choosing.{MayChoose, may_feed}, Taking.port_of, Turning.feeds, Views.view_of, declared.turn.Turn.TheVariants.Rests}
+use Rattle.hba_laws.specs.{CoreHistories.FillsFrom, Cores.HasBytes}
+use Rattle.ahci_controller.specs.{Feeding.{GathersIf, SendsData, SendsIf, without_feeding}, Next.is_fed, States.ControllerState}
 use Rattle.ahci_controller.specs.declared.latch.Edge.{Edge}
+use Rattle.ahci_controller.specs.declared.feeding.Fed.TheVariants as fed_answer
 use Rattle.controller_laws.specs.Events as call
 use Rattle.controller_laws.specs.Events.{Does, Event, IsController, Runs}
 use Rattle.sata_disk_books.specs.Counted.{Counted, more_by}
-use Rattle.machine_theorem.specs.Feeding.{FedDataFollowSetups, IsNextOf, fed_call, fed_calls, set_by}
-use Rattle.machine_theorem.specs.Following.{AllHeardWell, HearsWell}
-use Rattle.machine_theorem.proofs.Ordered.{fed_some, last_kept}
-use Rattle.machine_theorem.proofs.SetupHistory.{fed_follows}
-use Rattle.machine_theorem.proofs.SetupFrames.{none_way, told_with}
-use Rattle.machine_theorem.proofs.SetupCores.{Beside, match_is, way_of}
-use Rattle.machine_theorem.proofs.SetupCalls.{CarriesAt, Laws, first_kept, gone_beside, none_taken, starts_beside, taken_beside, up_now}
+use Rattle.machine_theorem.specs.{Feeding.{FedDataFollowSetups, IsNextOf, fed_call, fed_calls, set_by}, Following.{AllHeardWell, HearsWell}}
+use Rattle.machine_theorem.proofs.{Ordered.{fed_some, last_kept}, SetupHistory.fed_follows, SetupFrames.{none_way, told_with}, SetupCores.Beside}
+use Rattle.machine_theorem.proofs.{SetupCores.{match_is, way_of}, SetupCalls.{CarriesAt, Laws, first_kept, gone_beside, none_taken, starts_beside}}
+use Rattle.machine_theorem.proofs.SetupCalls.{taken_beside, up_now}
 
 -- Data of the device count for nothing
 abbrev pub none_more : ℕ → Option Counted → Option Counted

@@ -1,46 +1,30 @@
 -- A Data FIS has what was read for its slot, from the byte that goes next.
-use Rattle.std.proofs.Common.{◌≡◌, ℕ, ◌<◌, Bool, true, false, List, [], ◌∷◌, get_or, refl, sym, ap, subst, ◌∙◌, inl, inr, Option, Some, None, Result, Ok, Err}
-use Rattle.std.specs.Prelude.{◌⊎◌, ◌==◌, MatchOption, nat_lt}
-use Rattle.std.specs.Bool.{MatchBool}
-use Rattle.std.specs.declared.alloc.AllocError.{AllocError}
-use Rattle.std.proofs.lemmas.Bool.{eqb-true, false≢true, ltb-true}
+use Rattle.std.proofs.Common.{◌≡◌, ℕ, ◌<◌, Bool, true, false, List, [], ◌∷◌, get_or, refl, sym, ap, subst, ◌∙◌, inl, inr, Option, Some, None, Result}
+use Rattle.std.proofs.{Common.{Ok, Err}, lemmas.Bool.{eqb-true, false≢true, ltb-true}}
+use Rattle.std.specs.{Prelude.{◌⊎◌, ◌==◌, MatchOption, nat_lt}, Bool.MatchBool, declared.alloc.AllocError.AllocError}
 use Rattle.fis_view.specs.Frames.{Stamped}
 use Rattle.slots.specs.Slots.{match_some}
-use Rattle.hba_fbs.specs.Choosing.{MayChoose}
-use Rattle.hba_fbs.specs.declared.turn.Turn.{Turn}
-use Rattle.hba_fbs.specs.declared.turn.Turn.TheVariants.{Feeds}
+use Rattle.hba_fbs.specs.{Choosing.MayChoose, declared.turn.Turn.{Turn, TheVariants.Feeds}}
 use Rattle.hba_laws.specs.CoreHistories.{FillsFrom}
-use Rattle.ahci_controller.specs.Feeding.{GathersIf}
-use Rattle.ahci_controller.specs.Next.{Turns, is_fed, turn_to}
-use Rattle.ahci_controller.specs.States.{ControllerState}
+use Rattle.ahci_controller.specs.{Feeding.GathersIf, Next.{Turns, is_fed, turn_to}, States.ControllerState, declared.latch.Edge.Edge}
+use Rattle.ahci_controller.specs.declared.{next.Next.Next, taking.Hindrance.Hindrance}
 use Rattle.ahci_controller.specs.declared.feeding.Fed.TheVariants as fed_answer
-use Rattle.ahci_controller.specs.declared.latch.Edge.{Edge}
-use Rattle.ahci_controller.specs.declared.next.Next.{Next}
 use Rattle.ahci_controller.specs.declared.next.Next.TheVariants as next
-use Rattle.ahci_controller.specs.declared.taking.Hindrance.{Hindrance}
 use Rattle.controller_laws.specs.Events.{IsController}
 use Rattle.ahci_machine.specs.Acts as acts
-use Rattle.ahci_machine.specs.Acts.{DoesBy, kept_of}
-use Rattle.ahci_machine.specs.Answers.{IsStale, MissesFor, MissesMachine, SuppliesMachine, is_wanted}
-use Rattle.ahci_machine.specs.Gathers.{GatheringState}
-use Rattle.ahci_machine.specs.States.{HasRules, IsOpeningMachine, MachineState, gathering_at}
-use Rattle.ahci_machine.specs.declared.act.Act.{Act}
+use Rattle.ahci_machine.specs.{Acts.{DoesBy, kept_of}, Answers.{IsStale, MissesFor, MissesMachine, SuppliesMachine, is_wanted}}
+use Rattle.ahci_machine.specs.{Gathers.GatheringState, States.{HasRules, IsOpeningMachine, MachineState, gathering_at}, declared.act.Act.Act}
+use Rattle.ahci_machine.specs.declared.{answers.Told.Told, gathering.Feed.Feed, request.Wanted.{Wanted, TheVariants.{Command, Data}}}
 use Rattle.ahci_machine.specs.declared.act.Act.TheVariants as act
-use Rattle.ahci_machine.specs.declared.answers.Told.{Told}
-use Rattle.ahci_machine.specs.declared.gathering.Feed.{Feed}
-use Rattle.ahci_machine.specs.declared.request.Wanted.{Wanted}
-use Rattle.ahci_machine.specs.declared.request.Wanted.TheVariants.{Command, Data}
-use Rattle.machine_laws.specs.ControllerLaws.{OpensLawful, OpensSo, RunsRuled}
-use Rattle.machine_laws.specs.Controllers.{ControllerGoesOn, GathersDue, IsGathered, IsLength, StaysDue, data_calls, deed_calls, is_feed_to, is_kept_for, lost_calls, miss_calls, move_calls, rest_calls, supply_calls}
-use Rattle.machine_laws.specs.Deeds.{Deed, Does, Missed, Moved, Supplied, Wrote}
-use Rattle.machine_laws.specs.Feeding.{DataIsRead, DataIsWhatCame, IsReading, OpensUnread, came_in, data_with}
-use Rattle.machine_laws.proofs.Due.{there_is}
-use Rattle.machine_laws.proofs.Wants.{fed_low}
+use Rattle.machine_laws.specs.{ControllerLaws.{OpensLawful, OpensSo, RunsRuled}, Controllers.{ControllerGoesOn, GathersDue, IsGathered, IsLength}}
+use Rattle.machine_laws.specs.Controllers.{StaysDue, data_calls, deed_calls, is_feed_to, is_kept_for, lost_calls, miss_calls, move_calls, rest_calls}
+use Rattle.machine_laws.specs.{Controllers.supply_calls, Deeds.{Deed, Does, Missed, Moved, Supplied, Wrote}, Feeding.{DataIsRead, DataIsWhatCame}}
+use Rattle.machine_laws.specs.Feeding.{IsReading, OpensUnread, came_in, data_with}
+use Rattle.machine_laws.proofs.{Due.there_is, Wants.fed_low}
 use Rattle.machine_theorem.specs.Fed.{FedDataAreOfTheirSlots, WasFed}
-use Rattle.machine_theorem.proofs.FedCalls.{Sends, sends}
-use Rattle.machine_theorem.proofs.FeedHolds.{AreMachineCalls, HasTold, Holds, OneUp, calls_hold, due_to, said_holds, told_on}
-use Rattle.machine_theorem.proofs.FeedStays.{FedBy, Opens, Quiet, Stays, deed_quiet, does_by, none_at}
-use Rattle.machine_theorem.proofs.Ordered.{fed_some, first_ruled}
+use Rattle.machine_theorem.proofs.{FedCalls.{Sends, sends}, FeedHolds.{AreMachineCalls, HasTold, Holds, OneUp, calls_hold, due_to, said_holds}}
+use Rattle.machine_theorem.proofs.{FeedHolds.told_on, FeedStays.{FedBy, Opens, Quiet, Stays, deed_quiet, does_by, none_at}, Ordered.fed_some}
+use Rattle.machine_theorem.proofs.Ordered.{first_ruled}
 use Rattle.machine_theorem.proofs.SetupCalls as setup
 
 pub record Laws : Type 0 where

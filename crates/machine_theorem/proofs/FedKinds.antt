@@ -1,24 +1,14 @@
 -- Where queued commands alone are issued for a device, the Data that go to it go of a slot with a queued write.
-use Rattle.std.proofs.Common.{◌≡◌, ℕ, Bool, true, false, Option, Some, None, refl, sym, ap, subst, ◌∙◌}
+use Rattle.std.proofs.{Common.{◌≡◌, ℕ, Bool, true, false, Option, Some, None, refl, sym, ap, subst, ◌∙◌}, lemmas.Bool.{false≢true}}
 use Rattle.std.specs.Prelude.{MatchOption, is_some, if◌then◌else◌}
-use Rattle.std.proofs.lemmas.Bool.{false≢true}
-use Rattle.slots.specs.Data.{payload, payload_len}
-use Rattle.slots.specs.Slots.{Issue, Slots, context_of, issue_at, match_some}
-use Rattle.slots.specs.Table.{IsContext, IsContextOf}
-use Rattle.slots.specs.Work.{is_queued, is_read}
-use Rattle.slots.specs.declared.table.Context.{Context}
-use Rattle.slots.specs.declared.work.Kind.{Kind}
-use Rattle.slots.specs.declared.work.Kind.TheVariants.{QueuedRead, QueuedWrite}
-use Rattle.hba_fbs.specs.Turning.{feeds}
-use Rattle.hba_fbs.specs.declared.turn.Turn.TheVariants.{Rests}
+use Rattle.slots.specs.{Data.{payload, payload_len}, Slots.{Issue, Slots, context_of, issue_at, match_some}, Table.{IsContext, IsContextOf}}
+use Rattle.slots.specs.{Work.{is_queued, is_read}, declared.{table.Context.Context, work.Kind.{Kind, TheVariants.{QueuedRead, QueuedWrite}}}}
+use Rattle.hba_fbs.specs.{Turning.feeds, declared.turn.Turn.TheVariants.Rests}
 use Rattle.ahci_controller.specs.States.{ControllerState}
 use Rattle.ahci_controller.specs.declared.feeding.Fed.TheVariants as fed_answer
 use Rattle.controller_laws.specs.Events.{IsController}
 use Rattle.machine_theorem.specs.QueuedWrites.{DataGoOfQueuedWrites, GoOfQueuedWrite, HasQueued}
-use Rattle.machine_theorem.proofs.Ordered.{fed_some}
-use Rattle.machine_theorem.proofs.Own.{last_ruled}
-use Rattle.machine_theorem.proofs.SentOnce.{kept_of}
-use Rattle.machine_theorem.proofs.SetupCores.{match_is}
+use Rattle.machine_theorem.proofs.{Ordered.fed_some, Own.last_ruled, SentOnce.kept_of, SetupCores.match_is}
 
 -- a command of the device is issued in a slot, and no read
 record IsIssued (t : Slots) (dev slot : ℕ) : Type 0 where

@@ -1,48 +1,30 @@
 -- What goes to a device of the slot of a command was read behind the FIS of this command: none of it was asked for before.
 use Rattle.std.proofs.Common.{◌≡◌, ◌⊎◌, ℕ, ◌<◌, Bool, true, false, List, [], ◌∷◌, Option, Some, None, refl, sym, ap, subst, ◌∙◌, arith, inl, inr}
-use Rattle.std.specs.Prelude.{◌||◌, MatchOption, is_some, if◌then◌else◌}
-use Rattle.std.specs.Option.{option_map}
-use Rattle.std.proofs.lemmas.Bool.{and_parts, eq-eqb, false≢true}
-use Rattle.std.proofs.lemmas.Option.{same_Some}
-use Rattle.slots.specs.Data.{payload, payload_len}
-use Rattle.slots.specs.Setup.{is_outstanding}
-use Rattle.slots.specs.Slots.{Issue, context_of, is_queued_issue, is_under_way, issue_at, own_issue, slots_of}
-use Rattle.slots.specs.Table.{IsContext, IsContextOf, IsIssue}
-use Rattle.slots.specs.Work.{needs_all}
-use Rattle.slots.specs.declared.table.Context.{Context}
-use Rattle.slots.specs.declared.work.Kind.TheVariants.{QueuedWrite}
-use Rattle.slots.specs.declared.work.Work.{Work}
+use Rattle.std.proofs.lemmas.{Bool.{and_parts, eq-eqb, false≢true}, Option.same_Some}
+use Rattle.std.specs.{Prelude.{◌||◌, MatchOption, is_some, if◌then◌else◌}, Option.option_map}
+use Rattle.slots.specs.{Data.{payload, payload_len}, Setup.is_outstanding, Slots.{Issue, context_of, is_queued_issue, is_under_way, issue_at}}
+use Rattle.slots.specs.{Slots.{own_issue, slots_of}, Table.{IsContext, IsContextOf, IsIssue}, Work.needs_all, declared.table.Context.Context}
+use Rattle.slots.specs.declared.work.{Kind.TheVariants.QueuedWrite, Work.Work}
 use Rattle.hba_fbs.specs.Views.{view_of}
-use Rattle.hba_laws.specs.Agreement.{is_for, work_of_issue, work_of_transfer}
-use Rattle.hba_laws.specs.History.{Transfer, is_set_up, issued}
+use Rattle.hba_laws.specs.{Agreement.{is_for, work_of_issue, work_of_transfer}, History.{Transfer, is_set_up, issued}}
 use Rattle.hba_laws.proofs.Door.{own_here}
-use Rattle.ahci_controller.specs.Next.{is_fed}
-use Rattle.ahci_controller.specs.States.{ControllerState}
-use Rattle.ahci_controller.specs.declared.next.Next.{Next}
+use Rattle.ahci_controller.specs.{Next.is_fed, States.ControllerState, declared.next.Next.Next}
 use Rattle.ahci_controller.specs.declared.next.Next.TheVariants as next
 use Rattle.controller_laws.specs.Events as call
 use Rattle.controller_laws.specs.Events.{Does as Calls, Event, IsController, Runs}
 use Rattle.sata_disk_books.specs.Counted.{Counted}
 use Rattle.ahci_machine.specs.Acts as acts
-use Rattle.ahci_machine.specs.Gathers.{GatheringState}
-use Rattle.ahci_machine.specs.States.{HasRules, MachineState, gathering_at}
+use Rattle.ahci_machine.specs.{Gathers.GatheringState, States.{HasRules, MachineState, gathering_at}, declared.gathering.Feed.Feed}
 use Rattle.ahci_machine.specs.declared.act.Act.TheVariants as act
-use Rattle.ahci_machine.specs.declared.gathering.Feed.{Feed}
-use Rattle.machine_laws.specs.ControllerLaws.{RunsRuled}
-use Rattle.machine_laws.specs.Controllers.{ControllerGoesOn, GathersDue, StaysDue, deed_calls, is_feed_to, is_kept_for}
-use Rattle.machine_laws.specs.Deeds.{Deed, Does, Moved}
-use Rattle.machine_laws.specs.Feeding.{came_by, came_in}
-use Rattle.machine_theorem.specs.Fed.{WasFed}
-use Rattle.machine_theorem.specs.QueuedWrites.{HasQueued}
+use Rattle.machine_laws.specs.{ControllerLaws.RunsRuled, Controllers.{ControllerGoesOn, GathersDue, StaysDue, deed_calls, is_feed_to, is_kept_for}}
+use Rattle.machine_laws.specs.{Deeds.{Deed, Does, Moved}, Feeding.{came_by, came_in}}
+use Rattle.machine_theorem.specs.{Fed.WasFed, QueuedWrites.HasQueued}
 use Rattle.machine_theorem.proofs.FedFor as for_slot
-use Rattle.machine_theorem.proofs.FedFor.{IsFree, deed_are, does_same, kept_off, kept_rules, no_read}
-use Rattle.machine_theorem.proofs.FedKinds.{write_kind}
-use Rattle.machine_theorem.proofs.FeedHolds.{AreMachineCalls, IsMachineCall, OneUp, due_case, due_to, event_keeps}
+use Rattle.machine_theorem.proofs.{FedFor.{IsFree, deed_are, does_same, kept_off, kept_rules, no_read}, FedKinds.write_kind}
+use Rattle.machine_theorem.proofs.{FeedHolds.{AreMachineCalls, IsMachineCall, OneUp, due_case, due_to, event_keeps}, FeedStays.{FedBy, Opens, Stays}}
+use Rattle.machine_theorem.proofs.{FeedStays.{Quiet, deed_quiet, does_by, rests_from, turns_from}, Ordered.first_ruled, OrderedOnce.IsOrderedOnce}
+use Rattle.machine_theorem.proofs.{OrderedOnce.ordered_once, SetupCores.{Beside, match_is}}
 use Rattle.machine_theorem.proofs.FeedStays as stays
-use Rattle.machine_theorem.proofs.FeedStays.{FedBy, Opens, Stays, Quiet, deed_quiet, does_by, rests_from, turns_from}
-use Rattle.machine_theorem.proofs.Ordered.{first_ruled}
-use Rattle.machine_theorem.proofs.OrderedOnce.{IsOrderedOnce, ordered_once}
-use Rattle.machine_theorem.proofs.SetupCores.{Beside, match_is}
 
 pub record Laws : Type 0 where
   pub goes : ControllerGoesOn

@@ -1,7 +1,7 @@
 -- Behind the command of a slot, while it is issued still, the Data FISes that go to its device are of this slot, in order, and were read for it.
 use Rattle.std.proofs.Common.{◌≡◌, ℕ, ◌+◌, ◌<◌, Bool, true, false, List, [], ◌∷◌, ◌++◌, drop, length, refl, sym, subst, arith}
-use Rattle.std.specs.Prelude.{◌==◌, is_some, if◌then◌else◌}
 use Rattle.std.proofs.lemmas.List.{length-append}
+use Rattle.std.specs.Prelude.{◌==◌, is_some, if◌then◌else◌}
 use Rattle.slots.specs.Slots.{issue_at}
 use Rattle.ahci_controller.specs.declared.feeding.Fed.TheVariants as fed_answer
 use Rattle.ahci_controller.specs.declared.latch.Edge.{Edge}
@@ -9,22 +9,13 @@ use Rattle.controller_laws.specs.Events as call
 use Rattle.controller_laws.specs.Events.{Event, Runs}
 use Rattle.ahci_machine.specs.States.{HasRules, MachineState}
 use Rattle.ahci_machine.specs.declared.act.Act.TheVariants as act
-use Rattle.machine_laws.specs.ControllerLaws.{ControllerRuns, RunsAreCalls, RunsRuled, calls_in}
-use Rattle.machine_laws.specs.Controllers.{deed_calls}
-use Rattle.machine_laws.specs.Deeds.{Deed, Does, Moved}
+use Rattle.machine_laws.specs.{ControllerLaws.{ControllerRuns, RunsAreCalls, RunsRuled, calls_in}, Controllers.deed_calls, Deeds.{Deed, Does, Moved}}
 use Rattle.machine_laws.specs.Feeding.{IsReading, came_by}
-use Rattle.machine_theorem.specs.Commands.{AreNotIssued}
-use Rattle.machine_theorem.specs.SingleData.{GoesNext, went_in}
-use Rattle.machine_theorem.specs.SingleWrites.{AllFed, AllKeepPlain, IsFedBy, IsFedNext, went_to}
-use Rattle.machine_theorem.specs.Waits.{HasPlain}
-use Rattle.machine_theorem.specs.Writes.{payloads}
-use Rattle.machine_theorem.proofs.Few.{are_few}
+use Rattle.machine_theorem.specs.{Commands.AreNotIssued, SingleData.{GoesNext, went_in}, SingleWrites.{AllFed, AllKeepPlain, IsFedBy, IsFedNext}}
+use Rattle.machine_theorem.specs.{SingleWrites.went_to, Waits.HasPlain, Writes.payloads}
+use Rattle.machine_theorem.proofs.{Few.are_few, FedFor.{Fits, Good, fits, run_good}, Ordered.first_ruled, PlainDeeds.{few_unqueued, none_queued}}
+use Rattle.machine_theorem.proofs.{PlainDeeds.plain_first, SingleCalls.{Going, goes_next}, SingleRun.{go_on, there_first}}
 use Rattle.machine_theorem.proofs.FedFor as fed_for
-use Rattle.machine_theorem.proofs.FedFor.{Fits, Good, fits, run_good}
-use Rattle.machine_theorem.proofs.Ordered.{first_ruled}
-use Rattle.machine_theorem.proofs.PlainDeeds.{few_unqueued, none_queued, plain_first}
-use Rattle.machine_theorem.proofs.SingleCalls.{Going, goes_next}
-use Rattle.machine_theorem.proofs.SingleRun.{go_on, there_first}
 use Rattle.machine_theorem.proofs.Waiting as waiting
 
 pub record Laws : Type 0 where

@@ -1,46 +1,29 @@
 -- While Data are wanted for a device, the slot and the place stay those that the controller said.
-use Rattle.std.proofs.Common.{◌≡◌, ℕ, ◌-◌, ◌<◌, ◌^◌, ◌&&◌, Bool, true, false, List, [], ◌∷◌, ◌++◌, refl, sym, ap, subst, ◌∙◌, inl, inr, arith, Option, Some, None, w32}
-use Rattle.std.specs.Prelude.{◌==◌, MatchOption, drop, is_some, nat_lt, if◌then◌else◌}
-use Rattle.std.specs.Int.{bit_at}
-use Rattle.std.specs.Option.{option_map}
-use Rattle.std.proofs.lemmas.Bool.{and_parts, eqb-true, false≢true, ltb-true}
-use Rattle.std.proofs.lemmas.Nat.{pow_below}
-use Rattle.std.proofs.lemmas.Nat.Bits.{bit_at-pow_same, bit_at_and, bit_at_not}
-use Rattle.guest_fetch.specs.Commands.{Fetched}
-use Rattle.guest_fetch.specs.declared.moves.Move.{Move}
-use Rattle.slots.specs.Data.{payload}
-use Rattle.slots.specs.Slots.{context_of, has_bit, holds, issue_at, match_some}
-use Rattle.slots.specs.Work.{is_dma, is_read}
-use Rattle.hba_fbs.specs.Bits.{without}
-use Rattle.hba_fbs.specs.Choosing.{MayChoose}
-use Rattle.hba_fbs.specs.Taking.{port_of}
-use Rattle.hba_fbs.specs.Turning.{feeds, orders}
-use Rattle.hba_fbs.specs.Views.{Port, view_of}
-use Rattle.hba_fbs.specs.declared.turn.Turn.{Turn}
+use Rattle.std.proofs.Common.{◌≡◌, ℕ, ◌-◌, ◌<◌, ◌^◌, ◌&&◌, Bool, true, false, List, [], ◌∷◌, ◌++◌, refl, sym, ap, subst, ◌∙◌, inl, inr, arith, Option}
+use Rattle.std.proofs.{Common.{Some, None, w32}, lemmas.{Bool.{and_parts, eqb-true, false≢true, ltb-true}, Nat.{pow_below, Bits.{bit_at-pow_same}}}}
+use Rattle.std.proofs.lemmas.Nat.Bits.{bit_at_and, bit_at_not}
+use Rattle.std.specs.{Prelude.{◌==◌, MatchOption, drop, is_some, nat_lt, if◌then◌else◌}, Int.bit_at, Option.option_map}
+use Rattle.guest_fetch.specs.{Commands.Fetched, declared.moves.Move.Move}
+use Rattle.slots.specs.{Data.payload, Slots.{context_of, has_bit, holds, issue_at, match_some}, Work.{is_dma, is_read}}
+use Rattle.hba_fbs.specs.{Bits.without, Choosing.MayChoose, Taking.port_of, Turning.{feeds, orders}, Views.{Port, view_of}, declared.turn.Turn.Turn}
 use Rattle.hba_fbs.specs.declared.turn.Turn.TheVariants.{Feeds, Orders, Rests}
-use Rattle.hba_laws.specs.Agreement.{IsTold}
-use Rattle.hba_laws.specs.CoreHistories.{FillsFrom}
-use Rattle.hba_laws.specs.Delivering.{is_control_issue}
+use Rattle.hba_laws.specs.{Agreement.IsTold, CoreHistories.FillsFrom, Delivering.is_control_issue, History.{History, is_at, is_set_up, next_number}}
+use Rattle.hba_laws.specs.History.{waiting_in}
 use Rattle.hba_laws.specs.History as history
-use Rattle.hba_laws.specs.History.{History, is_at, is_set_up, next_number, waiting_in}
-use Rattle.ahci_controller.specs.Fetching.{next_number as next_want}
-use Rattle.ahci_controller.specs.Moving.{count_of}
-use Rattle.ahci_controller.specs.Next.{FeedsTo, Frames, FramesFor, GoesIf, OrdersSlot, Reads, RestsNow, Turns, TurnsIf, count_next, counted_slot, feed_next, is_fed, is_halted, next_device, next_read, next_slot, next_write, order_next, rest, run_of, step_of, step_with, written}
-use Rattle.ahci_controller.specs.States.{ControllerState, kept}
+use Rattle.ahci_controller.specs.{Fetching.next_number as next_want, Moving.count_of, Next.{FeedsTo, Frames, FramesFor, GoesIf, OrdersSlot, Reads}}
+use Rattle.ahci_controller.specs.Next.{RestsNow, Turns, TurnsIf, count_next, counted_slot, feed_next, is_fed, is_halted, next_device, next_read}
+use Rattle.ahci_controller.specs.{Next.{next_slot, next_write, order_next, rest, run_of, step_of, step_with, written}, States.{ControllerState, kept}}
+use Rattle.ahci_controller.specs.declared.{latch.Edge.Edge, next.Next.Next, wants.Carried.Carried}
 use Rattle.ahci_controller.specs.declared.feeding.Fed.TheVariants as fed_answer
-use Rattle.ahci_controller.specs.declared.latch.Edge.{Edge}
-use Rattle.ahci_controller.specs.declared.next.Next.{Next}
 use Rattle.ahci_controller.specs.declared.next.Next.TheVariants as next
-use Rattle.ahci_controller.specs.declared.wants.Carried.{Carried}
-use Rattle.controller_laws.specs.CoreEvents.{AreCoreEvents, of_all}
+use Rattle.controller_laws.specs.{CoreEvents.{AreCoreEvents, of_all}, Events.{Does, Event, IsController, Runs}}
 use Rattle.controller_laws.specs.Events as call
-use Rattle.controller_laws.specs.Events.{Does, Event, IsController, Runs}
 use Rattle.ahci_machine.specs.declared.gathering.Feed.{Feed}
-use Rattle.machine_laws.proofs.Wants.{due_stays, fed_low, gather_stays, miss_stays, not_there_stays, supply_stays, take_stays, turned, unmoved, write_stays, written_stays}
+use Rattle.machine_laws.proofs.Wants.{due_stays, fed_low, gather_stays, miss_stays, not_there_stays, supply_stays, take_stays, turned, unmoved}
+use Rattle.machine_laws.proofs.Wants.{write_stays, written_stays}
 use Rattle.machine_laws.specs.Controllers.{AreDue, IsLength, is_feed_to}
-use Rattle.machine_theorem.proofs.CallSteps.{AreIdle, Idly, IsStep, Ordered, Stepped, stepped}
-use Rattle.machine_theorem.proofs.FedCalls.{Sends, sends}
-use Rattle.machine_theorem.proofs.SetupCalls.{Laws, first_kept}
+use Rattle.machine_theorem.proofs.{CallSteps.{AreIdle, Idly, IsStep, Ordered, Stepped, stepped}, FedCalls.{Sends, sends}, SetupCalls.Laws}
+use Rattle.machine_theorem.proofs.SetupCalls.{first_kept}
 
 -- ---- what is wanted
 

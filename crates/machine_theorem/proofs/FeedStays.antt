@@ -1,29 +1,22 @@
 -- What is read for a device was read for the same before each deed, or is what the controller said.
-use Rattle.std.proofs.Common.{◌≡◌, ℕ, Bool, true, false, List, get_or, set, length, replicate, Option, None, Some, Result, Ok, Err, refl, sym, ap, subst, ◌∙◌, inl, inr, arith, get_or-set_same, get_or-set_other, length-set}
-use Rattle.std.specs.Prelude.{◌⊎◌, MatchOption, if◌then◌else◌, nat_lt}
-use Rattle.std.specs.declared.alloc.AllocError.{AllocError}
-use Rattle.std.proofs.lemmas.Bool.{cases_Bool, cases_eq, ltb-false, ltb-true}
-use Rattle.std.proofs.lemmas.List.{get_or_past, get_or-replicate}
-use Rattle.ahci_controller.specs.declared.feeding.Fed.{Fed}
+use Rattle.std.proofs.Common.{◌≡◌, ℕ, Bool, true, false, List, get_or, set, length, replicate, Option, None, Some, Result, Ok, Err, refl, sym, ap}
+use Rattle.std.proofs.{Common.{subst, ◌∙◌, inl, inr, arith, get_or-set_same, get_or-set_other, length-set}, lemmas.Bool.{cases_Bool, cases_eq}}
+use Rattle.std.proofs.lemmas.{Bool.{ltb-false, ltb-true}, List.{get_or_past, get_or-replicate}}
+use Rattle.std.specs.{Prelude.{◌⊎◌, MatchOption, if◌then◌else◌, nat_lt}, declared.alloc.AllocError.AllocError}
+use Rattle.ahci_controller.specs.declared.{feeding.Fed.Fed, next.Next.Next}
 use Rattle.ahci_controller.specs.declared.feeding.Fed.TheVariants as fed
-use Rattle.ahci_controller.specs.declared.next.Next.{Next}
 use Rattle.ahci_controller.specs.declared.next.Next.TheVariants as next
 use Rattle.ahci_machine.specs.Acts as acts
-use Rattle.ahci_machine.specs.Acts.{DoesBy, GoesBy, with_controller, with_gathering}
-use Rattle.ahci_machine.specs.Answers.{IsStale, MissesFor, MissesMachine, SuppliesData, SuppliesMachine, is_own, is_wanted, taken_bay}
-use Rattle.ahci_machine.specs.Gathers.{GatheringState, Supplies, asked_for, opening_gathering}
-use Rattle.ahci_machine.specs.Registers.{for_host, kept_if, kept_powered, link_stays, renewed}
-use Rattle.ahci_machine.specs.States.{MachineState, bay_at, gathering_at}
-use Rattle.ahci_machine.specs.declared.act.Act.{Act}
-use Rattle.ahci_machine.specs.declared.act.Act.TheVariants as act
-use Rattle.ahci_machine.specs.declared.answers.Told.{Told}
-use Rattle.ahci_machine.specs.declared.gathering.Feed.{Feed}
-use Rattle.ahci_machine.specs.declared.request.Wanted.{Wanted}
+use Rattle.ahci_machine.specs.{Acts.{DoesBy, GoesBy, with_controller, with_gathering}, Answers.{IsStale, MissesFor, MissesMachine, SuppliesData}}
+use Rattle.ahci_machine.specs.{Answers.{SuppliesMachine, is_own, is_wanted, taken_bay}, Gathers.{GatheringState, Supplies, asked_for}}
+use Rattle.ahci_machine.specs.{Gathers.opening_gathering, Registers.{for_host, kept_if, kept_powered, link_stays, renewed}, States.MachineState}
+use Rattle.ahci_machine.specs.{States.{bay_at, gathering_at}, declared.{act.Act.Act, answers.Told.Told, gathering.Feed.Feed, request.Wanted.Wanted}}
 use Rattle.ahci_machine.specs.declared.request.Wanted.TheVariants.{Command, Data}
+use Rattle.ahci_machine.specs.declared.act.Act.TheVariants as act
 use Rattle.machine_laws.proofs.Beside as beside
-use Rattle.machine_laws.proofs.Beside.{Beside, inner}
-use Rattle.machine_laws.proofs.Cases.{by_bool, by_option}
-use Rattle.machine_laws.specs.Deeds.{Answered, Deed, Does, FrameOffered, FrameTaken, Missed, Moved, Plugged, Powered, Pulled, Put, Removed, Supplied, Unlent, Wrote}
+use Rattle.machine_laws.proofs.{Beside.{Beside, inner}, Cases.{by_bool, by_option}}
+use Rattle.machine_laws.specs.Deeds.{Answered, Deed, Does, FrameOffered, FrameTaken, Missed, Moved, Plugged, Powered, Pulled, Put, Removed, Supplied}
+use Rattle.machine_laws.specs.Deeds.{Unlent, Wrote}
 use Rattle.machine_theorem.specs.Fed.{FeedsStay, WasFed, says_feed}
 
 -- ---- what is gathered

@@ -1,45 +1,25 @@
 -- Each byte of a read that came, over the calls of a controller.
 use Rattle.std.proofs.Common.{◌≡◌, ◌⊎◌, ℕ, ◌<◌, ◌/◌, ◌&&◌, Bool, true, false, List, [], ◌∷◌, ◌++◌, inl, inr, refl, sym, ap, subst, ◌∙◌, arith, Option}
-use Rattle.std.proofs.Common.{Some, None}
-use Rattle.std.specs.Prelude.{◌==◌, MatchOption, if◌then◌else◌, is_some, not, replicate}
-use Rattle.std.specs.Option.{option_map}
-use Rattle.std.proofs.lemmas.Bool.{cases_lt, eq-eqb, eqb-true, false≢true, true≢false}
-use Rattle.std.proofs.lemmas.List.{get_or-map, get_or-replicate, get_or_past, length-replicate}
-use Rattle.slots.specs.Bytes.{is_over, none_over}
-use Rattle.slots.specs.Slots.{Issue, Slots, holds, issue_at, match_some, own_issue, owned_by, slots_of}
-use Rattle.slots.specs.Table.{IsIssue}
-use Rattle.slots.specs.Work.{is_queued, is_read}
-use Rattle.slots.specs.declared.work.Kind.{Kind}
-use Rattle.slots.specs.declared.work.Kind.TheVariants.{QueuedRead}
-use Rattle.slots.specs.declared.work.Work.{Work}
-use Rattle.hba_fbs.specs.Taking.{port_of}
-use Rattle.hba_fbs.specs.Views.{view_of}
+use Rattle.std.proofs.{Common.{Some, None}, lemmas.{Bool.{cases_lt, eq-eqb, eqb-true, false≢true, true≢false}, List.{get_or-map, get_or-replicate}}}
+use Rattle.std.proofs.lemmas.List.{get_or_past, length-replicate}
+use Rattle.std.specs.{Prelude.{◌==◌, MatchOption, if◌then◌else◌, is_some, not, replicate}, Option.option_map}
+use Rattle.slots.specs.{Bytes.{is_over, none_over}, Slots.{Issue, Slots, holds, issue_at, match_some, own_issue, owned_by, slots_of}, Table.IsIssue}
+use Rattle.slots.specs.{Work.{is_queued, is_read}, declared.work.{Kind.{Kind, TheVariants.QueuedRead}, Work.Work}}
+use Rattle.hba_fbs.specs.{Taking.port_of, Views.view_of}
 use Rattle.hba_laws.proofs.Door.{own_here, own_in}
-use Rattle.hba_laws.specs.Agreement.{IsTold, work_of_issue}
-use Rattle.hba_laws.specs.CoreHistories.{event_by}
+use Rattle.hba_laws.specs.{Agreement.{IsTold, work_of_issue}, CoreHistories.event_by, History.{History, Transfer, filled, issued}}
 use Rattle.hba_laws.specs.Cores as core
 use Rattle.hba_laws.specs.History as history
-use Rattle.hba_laws.specs.History.{History, Transfer, filled, issued}
-use Rattle.ahci_controller.specs.States.{ControllerState}
-use Rattle.ahci_controller.specs.Taking.{room_for}
+use Rattle.ahci_controller.specs.{States.ControllerState, Taking.room_for, declared.taking.Took.Took}
 use Rattle.ahci_controller.specs.declared.feeding.Fed.TheVariants as fed_answer
-use Rattle.ahci_controller.specs.declared.taking.Took.{Took}
-use Rattle.controller_laws.specs.CoreEvents.{AreCoreEvents, of_event, of_frame}
+use Rattle.controller_laws.specs.{CoreEvents.{AreCoreEvents, of_event, of_frame}, Events.{Does, Event, IsController, Runs}}
 use Rattle.controller_laws.specs.Events as call
-use Rattle.controller_laws.specs.Events.{Does, Event, IsController, Runs}
-use Rattle.machine_theorem.specs.Commands.{AreNotIssued, issues_in}
-use Rattle.machine_theorem.specs.Filled.{AreNotBrought, Brings, BringsNot, FilledWereBrought}
-use Rattle.machine_theorem.specs.Orders.{is_sent_of}
+use Rattle.machine_theorem.specs.{Commands.{AreNotIssued, issues_in}, Filled.{AreNotBrought, Brings, BringsNot, FilledWereBrought}, Orders.is_sent_of}
 use Rattle.machine_theorem.specs.SingleReads.{BringsFor, FilledSinglesWereBrought, WasBroughtFor, is_sent_read, is_single_read}
-use Rattle.machine_theorem.proofs.Completed.{transfer_of}
-use Rattle.machine_theorem.proofs.Ordered.{last_kept}
-use Rattle.machine_theorem.proofs.SetupCalls.{IsNoTake, Laws, call_none, core_events, first_kept}
-use Rattle.machine_theorem.proofs.SetupCores.{told_next}
-use Rattle.machine_theorem.proofs.SetupFrames.{has_up, the_issue}
-use Rattle.machine_theorem.proofs.Stood.{issues_are_alone}
-use Rattle.machine_theorem.proofs.FilledHistory.{HasCame}
-use Rattle.machine_theorem.proofs.FilledCores.{Behind, FillsNow, cores_behind, data_back, fis_back}
-use Rattle.machine_theorem.proofs.FilledFrames.{brings_it, brings_not, wrote_fits}
+use Rattle.machine_theorem.proofs.{Completed.transfer_of, Ordered.last_kept, SetupCalls.{IsNoTake, Laws, call_none, core_events, first_kept}}
+use Rattle.machine_theorem.proofs.{SetupCores.told_next, SetupFrames.{has_up, the_issue}, Stood.issues_are_alone, FilledHistory.HasCame}
+use Rattle.machine_theorem.proofs.{FilledCores.{Behind, FillsNow, cores_behind, data_back, fis_back}, FilledFrames.{brings_it, brings_not}}
+use Rattle.machine_theorem.proofs.FilledFrames.{wrote_fits}
 
 -- ---- what stands in a slot for a device
 

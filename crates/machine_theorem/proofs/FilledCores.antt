@@ -1,35 +1,19 @@
 -- Each byte of a read that came, over the events of a controller's core.
 use Rattle.std.proofs.Common.{◌≡◌, ◌⊎◌, ℕ, ◌+◌, ◌<◌, ◌≤◌, Bool, true, false, List, [], ◌∷◌, ◌++◌, drop, length, inl, inr, refl, sym, ap, subst, ◌∙◌}
-use Rattle.std.proofs.Common.{arith, Option, Some, None}
+use Rattle.std.proofs.{Common.{arith, Option, Some, None}, lemmas.Bool.{and_parts, eqb-true, leb-true, ltb-true}}
 use Rattle.std.specs.Prelude.{◌==◌, if◌then◌else◌, is_some, nat_le, nat_lt}
-use Rattle.std.proofs.lemmas.Bool.{and_parts, eqb-true, leb-true, ltb-true}
-use Rattle.slots.specs.Slots.{Issue, holds, issue_at, match_some}
-use Rattle.slots.specs.Table.{IsTable}
-use Rattle.slots.specs.Work.{is_dma, is_read}
-use Rattle.slots.specs.declared.work.Kind.{Kind}
+use Rattle.slots.specs.{Slots.{Issue, holds, issue_at, match_some}, Table.IsTable, Work.{is_dma, is_read}, declared.work.Kind.Kind}
 use Rattle.slots.specs.declared.work.Kind.TheVariants.{QueuedRead}
-use Rattle.hba_fbs.specs.Choosing.{MayChoose}
-use Rattle.hba_fbs.specs.Offering.{asked_by}
-use Rattle.hba_fbs.specs.Registers.{falls}
-use Rattle.hba_fbs.specs.Taking.{port_of}
-use Rattle.hba_fbs.specs.Views.{Port, view_of}
-use Rattle.hba_fbs.specs.Writing.{cleared_by, is_device}
-use Rattle.hba_fbs.specs.declared.register.Register.TheVariants as on_port
-use Rattle.hba_fbs.specs.declared.report.TakeReport.{TakeReport}
-use Rattle.hba_fbs.specs.declared.report.Wrote.{Wrote}
-use Rattle.hba_fbs.specs.declared.room.Room.{Room}
-use Rattle.hba_fbs.specs.declared.turn.Turn.{Turn}
+use Rattle.hba_fbs.specs.{Choosing.MayChoose, Offering.asked_by, Registers.falls, Taking.port_of, Views.{Port, view_of}, Writing.cleared_by}
+use Rattle.hba_fbs.specs.{Writing.is_device, declared.{report.{TakeReport.TakeReport, Wrote.Wrote}, room.Room.Room, turn.Turn.Turn}}
 use Rattle.hba_fbs.specs.declared.turn.Turn.TheVariants.{Feeds, Orders, Rests}
-use Rattle.hba_laws.specs.Agreement.{IsTold}
-use Rattle.hba_laws.specs.Alike.{told_issued}
-use Rattle.hba_laws.specs.CoreHistories.{AreFramedBy, CoreReportsFilled, CoreViewsAreTold, FillsAs, IsNoData, ReportsFilled, event_by, happened, turned_for}
+use Rattle.hba_fbs.specs.declared.register.Register.TheVariants as on_port
+use Rattle.hba_laws.specs.{Agreement.IsTold, Alike.told_issued, CoreHistories.{AreFramedBy, CoreReportsFilled, CoreViewsAreTold, FillsAs, IsNoData}}
+use Rattle.hba_laws.specs.{CoreHistories.{ReportsFilled, event_by, happened, turned_for}, Cores.{AreCores, CoreEvent, DoesBy, IsCore, RunsBy}}
+use Rattle.hba_laws.specs.{Delivering.{begun_by, event_sent, is_control_issue}, History.{Event, History, Transfer, filled, issued, next_number}}
 use Rattle.hba_laws.specs.Cores as core
-use Rattle.hba_laws.specs.Cores.{AreCores, CoreEvent, DoesBy, IsCore, RunsBy}
-use Rattle.hba_laws.specs.Delivering.{begun_by, event_sent, is_control_issue}
 use Rattle.hba_laws.specs.History as history
-use Rattle.hba_laws.specs.History.{Event, History, Transfer, filled, issued, next_number}
-use Rattle.machine_theorem.proofs.SetupHistory.{IsUp, was_issued}
-use Rattle.machine_theorem.proofs.SetupCores.{AreNoFises, IsNoFis, fed_none, first_core, told_next}
+use Rattle.machine_theorem.proofs.{SetupHistory.{IsUp, was_issued}, SetupCores.{AreNoFises, IsNoFis, fed_none, first_core, told_next}}
 use Rattle.machine_theorem.proofs.FilledHistory.{HasCame, HasNoData, HaveNoData, IsIn, both_none, carried_back, filled_back, if_none, issued_none}
 use Rattle.machine_theorem.proofs.FilledHistory.{list_back, none_back, up_one}
 

@@ -1,43 +1,26 @@
 -- A FIS whose bytes the core writes has not gone past its table: what it brings are all of its bytes, and none that came before.
-use Rattle.std.proofs.Common.{◌≡◌, ℕ, ◌+◌, ◌-◌, ◌<◌, ◌≤◌, ◌&&◌, Bool, true, false, List, length, Ok, refl, sym, ap, subst, ◌∙◌, arith, Option, Some, None}
-use Rattle.std.specs.Prelude.{◌==◌, not, nat_lt, if◌then◌else◌}
-use Rattle.std.specs.List.{range_with_len}
-use Rattle.std.proofs.lemmas.Bool.{false≢true, ltb-false}
-use Rattle.std.proofs.lemmas.List.Folds.{list_any_at}
-use Rattle.std.proofs.lemmas.List.FromFn.{get_or-range_with_len, length-range_with_len}
-use Rattle.fis_view.specs.Seen.{seen}
-use Rattle.fis_view.specs.declared.view.Fis.{Fis}
+use Rattle.std.proofs.Common.{◌≡◌, ℕ, ◌+◌, ◌-◌, ◌<◌, ◌≤◌, ◌&&◌, Bool, true, false, List, length, Ok, refl, sym, ap, subst, ◌∙◌, arith, Option, Some}
+use Rattle.std.proofs.{Common.None, lemmas.{Bool.{false≢true, ltb-false}, List.{Folds.list_any_at, FromFn.{get_or-range_with_len}}}}
+use Rattle.std.proofs.lemmas.List.FromFn.{length-range_with_len}
+use Rattle.std.specs.{Prelude.{◌==◌, not, nat_lt, if◌then◌else◌}, List.range_with_len}
+use Rattle.fis_view.specs.{Seen.seen, declared.view.Fis.Fis}
 use Rattle.fis_view.specs.declared.view.Fis.TheVariants as view
-use Rattle.guest_fetch.specs.Commands.{Fetched}
-use Rattle.guest_fetch.specs.Places.{reach_of}
+use Rattle.guest_fetch.specs.{Commands.Fetched, Places.reach_of}
 use Rattle.port_errors.specs.declared.cause.DeviceCause.TheVariants as cause
-use Rattle.slots.specs.Bytes.{any_over, is_over}
-use Rattle.slots.specs.Data.{after_arrive, receiving_slot}
-use Rattle.slots.specs.Slots.{DeviceSlots, Issue, issue_at, match_some}
-use Rattle.slots.specs.Table.{IsContext, IsContextOf, IsTable}
-use Rattle.slots.specs.declared.table.Context.{Context}
-use Rattle.hba_fbs.specs.Deciding.{Decides, Reaches, decided, goes_past, heard_within, is_past}
-use Rattle.hba_fbs.specs.Hearing.{bus_failed, faulty, heard_bytes, heard_data_of, heard_fis, overflowed}
-use Rattle.hba_fbs.specs.Status.{is_error}
-use Rattle.hba_fbs.specs.Taking.{admitted, device_cause, heard_report, ignores, port_of, wrote_by}
-use Rattle.hba_fbs.specs.Views.{DeviceView, Port, view_of}
-use Rattle.hba_fbs.specs.declared.hearing.Fault.TheVariants as fault
-use Rattle.hba_fbs.specs.declared.hearing.Heard.{Heard}
-use Rattle.hba_fbs.specs.declared.report.TakeReport.{TakeReport}
-use Rattle.hba_fbs.specs.declared.report.Wrote.{Wrote}
-use Rattle.hba_fbs.specs.declared.room.Room.{Room}
-use Rattle.hba_fbs.specs.declared.room.Room.TheVariants.{Bytes, NoTable, Whole}
-use Rattle.hba_fbs.specs.declared.state.DeviceState.{DeviceState}
+use Rattle.slots.specs.{Bytes.{any_over, is_over}, Data.{after_arrive, receiving_slot}, Slots.{DeviceSlots, Issue, issue_at, match_some}}
+use Rattle.slots.specs.{Table.{IsContext, IsContextOf, IsTable}, declared.table.Context.Context}
+use Rattle.hba_fbs.specs.{Deciding.{Decides, Reaches, decided, goes_past, heard_within, is_past}, Hearing.{bus_failed, faulty, heard_bytes}}
+use Rattle.hba_fbs.specs.{Hearing.{heard_data_of, heard_fis, overflowed}, Status.is_error, Taking.{admitted, device_cause, heard_report, ignores}}
+use Rattle.hba_fbs.specs.{Taking.{port_of, wrote_by}, Views.{DeviceView, Port, view_of}, declared.{hearing.Heard.Heard, report.TakeReport.TakeReport}}
+use Rattle.hba_fbs.specs.declared.{report.Wrote.Wrote, room.Room.{Room, TheVariants.{Bytes, NoTable, Whole}}, state.DeviceState.DeviceState}
 use Rattle.hba_fbs.specs.declared.status.Block.{Block}
-use Rattle.ahci_controller.specs.States.{ControllerState, kept}
-use Rattle.ahci_controller.specs.Taking.{CoreHearsIf, is_overflow, part_of, payload_of, room_for}
+use Rattle.hba_fbs.specs.declared.hearing.Fault.TheVariants as fault
+use Rattle.ahci_controller.specs.{States.{ControllerState, kept}, Taking.{CoreHearsIf, is_overflow, part_of, payload_of, room_for}}
 use Rattle.ahci_controller.specs.declared.taking.Took.{Took}
 use Rattle.controller_laws.specs.Events as call
 use Rattle.controller_laws.specs.Events.{Takes}
 use Rattle.machine_theorem.specs.Filled.{BringsNot}
-use Rattle.machine_theorem.proofs.IsData.{BringsNone, fis_none}
-use Rattle.machine_theorem.proofs.SetupCalls.{greeted_none}
-use Rattle.machine_theorem.proofs.SetupCores.{context_is, match_is}
+use Rattle.machine_theorem.proofs.{IsData.{BringsNone, fis_none}, SetupCalls.greeted_none, SetupCores.{context_is, match_is}}
 
 -- the bytes, so many, are the next ones of the setup of a device
 pub record IsNext (own : DeviceSlots) (count : ℕ) (wrote : Wrote) : Type 0 where

@@ -1,14 +1,13 @@
 -- Each byte of a command that a history of its device has as filled was filled by Data, since the command was issued.
 use Rattle.std.proofs.Common.{◌≡◌, ◌⊎◌, ℕ, zero, suc, ◌+◌, ◌-◌, ◌&&◌, Bool, true, false, List, [], ◌∷◌, ◌++◌, length, inl, inr, refl, sym, ap, ◌∙◌}
-use Rattle.std.proofs.Common.{Option, Some, None}
+use Rattle.std.proofs.{Common.{Option, Some, None}, lemmas.Bool.{eqb-true, false≢true}}
 use Rattle.std.specs.Prelude.{◌==◌, if◌then◌else◌, is_some, nat_le, nat_lt, slice_get}
-use Rattle.std.proofs.lemmas.Bool.{eqb-true, false≢true}
 use Rattle.host_memory.specs.declared.table.Prd.{Prd}
 use Rattle.slots.specs.declared.work.Kind.{Kind}
 use Rattle.hba_commands.specs.declared.command.Command.{Command}
-use Rattle.hba_laws.specs.Alike.{told_issue, told_issued}
+use Rattle.hba_laws.specs.{Alike.{told_issue, told_issued}, History.{Event, History, Transfer, filled, filled_from, is_at, is_set_up, issued}}
+use Rattle.hba_laws.specs.History.{next_number, none_filled, waiting_in}
 use Rattle.hba_laws.specs.History as history
-use Rattle.hba_laws.specs.History.{Event, History, Transfer, filled, filled_from, is_at, is_set_up, issued, next_number, none_filled, waiting_in}
 use Rattle.machine_theorem.proofs.SetupHistory.{IsUp, if_not, was_issued}
 
 -- what is issued in a slot is a command of this kind, and its byte k is filled

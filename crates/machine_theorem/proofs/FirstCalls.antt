@@ -1,9 +1,7 @@
 -- Calls of a disk among which no more commands were heard than before one of them: they are all before this one.
 use Rattle.std.proofs.Common.{◌≡◌, ℕ, ◌≤◌, true, List, [], ◌∷◌, ◌++◌, refl, sym, ap, ◌∙◌, arith}
 use Rattle.sata_disk_laws.specs.Calls.{Call, Hears}
-use Rattle.machine_theorem.specs.InTurn.{heard_in, hears_one, is_asking}
-use Rattle.machine_theorem.specs.Singles.{StartsWith}
-use Rattle.machine_theorem.specs.Tags.{once_if}
+use Rattle.machine_theorem.specs.{InTurn.{heard_in, hears_one, is_asking}, Singles.StartsWith, Tags.once_if}
 
 pub starts_with : (first front rest more : List Call) (bytes : List ℕ) → first ++ rest ≡ front ++ Hears bytes ∷ more → is_asking bytes ≡ true → heard_in first ≤ heard_in front → StartsWith first front
 starts_with [] front rest more bytes is asks few = record { more = front; is = refl }

@@ -5,15 +5,9 @@ use Rattle.ahci_controller.specs.declared.taking.Took.{Took}
 use Rattle.sata_disk_laws.specs.Calls.{Call}
 use Rattle.ahci_machine.specs.States.{HasRules, MachineState}
 use Rattle.ahci_machine.specs.declared.act.Act.TheVariants as act
-use Rattle.machine_laws.specs.ControllerLaws.{RunsRuled}
-use Rattle.machine_laws.specs.Deeds.{Deed, Does, Moved}
-use Rattle.machine_laws.specs.Disks.{calls_at}
-use Rattle.machine_laws.specs.Falling.{AllLast, HasLink}
-use Rattle.machine_theorem.specs.FirstDeeds.{AtSome, begins_ruled, first_deeds, first_run, machine_at}
-use Rattle.machine_theorem.specs.Identity.{AllKeep, IsThere, calls_of}
-use Rattle.machine_theorem.specs.Orders.{fallen_in, ordered_in}
-use Rattle.machine_theorem.specs.OwnSlots.{AllKeepLine}
-use Rattle.machine_theorem.specs.ReadBack.{Falls, FallsAt, FallsBy, IsFree}
+use Rattle.machine_laws.specs.{ControllerLaws.RunsRuled, Deeds.{Deed, Does, Moved}, Disks.calls_at, Falling.{AllLast, HasLink}}
+use Rattle.machine_theorem.specs.{FirstDeeds.{AtSome, begins_ruled, first_deeds, first_run, machine_at}, Identity.{AllKeep, IsThere, calls_of}}
+use Rattle.machine_theorem.specs.{Orders.{fallen_in, ordered_in}, OwnSlots.AllKeepLine, ReadBack.{Falls, FallsAt, FallsBy, IsFree}}
 
 -- ---- what the guest keeps to
 

@@ -1,37 +1,25 @@
 -- A FIS of a device that is heard, with a fault or without, is in the history of the device an event that its slots allow.
 use Rattle.std.proofs.Common.{◌≡◌, ◌⊎◌, ℕ, ◌-◌, Bool, true, false, List, length, refl, sym, ap, subst, inl, inr, Option, Some, None}
-use Rattle.std.specs.Prelude.{◌==◌, IfSome, MatchOption, is_some, not, nat_lt, if◌then◌else◌, Result, Ok, Err}
 use Rattle.std.proofs.lemmas.Bool.{and_parts}
+use Rattle.std.specs.Prelude.{◌==◌, IfSome, MatchOption, is_some, not, nat_lt, if◌then◌else◌, Result, Ok, Err}
 use Rattle.fis_view.specs.Table as table
-use Rattle.fis_view.specs.Table.{field}
-use Rattle.fis_view.specs.declared.view.Fis.{Fis}
+use Rattle.fis_view.specs.{Table.field, declared.view.{Fis.Fis, FisFault.FisFault}}
 use Rattle.fis_view.specs.declared.view.Fis.TheVariants as view
-use Rattle.fis_view.specs.declared.view.FisFault.{FisFault}
-use Rattle.slots.specs.Commands.{answer_of, completed}
-use Rattle.slots.specs.Data.{after_arrive, may_activate}
-use Rattle.slots.specs.Setup.{came, context_or, dma_context, is_outstanding, out_context, out_fault, out_setup, pio_fault, pio_issue, setup_fault, transfer_fault}
-use Rattle.slots.specs.Slots.{DeviceSlots, Issue, is_queued_issue, match_some, own_issue, sent_out, sent_pio}
+use Rattle.slots.specs.{Commands.{answer_of, completed}, Data.{after_arrive, may_activate}, Setup.{came, context_or, dma_context, is_outstanding}}
+use Rattle.slots.specs.{Setup.{out_context, out_fault, out_setup, pio_fault, pio_issue, setup_fault, transfer_fault}, Slots.{DeviceSlots, Issue}}
+use Rattle.slots.specs.{Slots.{is_queued_issue, match_some, own_issue, sent_out, sent_pio}, declared.answer.SetupError.SetupError}
+use Rattle.slots.specs.declared.{answer.SetupError.TheVariants.NotOutstanding, table.Context.Context}
 use Rattle.slots.specs.declared.answer.Answered as answered_type
 use Rattle.slots.specs.declared.answer.Answered.TheVariants as answer
-use Rattle.slots.specs.declared.answer.SetupError.{SetupError}
-use Rattle.slots.specs.declared.answer.SetupError.TheVariants.{NotOutstanding}
-use Rattle.slots.specs.declared.table.Context.{Context}
-use Rattle.hba_fbs.specs.Deciding.{decided, heard_within, is_past}
-use Rattle.hba_fbs.specs.Hearing.{answered, block_of, bus_failed, faulty, heard_bytes, heard_data_of, heard_fis, heard_out, is_admitted, named, overflowed, quietly, set_up, signing, tag_of}
-use Rattle.hba_fbs.specs.Status.{after_reset, is_busy, is_error, with_bits, with_file}
-use Rattle.hba_fbs.specs.Taking.{admitted}
-use Rattle.hba_fbs.specs.Views.{DeviceView}
-use Rattle.port_errors.specs.declared.cause.DeviceCause.TheVariants as cause
-use Rattle.hba_fbs.specs.declared.report.Wrote.{Wrote}
-use Rattle.hba_fbs.specs.declared.hearing.Happening.TheVariants as happening
-use Rattle.hba_fbs.specs.declared.hearing.Heard.{Heard}
-use Rattle.hba_fbs.specs.declared.room.Room.{Room}
-use Rattle.hba_fbs.specs.declared.room.Room.TheVariants.{Bytes, NoTable, Whole}
-use Rattle.hba_fbs.specs.declared.state.DeviceState.{DeviceState}
+use Rattle.hba_fbs.specs.{Deciding.{decided, heard_within, is_past}, Hearing.{answered, block_of, bus_failed, faulty, heard_bytes, heard_data_of}}
+use Rattle.hba_fbs.specs.{Hearing.{heard_fis, heard_out, is_admitted, named, overflowed, quietly, set_up, signing, tag_of}, Status.after_reset}
+use Rattle.hba_fbs.specs.{Status.{is_busy, is_error, with_bits, with_file}, Taking.admitted, Views.DeviceView, declared.report.Wrote.Wrote}
+use Rattle.hba_fbs.specs.declared.{hearing.Heard.Heard, room.Room.{Room, TheVariants.{Bytes, NoTable, Whole}}, state.DeviceState.DeviceState}
 use Rattle.hba_fbs.specs.declared.status.Block.{Block}
-use Rattle.hba_laws.specs.Delivering.{event_heard, event_of_answer}
+use Rattle.port_errors.specs.declared.cause.DeviceCause.TheVariants as cause
+use Rattle.hba_fbs.specs.declared.hearing.Happening.TheVariants as happening
+use Rattle.hba_laws.specs.{Delivering.{event_heard, event_of_answer}, History.Event}
 use Rattle.hba_laws.specs.History as history
-use Rattle.hba_laws.specs.History.{Event}
 
 -- a setup is of a queued command, or for the bytes behind those that came; and Data come where they are set up to the host
 abbrev pub IsAllowed : DeviceView → Event → Type 0

@@ -1,48 +1,32 @@
 -- A flush reaches what was written before: as a write ended each of its sectors was stored, and the flush was asked for behind that.
-use Rattle.std.proofs.Common.{◌≡◌, ℕ, Bool, true, false, List, [], ◌∷◌, ◌++◌, append_assoc, Some, refl, sym, ap, subst, ◌∙◌}
-use Rattle.std.specs.Prelude.{◌==◌, if◌then◌else◌}
-use Rattle.std.proofs.lemmas.Bool.{eqb-true}
+use Rattle.std.proofs.{Common.{◌≡◌, ℕ, Bool, true, false, List, [], ◌∷◌, ◌++◌, append_assoc, Some, refl, sym, ap, subst, ◌∙◌}, lemmas.Bool.{eqb-true}}
 use Rattle.std.proofs.lemmas.List.{append-nil}
+use Rattle.std.specs.Prelude.{◌==◌, if◌then◌else◌}
 use Rattle.fis_view.specs.Frames.{Stamped}
 use Rattle.slots.specs.Slots.{Issue, is_pio}
 use Rattle.ahci_controller.specs.States.{ControllerState}
 use Rattle.controller_laws.specs.Events.{Event, Runs}
 use Rattle.block_disk.specs.Laws.{Page}
-use Rattle.block_engine.specs.declared.request.Answer.{Answer}
+use Rattle.block_engine.specs.declared.request.{Answer.Answer, Request.Request, What.What}
 use Rattle.block_engine.specs.declared.request.Answer.TheVariants as caller
-use Rattle.block_engine.specs.declared.request.Request.{Request}
-use Rattle.block_engine.specs.declared.request.What.{What}
 use Rattle.block_engine.specs.declared.request.What.TheVariants as what
 use Rattle.ata_reply.specs.declared.reply.Reply.TheVariants as replies
 use Rattle.disk_pages.specs.declared.profile.Profile.{Profile}
-use Rattle.sata_disk.specs.Sending.{IsOut}
-use Rattle.sata_disk.specs.State.{DiskState, new_disk}
-use Rattle.sata_disk.specs.declared.out.Out.{Out}
+use Rattle.sata_disk.specs.{Sending.IsOut, State.{DiskState, new_disk}, declared.out.Out.Out}
 use Rattle.sata_disk.specs.declared.out.Out.TheVariants as out
 use Rattle.sata_disk_books.specs.Books.{page_in}
-use Rattle.sata_disk_laws.specs.Calls.{Answers, AreCalls, Asks, Call, Hears, Sends, after_call, after_calls}
-use Rattle.sata_disk_laws.specs.Laws.{reached}
+use Rattle.sata_disk_laws.specs.{Calls.{Answers, AreCalls, Asks, Call, Hears, Sends, after_call, after_calls}, Laws.reached}
 use Rattle.sata_disk_laws.proofs.Door.{calls_after}
 use Rattle.sata_disk_media.specs.Cells.{Cell, Kept, Storing, Unknown, answered_cell, asked_cell, covers, in_ranges, kept_in, sector_of}
-use Rattle.sata_disk_media.specs.Laws.{AreSparing, Spares, WritesAreKept, touches}
-use Rattle.sata_disk_media.specs.Media.{cell_after, cell_of, kept, store_bytes}
-use Rattle.ahci_machine.specs.States.{MachineState}
+use Rattle.sata_disk_media.specs.{Laws.{AreSparing, Spares, WritesAreKept, touches}, Media.{cell_after, cell_of, kept, store_bytes}}
+use Rattle.ahci_machine.specs.{States.MachineState, declared.bay.Unit.TheVariants.Disk}
 use Rattle.ahci_machine.specs.declared.act.Act.TheVariants as act
-use Rattle.ahci_machine.specs.declared.bay.Unit.TheVariants.{Disk}
-use Rattle.machine_laws.specs.ControllerLaws.{RunsRuled, calls_in}
-use Rattle.machine_laws.specs.Deeds.{Deed, Moved}
-use Rattle.machine_laws.specs.Disks.{DisksGoOn}
-use Rattle.machine_theorem.specs.FirstDeeds.{first_deeds, first_run, machine_at}
-use Rattle.machine_theorem.specs.Flushes.{IsFlushDone, OfSingles}
-use Rattle.machine_theorem.specs.FlushesFollow.{AreLeft, FlushesWrites, HasEnded, IsReachedStill, IsStoredAndFlushed, WasCompleted, WasWritten}
-use Rattle.machine_theorem.specs.FlushesFollow.WasCompleted.{Queued, Single}
-use Rattle.machine_theorem.specs.Flushing.{IsFlushed, is_flushing}
-use Rattle.machine_theorem.specs.Identity.{calls_of}
-use Rattle.machine_theorem.specs.InTurn.{IsUnanswered}
-use Rattle.machine_theorem.specs.Singles.{StartsWith}
-use Rattle.machine_theorem.proofs.FlushesOwn.{left_until, line_left, still_one}
-use Rattle.machine_theorem.proofs.TagCounts.{first_calls, one_call_more}
-use Rattle.machine_theorem.proofs.Transferring.{rest_calls}
+use Rattle.machine_laws.specs.{ControllerLaws.{RunsRuled, calls_in}, Deeds.{Deed, Moved}, Disks.DisksGoOn}
+use Rattle.machine_theorem.specs.{FirstDeeds.{first_deeds, first_run, machine_at}, Flushes.{IsFlushDone, OfSingles}, FlushesFollow.AreLeft}
+use Rattle.machine_theorem.specs.FlushesFollow.{FlushesWrites, HasEnded, IsReachedStill, IsStoredAndFlushed, WasCompleted, WasWritten}
+use Rattle.machine_theorem.specs.{FlushesFollow.WasCompleted.{Queued, Single}, Flushing.{IsFlushed, is_flushing}, Identity.calls_of}
+use Rattle.machine_theorem.specs.{InTurn.IsUnanswered, Singles.StartsWith}
+use Rattle.machine_theorem.proofs.{FlushesOwn.{left_until, line_left, still_one}, TagCounts.{first_calls, one_call_more}, Transferring.rest_calls}
 
 -- ---- what is known of a sector comes from a store that was answered
 

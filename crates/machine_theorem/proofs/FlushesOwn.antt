@@ -5,38 +5,19 @@ use Rattle.slots.specs.Slots.{Issue}
 use Rattle.ahci_controller.specs.States.{ControllerState}
 use Rattle.controller_laws.specs.Events.{Event, Runs}
 use Rattle.disk_pages.specs.declared.profile.Profile.{Profile}
-use Rattle.sata_disk.specs.Sending.{IsFis, IsOut}
-use Rattle.sata_disk.specs.State.{DiskState, new_disk}
-use Rattle.sata_disk.specs.declared.out.Out.{Out}
+use Rattle.sata_disk.specs.{Sending.{IsFis, IsOut}, State.{DiskState, new_disk}, declared.out.Out.Out}
 use Rattle.sata_disk.specs.declared.out.Out.TheVariants as out
-use Rattle.sata_disk_laws.specs.Calls.{AreCalls, Call, Hears, Sends, after_calls}
-use Rattle.sata_disk_laws.specs.Laws.{reached}
-use Rattle.sata_disk_laws.specs.Once.{host_of, new_host}
+use Rattle.sata_disk_laws.specs.{Calls.{AreCalls, Call, Hears, Sends, after_calls}, Laws.reached, Once.{host_of, new_host}}
 use Rattle.sata_disk_laws.proofs.Door.{calls_after, calls_both}
-use Rattle.ahci_machine.specs.States.{MachineState, bay_at}
+use Rattle.ahci_machine.specs.{States.{MachineState, bay_at}, declared.bay.Unit.TheVariants.Disk}
 use Rattle.ahci_machine.specs.declared.act.Act.TheVariants as act
-use Rattle.ahci_machine.specs.declared.bay.Unit.TheVariants.{Disk}
-use Rattle.machine_laws.specs.ControllerLaws.{RunsRuled}
-use Rattle.machine_laws.specs.Deeds.{Deed, Does, Moved}
-use Rattle.machine_laws.specs.Disks.{DisksGoOn, GoesOn, calls_at}
-use Rattle.machine_laws.specs.Rising.{risen}
-use Rattle.machine_theorem.specs.Completed.{CompletionsAreOfDevices}
-use Rattle.machine_theorem.specs.Flushes.{IsFlushDone, OfSingles}
-use Rattle.machine_theorem.specs.FlushesFollow.{AreLeft, DisksAreReachedStill, IsReachedStill}
-use Rattle.machine_theorem.specs.Flushing.{FlushesEndSo, HasFlushed, is_failure, is_flushing}
-use Rattle.machine_theorem.specs.Given.{IsWhole}
-use Rattle.machine_theorem.specs.Identity.{calls_of}
-use Rattle.machine_theorem.specs.InTurn.{AreKeptOn, CommandsGoInTurn, IsIdle, IsUnanswered, answered_in, is_answering}
-use Rattle.machine_theorem.specs.OwnSlots.{AllKeepLine}
-use Rattle.machine_theorem.specs.Singles.{IsDoneSingle, IsSlotsAnswer, SinglesAreOfSlotsIf}
-use Rattle.machine_theorem.proofs.Answered.{answered_both}
-use Rattle.machine_theorem.proofs.EndsFew.{disk_same}
-use Rattle.machine_theorem.proofs.ErrorNone.{IsErrorFis, failed_fis}
-use Rattle.machine_theorem.proofs.Fallen.{left_there}
-use Rattle.machine_theorem.proofs.OwnPlace.{head_or}
-use Rattle.machine_theorem.proofs.SinglesOwn.{kept_behind, kept_first, no_error}
-use Rattle.machine_theorem.proofs.Stretch.{whole_run}
-use Rattle.machine_theorem.proofs.TagCounts.{first_calls}
+use Rattle.machine_laws.specs.{ControllerLaws.RunsRuled, Deeds.{Deed, Does, Moved}, Disks.{DisksGoOn, GoesOn, calls_at}, Rising.risen}
+use Rattle.machine_theorem.specs.{Completed.CompletionsAreOfDevices, Flushes.{IsFlushDone, OfSingles}, FlushesFollow.{AreLeft, DisksAreReachedStill}}
+use Rattle.machine_theorem.specs.{FlushesFollow.IsReachedStill, Flushing.{FlushesEndSo, HasFlushed, is_failure, is_flushing}, Given.IsWhole}
+use Rattle.machine_theorem.specs.{Identity.calls_of, InTurn.{AreKeptOn, CommandsGoInTurn, IsIdle, IsUnanswered, answered_in, is_answering}}
+use Rattle.machine_theorem.specs.{OwnSlots.AllKeepLine, Singles.{IsDoneSingle, IsSlotsAnswer, SinglesAreOfSlotsIf}}
+use Rattle.machine_theorem.proofs.{Answered.answered_both, EndsFew.disk_same, ErrorNone.{IsErrorFis, failed_fis}, Fallen.left_there, OwnPlace.head_or}
+use Rattle.machine_theorem.proofs.{SinglesOwn.{kept_behind, kept_first, no_error}, Stretch.whole_run, TagCounts.first_calls}
 
 pub record Laws : Type 0 where
   pub completed : CompletionsAreOfDevices

@@ -1,66 +1,43 @@
 -- From a FLUSH CACHE on until it is answered a disk has its flush waiting, out or answered, or owes its error.
-use Rattle.std.proofs.Common.{◌≡◌, ◌⊎◌, ℕ, ◌+◌, ◌&&◌, Bool, true, false, not, List, [], ◌∷◌, ◌++◌, append_assoc, Option, Some, None, refl, sym, ap, subst, ◌∙◌, inl, inr, arith}
+use Rattle.std.proofs.Common.{◌≡◌, ◌⊎◌, ℕ, ◌+◌, ◌&&◌, Bool, true, false, not, List, [], ◌∷◌, ◌++◌, append_assoc, Option, Some, None, refl, sym, ap}
+use Rattle.std.proofs.{Common.{subst, ◌∙◌, inl, inr, arith}, lemmas.{Bool.{and_parts, eqb-true, false≢true}, List.{append-nil}}}
 use Rattle.std.specs.Prelude.{◌==◌, ◌/◌, ◌||◌, is_none, nat_lt, if◌then◌else◌, Result, Ok}
-use Rattle.std.proofs.lemmas.Bool.{and_parts, eqb-true, false≢true}
-use Rattle.std.proofs.lemmas.List.{append-nil}
-use Rattle.fis_view.specs.Seen.{seen}
-use Rattle.fis_view.specs.Table.{H2d, Command, field}
-use Rattle.fis_view.specs.declared.view.Fis.{Fis}
+use Rattle.fis_view.specs.{Seen.seen, Table.{H2d, Command, field}, declared.view.{Fis.Fis, FisFault.FisFault}}
 use Rattle.fis_view.specs.declared.view.Fis.TheVariants as view
-use Rattle.fis_view.specs.declared.view.FisFault.{FisFault}
-use Rattle.block_engine.specs.Aside.{asks_for, is_over, is_waiting, settled}
-use Rattle.block_engine.specs.Engine.{EngineState, IsAskedOf, aside_due, aside_what, beside_answered, done_at, failed_by, line, loaded_at, may_ask, place_of}
-use Rattle.block_engine.specs.declared.aside.AsideKind.{AsideKind}
+use Rattle.block_engine.specs.{Aside.{asks_for, is_over, is_waiting, settled}, Engine.{EngineState, IsAskedOf, aside_due, aside_what}}
+use Rattle.block_engine.specs.{Engine.{beside_answered, done_at, failed_by, line, loaded_at, may_ask, place_of}, declared.aside.AsideKind.AsideKind}
+use Rattle.block_engine.specs.declared.{aside.AsideStage.AsideStage, request.{Answer.Answer, Failure.Failure, Request.Request}}
 use Rattle.block_engine.specs.declared.aside.AsideKind.TheVariants as kinds
-use Rattle.block_engine.specs.declared.aside.AsideStage.{AsideStage}
 use Rattle.block_engine.specs.declared.aside.AsideStage.TheVariants as stages
-use Rattle.block_engine.specs.declared.request.Answer.{Answer}
 use Rattle.block_engine.specs.declared.request.Answer.TheVariants as caller
-use Rattle.block_engine.specs.declared.request.Failure.{Failure}
-use Rattle.block_engine.specs.declared.request.Request.{Request}
 use Rattle.block_engine.specs.declared.request.What.TheVariants as what
-use Rattle.ata_command.specs.Asks.{asked, asked_by}
-use Rattle.ata_command.specs.Courses.{course, is_error_log, resets, stands_beside}
-use Rattle.ata_command.specs.Opcodes.{opcode_of}
-use Rattle.ata_command.specs.declared.asked.Asked.{Asked}
+use Rattle.ata_command.specs.{Asks.{asked, asked_by}, Courses.{course, is_error_log, resets, stands_beside}, Opcodes.opcode_of}
+use Rattle.ata_command.specs.declared.{asked.{Asked.Asked, Move.Move}, control.Course.{Course, TheVariants.{Drop, Refuse, AbortAll, Take}}}
+use Rattle.ata_command.specs.declared.{control.Standing.Standing, opcode.Opcode.Opcode}
 use Rattle.ata_command.specs.declared.asked.Asked.TheVariants as ask
-use Rattle.ata_command.specs.declared.asked.Move.{Move}
-use Rattle.ata_command.specs.declared.control.Course.{Course}
-use Rattle.ata_command.specs.declared.control.Course.TheVariants.{Drop, Refuse, AbortAll, Take}
-use Rattle.ata_command.specs.declared.control.Standing.{Standing}
 use Rattle.ata_command.specs.declared.control.Standing.TheVariants as stand
-use Rattle.ata_command.specs.declared.opcode.Opcode.{Opcode}
 use Rattle.ata_command.specs.declared.opcode.Opcode.TheVariants as code
-use Rattle.ata_front.specs.Fronts.{commanded_by, controlled, heard_data, over, owed, standing}
-use Rattle.ata_front.specs.declared.front.Front.{Front}
-use Rattle.ata_front.specs.declared.task.Owed.TheVariants as owe
-use Rattle.ata_front.specs.declared.task.Task.{Task}
-use Rattle.ata_front.specs.declared.task.Task.TheVariants as tasks
+use Rattle.ata_front.specs.{Fronts.{commanded_by, controlled, heard_data, over, owed, standing}, declared.{front.Front.Front, task.Task.Task}}
 use Rattle.ata_front.specs.declared.task.Trouble.{Trouble}
+use Rattle.ata_front.specs.declared.task.Owed.TheVariants as owe
+use Rattle.ata_front.specs.declared.task.Task.TheVariants as tasks
 use Rattle.ata_reply.specs.declared.reply.Reply.{Reply}
 use Rattle.ata_reply.specs.declared.reply.Reply.TheVariants as replies
-use Rattle.disk_pages.specs.Profiles.{facts_of}
-use Rattle.disk_pages.specs.declared.profile.Profile.{Profile}
-use Rattle.sata_disk.specs.Hearing.{acted, asked_of, command_told, command_unheard, data_by, fis_heard, is_command, register_heard, register_unheard, with_logs}
-use Rattle.sata_disk.specs.Sending.{IsFis, IsOut, after_sent, front_sent, is_done, single_front, trouble_at}
-use Rattle.sata_disk.specs.State.{DiskState, commands, new_disk, tags_of}
-use Rattle.sata_disk.specs.declared.out.Out.{Out}
+use Rattle.disk_pages.specs.{Profiles.facts_of, declared.profile.Profile.Profile}
+use Rattle.sata_disk.specs.Hearing.{acted, asked_of, command_told, command_unheard, data_by, fis_heard, is_command, register_heard, register_unheard}
+use Rattle.sata_disk.specs.{Hearing.with_logs, Sending.{IsFis, IsOut, after_sent, front_sent, is_done, single_front, trouble_at}, State.DiskState}
+use Rattle.sata_disk.specs.{State.{commands, new_disk, tags_of}, declared.{out.Out.Out, unheard.Unheard.TheVariants.{Busy, InReset}}}
 use Rattle.sata_disk.specs.declared.out.Out.TheVariants as out
-use Rattle.sata_disk.specs.declared.unheard.Unheard.TheVariants.{Busy, InReset}
-use Rattle.sata_disk_books.specs.Books.{page_in}
-use Rattle.sata_disk_books.specs.Ended.{SinglesAreOfPages}
-use Rattle.sata_disk_laws.specs.Calls.{Answers, AreCalls, Asks, Call, Hears, IsCall, Plugs, Sends, Starts, after_call, after_calls, asked_by as engine_asked}
-use Rattle.sata_disk_laws.specs.Laws.{reached}
-use Rattle.sata_disk_laws.specs.Once.{AnswersAreSingle, Host, IsOutDue, OpenIsUnderWay, Wait, host_of, new_host, unheard_of, waits_for_nothing}
+use Rattle.sata_disk_books.specs.{Books.page_in, Ended.SinglesAreOfPages}
+use Rattle.sata_disk_laws.specs.Calls.{Answers, AreCalls, Asks, Call, Hears, IsCall, Plugs, Sends, Starts, after_call, after_calls}
+use Rattle.sata_disk_laws.specs.{Calls.asked_by as engine_asked, Laws.reached, Once.{AnswersAreSingle, Host, IsOutDue, OpenIsUnderWay, Wait, host_of}}
+use Rattle.sata_disk_laws.specs.Once.{new_host, unheard_of, waits_for_nothing}
 use Rattle.sata_disk_laws.proofs.Door.{calls_after, calls_both}
-use Rattle.machine_theorem.specs.Flushing.{FlushesEndSo, HasFlushed, IsFlushed, flushes, is_failure, is_flush, is_flushing}
-use Rattle.machine_theorem.specs.InTurn.{AreKeptOn, CommandsGoInTurn, IsIdle, IsInTurn, IsKeptOn, answered_in, answers_one, commands as asks_one, heard_in, hears_one, is_answer, is_asking, is_register, sets_reset}
-use Rattle.machine_theorem.specs.Tags.{once_if}
-use Rattle.machine_theorem.specs.Transfers.{fails_by}
-use Rattle.machine_theorem.proofs.Answered.{heard_both}
-use Rattle.machine_theorem.proofs.SinglesOwn.{Earns, earns}
-use Rattle.machine_theorem.proofs.TagCounts.{due_at, first_calls}
-use Rattle.machine_theorem.proofs.Transferring.{one_then, rest_calls}
+use Rattle.machine_theorem.specs.{Flushing.{FlushesEndSo, HasFlushed, IsFlushed, flushes, is_failure, is_flush, is_flushing}, InTurn.AreKeptOn}
+use Rattle.machine_theorem.specs.InTurn.{CommandsGoInTurn, IsIdle, IsInTurn, IsKeptOn, answered_in, answers_one, commands as asks_one, heard_in}
+use Rattle.machine_theorem.specs.{InTurn.{hears_one, is_answer, is_asking, is_register, sets_reset}, Tags.once_if, Transfers.fails_by}
+use Rattle.machine_theorem.proofs.{Answered.heard_both, SinglesOwn.{Earns, earns}, TagCounts.{due_at, first_calls}, Transferring.one_then}
+use Rattle.machine_theorem.proofs.Transferring.{rest_calls}
 
 pub record Laws : Type 0 where
   pub single : AnswersAreSingle

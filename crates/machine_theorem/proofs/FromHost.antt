@@ -1,36 +1,24 @@
 -- The command of each page is one that the host asked for by a FIS of a slot.
-use Rattle.std.proofs.Common.{◌≡◌, ℕ, ◌+◌, ◌*◌, ◌/◌, ◌%◌, ◌<◌, ◌≤◌, Bool, true, false, List, [], ◌∷◌, ◌++◌, length, Result, Ok, Err, refl, sym, ap, ◌∙◌, subst, arith}
+use Rattle.std.proofs.Common.{◌≡◌, ℕ, ◌+◌, ◌*◌, ◌/◌, ◌%◌, ◌<◌, ◌≤◌, Bool, true, false, List, [], ◌∷◌, ◌++◌, length, Result, Ok, Err, refl, sym, ap}
+use Rattle.std.proofs.{Common.{◌∙◌, subst, arith}, lemmas.{Bool.{eqb-true}, List.{length-set}}}
 use Rattle.std.specs.Prelude.{if◌then◌else◌, slice_index}
-use Rattle.std.proofs.lemmas.Bool.{eqb-true}
-use Rattle.std.proofs.lemmas.List.{length-set}
-use Rattle.fis_view.specs.Frames.{Stamped, marked}
-use Rattle.fis_view.specs.Seen.{frame_of, kind_of, may_have, seen, view_as}
-use Rattle.fis_view.specs.Table.{H2d, Count, Kind, PmPort, field}
-use Rattle.fis_view.specs.declared.view.Fis.{Fis}
+use Rattle.fis_view.specs.{Frames.{Stamped, marked}, Seen.{frame_of, kind_of, may_have, seen, view_as}, Table.{H2d, Count, Kind, PmPort, field}}
+use Rattle.fis_view.specs.declared.view.{Fis.Fis, FisFault.{FisFault, TheVariants.WrongLength}}
 use Rattle.fis_view.specs.declared.view.Fis.TheVariants as view
-use Rattle.fis_view.specs.declared.view.FisFault.{FisFault}
-use Rattle.fis_view.specs.declared.view.FisFault.TheVariants.{WrongLength}
 use Rattle.fis_view.proofs.Door.{is_marked_from}
 use Rattle.multiplier.specs.State.{pm_port}
 use Rattle.block_command.specs.declared.command.Command.{Command}
-use Rattle.controller_laws.specs.Events.{Event}
-use Rattle.controller_laws.specs.Sources.{no_sources}
+use Rattle.controller_laws.specs.{Events.Event, Sources.no_sources}
 use Rattle.disk_pages.specs.declared.profile.Profile.{Profile}
-use Rattle.sata_disk_books.specs.Books.{CommandsAreAsked, IsAskedFor}
-use Rattle.sata_disk_books.specs.Ended.{PlacesAreTags}
-use Rattle.sata_disk_laws.specs.Calls.{Call, Hears}
+use Rattle.sata_disk_books.specs.{Books.{CommandsAreAsked, IsAskedFor}, Ended.PlacesAreTags}
+use Rattle.sata_disk_laws.specs.{Calls.{Call, Hears}, Laws.reached}
 use Rattle.sata_disk_laws.specs.Calls as disk_call
-use Rattle.sata_disk_laws.specs.Laws.{reached}
 use Rattle.ahci_machine.specs.States.{HasRules, IsOpeningMachine, MachineState}
-use Rattle.machine_laws.specs.ControllerLaws.{OpensLawful, OpensSo, RunsRuled, calls_in}
-use Rattle.machine_laws.specs.Deeds.{Deed}
-use Rattle.machine_laws.specs.Feeding.{OpensUnread}
-use Rattle.machine_laws.specs.Heard.{AllHeard, DisksHaveLived, FellFrom, HeardWereSent, IsSentOut, life_in, no_life}
-use Rattle.machine_laws.specs.Rising.{is_multiplier}
+use Rattle.machine_laws.specs.{ControllerLaws.{OpensLawful, OpensSo, RunsRuled, calls_in}, Deeds.Deed, Feeding.OpensUnread, Heard.AllHeard}
+use Rattle.machine_laws.specs.{Heard.{DisksHaveLived, FellFrom, HeardWereSent, IsSentOut, life_in, no_life}, Rising.is_multiplier}
 use Rattle.machine_theorem.specs.Commands.{CommandsAreOfSlots, CommandsOfNewDisks, IsFromHost, IsOfSlot, Before, Since}
 use Rattle.machine_theorem.proofs.Ordered as ordered
-use Rattle.machine_theorem.proofs.Ordered.{IsOrder, last_kept, low_slot}
-use Rattle.machine_theorem.proofs.Sent.{marked_type, seen_data}
+use Rattle.machine_theorem.proofs.{Ordered.{IsOrder, last_kept, low_slot}, Sent.{marked_type, seen_data}}
 use Rattle.machine_theorem.proofs.Still as still
 
 -- ---- where a call of a joined list stands

@@ -1,44 +1,30 @@
 -- The command under a tag is the one that was supplied for the slot of this number, and the Data of it are its.
-use Rattle.std.proofs.Common.{◌≡◌, ℕ, ◌+◌, ◌<◌, ◌≤◌, Bool, true, false, List, [], ◌∷◌, ◌++◌, drop, length, Option, Some, None, refl, sym, ap, subst, ◌∙◌, arith, All}
+use Rattle.std.proofs.Common.{◌≡◌, ℕ, ◌+◌, ◌<◌, ◌≤◌, Bool, true, false, List, [], ◌∷◌, ◌++◌, drop, length, Option, Some, None, refl, sym, ap, subst}
+use Rattle.std.proofs.{Common.{◌∙◌, arith, All}, lemmas.{Bool.{false≢true, lt-ltb, eq-eqb}, List.Elements.{All-cons, All-head, All-nil, All-tail}}}
 use Rattle.std.specs.Prelude.{nat_lt, if◌then◌else◌}
-use Rattle.std.proofs.lemmas.Bool.{false≢true, lt-ltb, eq-eqb}
-use Rattle.std.proofs.lemmas.List.Elements.{All-cons, All-head, All-nil, All-tail}
 use Rattle.fis_view.specs.Frames.{Stamped}
 use Rattle.slots.specs.Slots.{holds, issue_at}
 use Rattle.block_command.specs.Moments.{Moment}
-use Rattle.block_disk.specs.Laws.{Page}
-use Rattle.block_disk.specs.Table.{is_under_way}
+use Rattle.block_disk.specs.{Laws.Page, Table.is_under_way}
 use Rattle.block_queue.specs.Line.{command_at}
 use Rattle.hba_laws.proofs.Door.{held}
 use Rattle.disk_pages.specs.declared.profile.Profile.{Profile}
-use Rattle.sata_disk.specs.Sending.{IsOut, part_at}
-use Rattle.sata_disk.specs.State.{DiskState, commands, new_disk, is_taken}
-use Rattle.sata_disk.specs.declared.out.Out.{Out}
+use Rattle.sata_disk.specs.{Sending.{IsOut, part_at}, State.{DiskState, commands, new_disk, is_taken}, declared.out.Out.Out}
 use Rattle.sata_disk.specs.declared.out.Out.TheVariants as out
 use Rattle.sata_disk_books.specs.Books as books
 use Rattle.sata_disk_books.specs.Books.{AreNext, AreOfPage, page_in}
-use Rattle.sata_disk_laws.specs.Calls.{AreCalls, Call, Sends}
-use Rattle.sata_disk_laws.specs.Laws.{reached}
-use Rattle.sata_disk_laws.specs.Once.{Host, IsDataAt, IsOutDue, IsQueued, host_of, new_host}
+use Rattle.sata_disk_laws.specs.{Calls.{AreCalls, Call, Sends}, Laws.reached, Once.{Host, IsDataAt, IsOutDue, IsQueued, host_of, new_host}}
 use Rattle.sata_disk_laws.proofs.Door.{calls_both}
-use Rattle.ahci_machine.specs.States.{MachineState, bay_at}
+use Rattle.ahci_machine.specs.{States.{MachineState, bay_at}, declared.bay.Unit.TheVariants.Disk}
 use Rattle.ahci_machine.specs.declared.act.Act.TheVariants as act
-use Rattle.ahci_machine.specs.declared.bay.Unit.TheVariants.{Disk}
-use Rattle.machine_laws.specs.Deeds.{Does, Moved}
-use Rattle.machine_laws.specs.Rising.{CarriesPart, DataCarryParts, sent_by}
-use Rattle.machine_theorem.specs.Given.{CommandsAreGiven, DataAreGiven, IsGiven, IsGivenData, IsWhole}
-use Rattle.machine_theorem.specs.Orders.{is_sent_of}
-use Rattle.machine_theorem.specs.Tags.{ended_with, heard_with, once_if}
-use Rattle.machine_theorem.proofs.AtOrder.{AtOrder, LastOrder, at_order, last_order}
-use Rattle.machine_theorem.proofs.AtEnd.{IsThere, is_there}
-use Rattle.machine_theorem.proofs.EndsFew.{disk_same}
-use Rattle.machine_theorem.proofs.AsSupplied.{Laws, supplied_at}
-use Rattle.machine_theorem.proofs.Stretch.{Stretch, asked, calls, counts, falls, has_disk, orders, own, stands, was_free, whole_run}
-use Rattle.machine_theorem.proofs.TagCounts as counts
-use Rattle.machine_theorem.proofs.TagCounts.{Counted, Since, all_heard, counted, due_at, under_way_held}
-use Rattle.machine_theorem.proofs.TagKept.{held_at}
+use Rattle.machine_laws.specs.{Deeds.{Does, Moved}, Rising.{CarriesPart, DataCarryParts, sent_by}, Disks.calls_at}
+use Rattle.machine_theorem.specs.{Given.{CommandsAreGiven, DataAreGiven, IsGiven, IsGivenData, IsWhole}, Orders.is_sent_of, Tags.ended_with}
+use Rattle.machine_theorem.specs.Tags.{heard_with, once_if}
+use Rattle.machine_theorem.proofs.{AtOrder.{AtOrder, LastOrder, at_order, last_order}, AtEnd.{IsThere, is_there}, EndsFew.disk_same, AsSupplied.Laws}
+use Rattle.machine_theorem.proofs.{AsSupplied.supplied_at, Stretch.{Stretch, asked, calls, counts, falls, has_disk, orders, own, stands, was_free}}
+use Rattle.machine_theorem.proofs.{Stretch.whole_run, TagCounts.{Counted, Since, all_heard, counted, due_at, under_way_held}, TagKept.held_at}
 use Rattle.machine_theorem.proofs.TagPages.{page_same}
-use Rattle.machine_laws.specs.Disks.{calls_at}
+use Rattle.machine_theorem.proofs.TagCounts as counts
 
 -- ---- the command
 

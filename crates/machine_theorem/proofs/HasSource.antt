@@ -2,15 +2,11 @@
 use Rattle.std.proofs.Common.{◌≡◌, ℕ, ◌<◌, Bool, true, false, List, [], ◌∷◌, Some, refl, sym, ◌∙◌, subst}
 use Rattle.slots.specs.Slots.{Issue, issue_at}
 use Rattle.ahci_controller.specs.States.{ControllerState}
-use Rattle.controller_laws.specs.CoreEvents.{AreCoreEvents, of_event}
-use Rattle.controller_laws.specs.Events.{Does as Calls, Event, IsController, Runs}
-use Rattle.controller_laws.specs.Sources.{Sources, sources_after, sources_by}
+use Rattle.controller_laws.specs.{CoreEvents.{AreCoreEvents, of_event}, Events.{Does as Calls, Event, IsController, Runs}, Sources.Sources}
+use Rattle.controller_laws.specs.Sources.{sources_after, sources_by}
 use Rattle.machine_theorem.specs.Commands.{issues_in}
-use Rattle.machine_theorem.proofs.CoreStems.{call_stems}
+use Rattle.machine_theorem.proofs.{CoreStems.call_stems, Falls.core_events, Still.one_kept, Stood.{HasIssued, event_has}}
 use Rattle.machine_theorem.proofs.Falls as falls
-use Rattle.machine_theorem.proofs.Falls.{core_events}
-use Rattle.machine_theorem.proofs.Still.{one_kept}
-use Rattle.machine_theorem.proofs.Stood.{HasIssued, event_has}
 
 abbrev pub HasSource : ℕ → ControllerState → Sources → Type 0
 HasSource s c was = (i : Issue) → issue_at c.core.slots s ≡ Some i → HasIssued was

@@ -6,28 +6,16 @@ use Rattle.block_command.specs.declared.command.Command.{Command}
 use Rattle.block_queue.specs.Line.{command_at}
 use Rattle.sata_disk.specs.State.{DiskState, commands, is_taken, new_disk}
 use Rattle.sata_disk.specs.declared.out.Out.TheVariants as out
-use Rattle.sata_disk_laws.specs.Calls.{AreCalls, Call, Hears, Sends}
-use Rattle.sata_disk_laws.specs.Laws.{reached}
-use Rattle.sata_disk_media.specs.Cells.{covers}
-use Rattle.sata_disk_media.specs.Laws.{AreSparing, IsBehindWrite, IsTakenAt, UndisturbedIsSpared}
-use Rattle.sata_disk_media.specs.Media.{IsHonest}
+use Rattle.sata_disk_laws.specs.{Calls.{AreCalls, Call, Hears, Sends}, Laws.reached}
+use Rattle.sata_disk_media.specs.{Cells.covers, Laws.{AreSparing, IsBehindWrite, IsTakenAt, UndisturbedIsSpared}, Media.IsHonest}
 use Rattle.ahci_machine.specs.States.{MachineState}
-use Rattle.machine_laws.specs.ControllerLaws.{RunsRuled}
-use Rattle.machine_laws.specs.Deeds.{Deed}
-use Rattle.machine_laws.specs.Falling.{AllLast, HasLink}
-use Rattle.machine_theorem.specs.Completions.{IsDone}
-use Rattle.machine_theorem.specs.FirstDeeds.{first_deeds, first_run, machine_at}
-use Rattle.machine_theorem.specs.Identity.{AllKeep, IsAtRest, calls_of, own_of}
-use Rattle.machine_theorem.specs.ReadBack.{IsUntouched}
-use Rattle.machine_theorem.specs.Tags.{ended_with, heard_with, once_if}
-use Rattle.machine_theorem.proofs.EndsFew.{disk_same}
-use Rattle.machine_theorem.proofs.FirstDeeds.{Fell, calls_to, falls_to, keeps_to, lasts_to, linked_to, orders_to}
-use Rattle.machine_theorem.proofs.HeardBehind.{heard_behind, honest_first, spared, taken_at}
-use Rattle.machine_theorem.proofs.Stretch.{Fall, Stretch, calls, counts, falls, has_disk, was_free}
-use Rattle.machine_theorem.proofs.TagCounts.{Counted, Since, counted, held_of_taken, one_call_more}
-use Rattle.machine_theorem.proofs.TagKept.{held_at}
-use Rattle.machine_theorem.proofs.TheirSlots.{EndsIn}
-use Rattle.machine_theorem.proofs.TheSlots.{Laws}
+use Rattle.machine_laws.specs.{ControllerLaws.RunsRuled, Deeds.Deed, Falling.{AllLast, HasLink}}
+use Rattle.machine_theorem.specs.{Completions.IsDone, FirstDeeds.{first_deeds, first_run, machine_at}, Identity.{AllKeep, IsAtRest, calls_of, own_of}}
+use Rattle.machine_theorem.specs.{ReadBack.IsUntouched, Tags.{ended_with, heard_with, once_if}}
+use Rattle.machine_theorem.proofs.{EndsFew.disk_same, FirstDeeds.{Fell, calls_to, falls_to, keeps_to, lasts_to, linked_to, orders_to}}
+use Rattle.machine_theorem.proofs.{HeardBehind.{heard_behind, honest_first, spared, taken_at}, Stretch.{Fall, Stretch, calls, counts, falls}}
+use Rattle.machine_theorem.proofs.{Stretch.{has_disk, was_free}, TagCounts.{Counted, Since, counted, held_of_taken, one_call_more}, TagKept.held_at}
+use Rattle.machine_theorem.proofs.{TheirSlots.EndsIn, TheSlots.Laws}
 
 -- ---- stretches
 

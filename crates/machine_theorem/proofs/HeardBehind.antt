@@ -1,26 +1,19 @@
 -- The calls of a disk: what is heard behind a call, the command that is taken by it, and a medium that is honest over the first of them.
 use Rattle.std.proofs.Common.{◌≡◌, ℕ, ◌+◌, ◌<◌, ◌≤◌, true, false, List, [], ◌∷◌, ◌++◌, append_assoc, refl, sym, ap, subst, ◌∙◌, inl, inr, arith}
-use Rattle.std.specs.Prelude.{Bool, Ok, nat_lt}
 use Rattle.std.proofs.lemmas.Bool.{lt-ltb}
+use Rattle.std.specs.Prelude.{Bool, Ok, nat_lt}
 use Rattle.fis_view.specs.Seen.{seen}
 use Rattle.fis_view.specs.declared.view.Fis.TheVariants as view
-use Rattle.block_command.specs.declared.command.Command.{Command}
-use Rattle.block_command.specs.declared.command.Protocol.{Protocol}
+use Rattle.block_command.specs.{declared.command.{Command.Command, Protocol.Protocol}, Moments.{is_queued, is_verify}}
 use Rattle.block_command.specs.declared.command.Protocol.TheVariants as protocol
-use Rattle.block_command.specs.Moments.{is_queued, is_verify}
 use Rattle.block_engine.specs.Laws as engine
 use Rattle.ata_front.specs.declared.task.Act.{Act}
 use Rattle.ata_front.specs.declared.task.Act.TheVariants as act
 use Rattle.disk_pages.specs.declared.profile.Profile.{Profile}
-use Rattle.sata_disk.specs.Hearing.{MayAct, MayHear, register_told}
-use Rattle.sata_disk.specs.State.{DiskState, commands, is_taken, new_disk}
-use Rattle.sata_disk.specs.declared.out.Out.{Out}
-use Rattle.sata_disk_laws.specs.Calls.{AreCalls, Call, Hears, Sends, act_steps, after_call, after_calls, fis_steps, steps_of}
-use Rattle.sata_disk_laws.specs.Laws.{reached}
-use Rattle.sata_disk_media.specs.Laws.{AreSparing, IsTakenAt, UndisturbedIsSpared}
-use Rattle.sata_disk_media.specs.Media.{IsHonest}
-use Rattle.machine_theorem.specs.ReadBack.{IsUntouched}
-use Rattle.machine_theorem.specs.Tags.{ended_with, heard_with, hears_with}
+use Rattle.sata_disk.specs.{Hearing.{MayAct, MayHear, register_told}, State.{DiskState, commands, is_taken, new_disk}, declared.out.Out.Out}
+use Rattle.sata_disk_laws.specs.{Calls.{AreCalls, Call, Hears, Sends, act_steps, after_call, after_calls, fis_steps, steps_of}, Laws.reached}
+use Rattle.sata_disk_media.specs.{Laws.{AreSparing, IsTakenAt, UndisturbedIsSpared}, Media.IsHonest}
+use Rattle.machine_theorem.specs.{ReadBack.IsUntouched, Tags.{ended_with, heard_with, hears_with}}
 use Rattle.machine_theorem.proofs.TagCounts.{Laws, Since, all_heard, counted, ended_both, first_calls, held_of_taken}
 
 -- ---- where it is heard

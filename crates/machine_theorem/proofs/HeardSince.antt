@@ -1,38 +1,25 @@
 -- A command that is under way at a place of a disk that was free behind some calls was heard behind them; and a FIS that goes for the command of a place goes
 -- while this is under way.
 use Rattle.std.proofs.Common.{◌≡◌, ℕ, ◌+◌, true, false, List, [], ◌∷◌, ◌++◌, Option, Some, None, refl, sym, ap, ◌∙◌, inl, inr, arith}
-use Rattle.std.specs.Prelude.{Bool, not, nat_le, nat_lt}
-use Rattle.std.specs.Option.{option_map}
 use Rattle.std.proofs.lemmas.Bool.{and_parts, false≢true, leb-true, ltb-true}
+use Rattle.std.specs.{Prelude.{Bool, not, nat_le, nat_lt}, Option.option_map}
 use Rattle.fis_view.specs.Seen.{seen}
 use Rattle.ata_reply.specs.declared.reply.Reply.{Reply}
-use Rattle.block_command.specs.declared.command.Command.{Command}
-use Rattle.block_command.specs.declared.command.Stage.{Stage}
+use Rattle.block_command.specs.{declared.command.{Command.Command, Stage.Stage}, Laws.ReadIsEarned, Moments.{Moment, is_ended}}
 use Rattle.block_command.specs.declared.command.Stage.TheVariants as stage
-use Rattle.block_command.specs.Laws.{ReadIsEarned}
-use Rattle.block_command.specs.Moments.{Moment, is_ended}
 use Rattle.block_command.proofs.Door.{at}
-use Rattle.block_disk.specs.Laws.{Page}
-use Rattle.block_disk.specs.Table.{is_under_way}
+use Rattle.block_disk.specs.{Laws.Page, Table.is_under_way}
 use Rattle.block_queue.specs.Line.{command_at}
 use Rattle.ata_reply.specs.declared.reply.Reply.TheVariants as replies
 use Rattle.disk_pages.specs.declared.profile.Profile.{Profile}
-use Rattle.sata_disk.specs.Sending.{IsOut, out_at, reply_at}
-use Rattle.sata_disk.specs.State.{DiskState, commands, is_taken, new_disk}
-use Rattle.sata_disk.specs.declared.out.Out.{Out}
+use Rattle.sata_disk.specs.{Sending.{IsOut, out_at, reply_at}, State.{DiskState, commands, is_taken, new_disk}, declared.out.Out.Out}
 use Rattle.sata_disk.specs.declared.out.Out.TheVariants as out
-use Rattle.sata_disk_laws.specs.Awaited.{OutsAreUnderWay}
-use Rattle.sata_disk_laws.specs.Calls.{AreCalls, Call, Hears, Sends, after_call, after_calls, steps_of}
-use Rattle.sata_disk_laws.specs.Laws.{reached}
+use Rattle.sata_disk_laws.specs.{Awaited.OutsAreUnderWay, Calls.{AreCalls, Call, Hears, Sends, after_call, after_calls, steps_of}, Laws.reached}
 use Rattle.sata_disk_laws.proofs.Door.{calls_both}
-use Rattle.sata_disk_media.specs.Cells.{covers}
-use Rattle.sata_disk_media.specs.Laws.{EndsWell, HasGiven, IsTakenAt}
-use Rattle.machine_theorem.proofs.HeardBehind.{takes_of}
-use Rattle.machine_theorem.proofs.TagAsked.{Outcome, outcome}
-use Rattle.machine_theorem.proofs.TagAsked.Outcome.{Nothing, Taken}
+use Rattle.sata_disk_media.specs.{Cells.covers, Laws.{EndsWell, HasGiven, IsTakenAt}}
+use Rattle.machine_theorem.proofs.{HeardBehind.takes_of, TagAsked.{Outcome, outcome, Outcome.{Nothing, Taken}}, TagCounts.{ends_it, held_of_taken}}
+use Rattle.machine_theorem.proofs.{TagCounts.none_held, TagKept.{StepNone, call_held, call_takes, others_none}}
 use Rattle.machine_theorem.proofs.TagCounts as counts
-use Rattle.machine_theorem.proofs.TagCounts.{ends_it, held_of_taken, none_held}
-use Rattle.machine_theorem.proofs.TagKept.{StepNone, call_held, call_takes, others_none}
 
 -- ---- one call
 

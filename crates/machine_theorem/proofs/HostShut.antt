@@ -1,29 +1,19 @@
 -- Where a host sends a disk queued commands alone, none that is not queued is open there; so all Data that the disk sends are of queued ones.
-use Rattle.std.proofs.Common.{◌≡◌, ℕ, ◌/◌, ◌&&◌, ◌||◌, Bool, true, false, not, List, [], ◌∷◌, ◌++◌, map, Option, Some, None, Ok, Err, refl, sym, ap, ◌∙◌}
-use Rattle.std.proofs.Common.{arith, inl, inr}
-use Rattle.std.specs.Prelude.{◌==◌, ◌%◌, if◌then◌else◌, Result}
-use Rattle.std.specs.List.{flat_map}
-use Rattle.std.proofs.lemmas.Bool.{eqb-true, false≢true}
-use Rattle.fis_view.specs.Frames.{Stamped}
-use Rattle.fis_view.specs.Seen.{seen}
-use Rattle.fis_view.specs.Table.{H2d, Command, Count, field}
-use Rattle.fis_view.specs.declared.view.Fis.{Fis}
+use Rattle.std.proofs.Common.{◌≡◌, ℕ, ◌/◌, ◌&&◌, ◌||◌, Bool, true, false, not, List, [], ◌∷◌, ◌++◌, map, Option, Some, None, Ok, Err, refl, sym, ap}
+use Rattle.std.proofs.{Common.{◌∙◌, arith, inl, inr}, lemmas.Bool.{eqb-true, false≢true}}
+use Rattle.std.specs.{Prelude.{◌==◌, ◌%◌, if◌then◌else◌, Result}, List.flat_map}
+use Rattle.fis_view.specs.{Frames.Stamped, Seen.seen, Table.{H2d, Command, Count, field}, declared.view.{Fis.Fis, FisFault.FisFault}}
 use Rattle.fis_view.specs.declared.view.Fis.TheVariants as view
-use Rattle.fis_view.specs.declared.view.FisFault.{FisFault}
 use Rattle.ata_command.specs.Courses.{resets}
 use Rattle.ata_reply.specs.declared.reply.Reply.{Reply}
 use Rattle.ata_reply.specs.declared.reply.Reply.TheVariants as replies
-use Rattle.sata_disk.specs.Hearing.{is_command}
-use Rattle.sata_disk.specs.declared.out.Out.{Out}
+use Rattle.sata_disk.specs.{Hearing.is_command, declared.{out.Out.Out, unheard.Unheard.Unheard}}
 use Rattle.sata_disk.specs.declared.out.Out.TheVariants as out
-use Rattle.sata_disk.specs.declared.unheard.Unheard.{Unheard}
-use Rattle.sata_disk_laws.specs.Calls.{Call, Plugs, Hears, Starts, Asks, Answers, Sends}
-use Rattle.sata_disk_laws.specs.Once.{ForLast, ForSignature, Host, Wait, announced, command_given, control_given, data_got_by, fis_given, host_after}
-use Rattle.sata_disk_laws.specs.Once.{host_of, is_queued_code, none_open, out_got, place_in, reply_got, unheard_of}
+use Rattle.sata_disk_laws.specs.{Calls.{Call, Plugs, Hears, Starts, Asks, Answers, Sends}, Once.{ForLast, ForSignature, Host, Wait, announced}}
+use Rattle.sata_disk_laws.specs.Once.{command_given, control_given, data_got_by, fis_given, host_after, host_of, is_queued_code, none_open, out_got}
+use Rattle.sata_disk_laws.specs.Once.{place_in, reply_got, unheard_of}
 use Rattle.machine_laws.specs.Falling.{heard_by}
-use Rattle.machine_theorem.specs.Identity.{heard_as, is_for, picks}
-use Rattle.machine_theorem.specs.QueuedOnly.{NoneSingle, asks_single}
-use Rattle.machine_theorem.specs.Crossing.{Within}
+use Rattle.machine_theorem.specs.{Identity.{heard_as, is_for, picks}, QueuedOnly.{NoneSingle, asks_single}, Crossing.Within}
 
 -- no command is open that is not queued
 abbrev pub IsShut : Host → Type 0

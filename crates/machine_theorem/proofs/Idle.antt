@@ -1,49 +1,28 @@
 -- While the port is stopped nothing is issued in a slot; so while a command stands there the port runs.
-use Rattle.std.proofs.Common.{◌≡◌, ℕ, ◌<◌, ◌^◌, ◌&&◌, ◌||◌, Bool, true, false, not, List, [], ◌∷◌, refl, sym, ap, subst, ◌∙◌, arith}
-use Rattle.std.proofs.Common.{Option, Some, None}
+use Rattle.std.proofs.Common.{◌≡◌, ℕ, ◌<◌, ◌^◌, ◌&&◌, ◌||◌, Bool, true, false, not, List, [], ◌∷◌, refl, sym, ap, subst, ◌∙◌, arith, Option, Some}
+use Rattle.std.proofs.{Common.None, lemmas.{Bool.{false≢true, true≢false}, List.{get_or-replicate}}}
 use Rattle.std.specs.Prelude.{MatchOption, if◌then◌else◌}
-use Rattle.std.proofs.lemmas.Bool.{false≢true, true≢false}
-use Rattle.std.proofs.lemmas.List.{get_or-replicate}
-use Rattle.fis_view.specs.Seen.{seen}
-use Rattle.fis_view.specs.declared.view.Fis.{Fis}
+use Rattle.fis_view.specs.{Seen.seen, declared.view.Fis.Fis}
 use Rattle.fis_view.specs.declared.view.Fis.TheVariants as view
 use Rattle.guest_fetch.specs.Commands.{Fetched}
-use Rattle.slots.specs.Slots.{Issue, has_bit, issue_at, match_some, no_own_slots, own_issue}
-use Rattle.slots.specs.Table.{IsIssue, IsTable}
-use Rattle.hba_fbs.specs.Choosing.{Chooses}
-use Rattle.hba_fbs.specs.Greeting.{Greets, is_first}
-use Rattle.hba_fbs.specs.Offering.{Offer}
-use Rattle.hba_fbs.specs.Placing.{Places, issue_error}
-use Rattle.hba_fbs.specs.Registers.{falls, written}
-use Rattle.hba_fbs.specs.Bits.{st}
-use Rattle.hba_fbs.specs.Posting.{posted}
-use Rattle.hba_fbs.specs.Taking.{admitted, ignores, port_of, posted_of, settled}
-use Rattle.hba_fbs.specs.Stopping.{SetsCmd, fallen_view}
-use Rattle.hba_fbs.specs.Views.{DeviceView, Port, view_of}
-use Rattle.hba_fbs.specs.declared.error.IssueError.{IssueError}
+use Rattle.slots.specs.{Slots.{Issue, has_bit, issue_at, match_some, no_own_slots, own_issue}, Table.{IsIssue, IsTable}}
+use Rattle.hba_fbs.specs.{Choosing.Chooses, Greeting.{Greets, is_first}, Offering.Offer, Placing.{Places, issue_error}, Registers.{falls, written}}
+use Rattle.hba_fbs.specs.{Bits.st, Posting.posted, Taking.{admitted, ignores, port_of, posted_of, settled}, Stopping.{SetsCmd, fallen_view}}
+use Rattle.hba_fbs.specs.{Views.{DeviceView, Port, view_of}, declared.{error.IssueError.IssueError, hearing.Heard.Heard}}
+use Rattle.hba_fbs.specs.declared.{registers.Registers.Registers, report.TakeReport.TakeReport, room.Room.Room, turn.Turn.{Turn, TheVariants.Feeds}}
+use Rattle.hba_fbs.specs.declared.turn.Turn.TheVariants.{Orders, Rests}
 use Rattle.hba_fbs.specs.declared.error.IssueError.TheVariants as refusal
-use Rattle.hba_fbs.specs.declared.hearing.Heard.{Heard}
 use Rattle.hba_fbs.specs.declared.register.Register.TheVariants as on_port
-use Rattle.hba_fbs.specs.declared.registers.Registers.{Registers}
-use Rattle.hba_fbs.specs.declared.report.TakeReport.{TakeReport}
-use Rattle.hba_fbs.specs.declared.room.Room.{Room}
-use Rattle.hba_fbs.specs.declared.turn.Turn.{Turn}
-use Rattle.hba_fbs.specs.declared.turn.Turn.TheVariants.{Feeds, Orders, Rests}
 use Rattle.hba_laws.specs.Cores as core
 use Rattle.hba_laws.specs.Cores.{AreCores, CoreEvent, DoesBy, IsCore, RunsBy}
 use Rattle.hba_laws.proofs.Door.{own_here}
-use Rattle.ahci_controller.specs.Issuing.{device_of, offered_command}
-use Rattle.ahci_controller.specs.Offers.{offer_in}
-use Rattle.ahci_controller.specs.States.{ControllerState, kept}
+use Rattle.ahci_controller.specs.{Issuing.{device_of, offered_command}, Offers.offer_in, States.{ControllerState, kept}}
 use Rattle.ahci_controller.specs.declared.issuing.Supply.{Supply}
 use Rattle.ahci_controller.specs.declared.issuing.Supply.TheVariants as supply_answer
-use Rattle.controller_laws.specs.CoreEvents.{AreCoreEvents, no_tables, of_event, of_supply}
+use Rattle.controller_laws.specs.{CoreEvents.{AreCoreEvents, no_tables, of_event, of_supply}, Events.{Does, Event}}
 use Rattle.controller_laws.specs.Events as call
-use Rattle.controller_laws.specs.Events.{Does, Event}
 use Rattle.machine_theorem.specs.Commands.{issues_in}
-use Rattle.machine_theorem.proofs.CoreStems.{IsWritten, PlaceNone, PlacesNone, call_none, event_stems}
-use Rattle.machine_theorem.proofs.SetupCores.{first_core}
-use Rattle.machine_theorem.proofs.Stems.{Stems}
+use Rattle.machine_theorem.proofs.{CoreStems.{IsWritten, PlaceNone, PlacesNone, call_none, event_stems}, SetupCores.first_core, Stems.Stems}
 
 abbrev pub IsIdle : ℕ → Port → Type 0
 IsIdle s port = port.registers.started ≡ false → issue_at port.slots s ≡ None

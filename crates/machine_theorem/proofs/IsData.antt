@@ -1,39 +1,23 @@
 -- Bytes are brought by a Data FIS, and by no other.
 use Rattle.std.proofs.Common.{◌≡◌, ℕ, ◌-◌, Bool, true, false, cond, eqb, List, length, refl, sym, ap, subst, ◌∙◌, arith, Option, Some, None}
-use Rattle.std.specs.Prelude.{◌==◌, ◌||◌, is_some, slice_index, if◌then◌else◌, Result, Ok, Err}
 use Rattle.std.proofs.lemmas.Bool.{eqb-true}
-use Rattle.fis_view.specs.Seen.{kind_of, kind_of_type, may_have, seen, view_as}
+use Rattle.std.specs.Prelude.{◌==◌, ◌||◌, is_some, slice_index, if◌then◌else◌, Result, Ok, Err}
+use Rattle.fis_view.specs.{Seen.{kind_of, kind_of_type, may_have, seen, view_as}, Table.{Kind, Data, field}, declared.view.Fis.Fis}
+use Rattle.fis_view.specs.declared.view.FisFault.{FisFault, TheVariants.WrongLength}
 use Rattle.fis_view.specs.Table as table
-use Rattle.fis_view.specs.Table.{Kind, Data, field}
-use Rattle.fis_view.specs.declared.view.Fis.{Fis}
 use Rattle.fis_view.specs.declared.view.Fis.TheVariants as view
-use Rattle.fis_view.specs.declared.view.FisFault.{FisFault}
-use Rattle.fis_view.specs.declared.view.FisFault.TheVariants.{WrongLength}
-use Rattle.guest_fetch.specs.Commands.{Fetched}
-use Rattle.guest_fetch.specs.Places.{Places, room_at}
+use Rattle.guest_fetch.specs.{Commands.Fetched, Places.{Places, room_at}}
 use Rattle.port_errors.specs.declared.cause.DeviceCause.TheVariants as cause
-use Rattle.slots.specs.Commands.{answer_of, completed}
-use Rattle.slots.specs.Data.{may_activate, receiving_slot}
-use Rattle.slots.specs.Setup.{dma_context, out_setup, pio_fault, pio_issue, setup_fault}
-use Rattle.slots.specs.Slots.{DeviceSlots, context_of, match_some, own_issue, sent_pio}
-use Rattle.slots.specs.declared.answer.SetupError.{SetupError}
+use Rattle.slots.specs.{Commands.{answer_of, completed}, Data.{may_activate, receiving_slot}, Setup.{dma_context, out_setup, pio_fault, pio_issue}}
+use Rattle.slots.specs.{Setup.setup_fault, Slots.{DeviceSlots, context_of, match_some, own_issue, sent_pio}, declared.answer.SetupError.SetupError}
 use Rattle.slots.specs.declared.table.Context.{Context}
-use Rattle.hba_fbs.specs.Deciding.{Decides, decided, heard_within, is_past}
-use Rattle.hba_fbs.specs.Greeting.{Greets}
-use Rattle.hba_fbs.specs.Hearing.{answered, block_of, faulty, heard_d2h, heard_fis, heard_out, is_admitted, named, overflowed, quietly, set_up, tag_of}
-use Rattle.hba_fbs.specs.Status.{after_reset, is_busy, is_error, with_bits, with_file}
-use Rattle.hba_fbs.specs.Taking.{admitted, heard_report, ignores, port_of, wrote_by}
-use Rattle.hba_fbs.specs.Views.{DeviceView, Port, view_of}
+use Rattle.hba_fbs.specs.{Deciding.{Decides, decided, heard_within, is_past}, Greeting.Greets, Hearing.{answered, block_of, faulty, heard_d2h}}
+use Rattle.hba_fbs.specs.{Hearing.{heard_fis, heard_out, is_admitted, named, overflowed, quietly, set_up, tag_of}, Status.{after_reset, is_busy}}
+use Rattle.hba_fbs.specs.{Status.{is_error, with_bits, with_file}, Taking.{admitted, heard_report, ignores, port_of, wrote_by}, Views.DeviceView}
+use Rattle.hba_fbs.specs.{Views.{Port, view_of}, declared.{hearing.Heard.Heard, report.{TakeReport.TakeReport, Wrote.Wrote}, room.Room.Room}}
+use Rattle.hba_fbs.specs.declared.{room.Room.TheVariants.{Bytes, NoTable, Whole}, state.DeviceState.DeviceState, status.Block.Block}
 use Rattle.hba_fbs.specs.declared.hearing.Happening.TheVariants as happening
-use Rattle.hba_fbs.specs.declared.hearing.Heard.{Heard}
-use Rattle.hba_fbs.specs.declared.report.TakeReport.{TakeReport}
-use Rattle.hba_fbs.specs.declared.report.Wrote.{Wrote}
-use Rattle.hba_fbs.specs.declared.room.Room.{Room}
-use Rattle.hba_fbs.specs.declared.room.Room.TheVariants.{Bytes, NoTable, Whole}
-use Rattle.hba_fbs.specs.declared.state.DeviceState.{DeviceState}
-use Rattle.hba_fbs.specs.declared.status.Block.{Block}
-use Rattle.ahci_controller.specs.States.{ControllerState, cursor, kept}
-use Rattle.ahci_controller.specs.Taking.{CoreHearsIf, is_overflow, part_in, part_of, payload_of, room_for}
+use Rattle.ahci_controller.specs.{States.{ControllerState, cursor, kept}, Taking.{CoreHearsIf, is_overflow, part_in, part_of, payload_of, room_for}}
 use Rattle.ahci_controller.specs.declared.taking.Took.{Took}
 use Rattle.controller_laws.specs.Events.{Takes}
 

@@ -1,30 +1,21 @@
 -- Over a link that keeps the order Data of a queued write go to their own place.
-use Rattle.std.proofs.Common.{◌≡◌, ◌⊎◌, ℕ, ◌-◌, Bool, true, false, List, [], ◌∷◌, ◌++◌, append_assoc, length, refl, sym, ap, subst, ◌∙◌, inl, inr, Option, Some, None}
+use Rattle.std.proofs.Common.{◌≡◌, ◌⊎◌, ℕ, ◌-◌, Bool, true, false, List, [], ◌∷◌, ◌++◌, append_assoc, length, refl, sym, ap, subst, ◌∙◌, inl, inr}
+use Rattle.std.proofs.{Common.{Option, Some, None}, lemmas.Bool.{eq-eqb}}
 use Rattle.std.specs.Prelude.{◌==◌, if◌then◌else◌, Result, Ok, Err}
-use Rattle.std.proofs.lemmas.Bool.{eq-eqb}
-use Rattle.fis_view.specs.Seen.{seen}
-use Rattle.fis_view.specs.declared.view.Fis.{Fis}
+use Rattle.fis_view.specs.{Seen.seen, declared.view.{Fis.Fis, FisFault.FisFault}}
 use Rattle.fis_view.specs.declared.view.Fis.TheVariants as view
-use Rattle.fis_view.specs.declared.view.FisFault.{FisFault}
 use Rattle.hba_fbs.specs.Taking.{port_of}
-use Rattle.ahci_controller.specs.States.{ControllerState}
+use Rattle.ahci_controller.specs.{States.ControllerState, declared.latch.Edge.Edge}
 use Rattle.ahci_controller.specs.declared.feeding.Fed.TheVariants as fed_answer
-use Rattle.ahci_controller.specs.declared.latch.Edge.{Edge}
 use Rattle.controller_laws.specs.Events as call
 use Rattle.controller_laws.specs.Events.{Event, Runs}
 use Rattle.disk_pages.specs.declared.profile.Profile.{Profile}
 use Rattle.sata_disk.specs.State.{DiskState}
-use Rattle.sata_disk_laws.specs.Calls.{Call}
-use Rattle.sata_disk_laws.specs.Laws.{reached}
-use Rattle.sata_disk_books.specs.Books.{page_in}
-use Rattle.sata_disk_books.specs.Counted.{Counted, more_by}
-use Rattle.sata_disk_books.specs.InTurn.{AsksInTurn, AwaitsWhatItAsked, IsOpenFor, calls_steps}
-use Rattle.sata_disk_books.specs.Taken.{AreTakenFor}
-use Rattle.sata_disk_books.specs.Talks.{AreAsked, Down, Step, Talk, Up, quiet_talk, sign_of, talk_after, talk_by}
-use Rattle.machine_theorem.specs.Asking.{DataGoAsAsked, event_steps, events_steps}
-use Rattle.machine_theorem.specs.Crossing.{IsForPlace, OrderedLinksKeepPlaces}
-use Rattle.machine_theorem.specs.Feeding.{FedDataFollowSetups, IsNextOf, fed_call, fed_calls, set_by}
-use Rattle.machine_theorem.specs.Following.{AllHeardWell}
+use Rattle.sata_disk_laws.specs.{Calls.Call, Laws.reached}
+use Rattle.sata_disk_books.specs.{Books.page_in, Counted.{Counted, more_by}, InTurn.{AsksInTurn, AwaitsWhatItAsked, IsOpenFor, calls_steps}}
+use Rattle.sata_disk_books.specs.{Taken.AreTakenFor, Talks.{AreAsked, Down, Step, Talk, Up, quiet_talk, sign_of, talk_after, talk_by}}
+use Rattle.machine_theorem.specs.{Asking.{DataGoAsAsked, event_steps, events_steps}, Crossing.{IsForPlace, OrderedLinksKeepPlaces}}
+use Rattle.machine_theorem.specs.{Feeding.{FedDataFollowSetups, IsNextOf, fed_call, fed_calls, set_by}, Following.AllHeardWell}
 use Rattle.machine_theorem.proofs.Words.{Agree, agree, asked_parts, talk_both}
 
 pub record Laws : Type 0 where

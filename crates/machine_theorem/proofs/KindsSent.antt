@@ -1,53 +1,31 @@
 -- The FISes that settle commands, as they were taken, are among those that came of the connection, and these among those that the disk sent, in order.
-use Rattle.std.proofs.Common.{◌≡◌, ◌⊎◌, ℕ, ◌+◌, ◌*◌, ◌/◌, ◌%◌, ◌^◌, ◌&&◌, ◌||◌, Bool, true, false, List, [], ◌∷◌, ◌++◌, append_assoc, length, Ok, Err, refl, sym, ap, subst, ◌∙◌, inl, inr, arith}
+use Rattle.std.proofs.Common.{◌≡◌, ◌⊎◌, ℕ, ◌+◌, ◌*◌, ◌/◌, ◌%◌, ◌^◌, ◌&&◌, ◌||◌, Bool, true, false, List, [], ◌∷◌, ◌++◌, append_assoc, length, Ok, Err}
+use Rattle.std.proofs.{Common.{refl, sym, ap, subst, ◌∙◌, inl, inr, arith}, lemmas.{Bool.{and_parts, eq-eqb}, List.{length-append}}}
 use Rattle.std.specs.Prelude.{◌==◌, if◌then◌else◌, slice_index}
-use Rattle.std.proofs.lemmas.Bool.{and_parts, eq-eqb}
-use Rattle.std.proofs.lemmas.List.{length-append}
-use Rattle.fis_view.specs.Built.{cut}
-use Rattle.fis_view.specs.Frames.{Stamped, marked}
-use Rattle.fis_view.specs.Seen.{kind_of, kind_of_type, may_have, seen, view_as}
+use Rattle.fis_view.specs.{Built.cut, Frames.{Stamped, marked}, Seen.{kind_of, kind_of_type, may_have, seen, view_as}, Table.{Kind, field, places}}
+use Rattle.fis_view.specs.{Table.spelled, declared.view.{Fis.Fis, FisFault.TheVariants.WrongLength}}
 use Rattle.fis_view.specs.Table as table
-use Rattle.fis_view.specs.Table.{Kind, field, places, spelled}
-use Rattle.fis_view.specs.declared.view.Fis.{Fis}
 use Rattle.fis_view.specs.declared.view.Fis.TheVariants as view
-use Rattle.fis_view.specs.declared.view.FisFault.TheVariants.{WrongLength}
 use Rattle.multiplier.specs.Passing.{of_conn}
-use Rattle.fan_out.specs.declared.fan_out.FanOut.{FanOut}
-use Rattle.fan_out.specs.declared.fan_out.FanOut.TheVariants.{Device, Multiplier}
-use Rattle.hba_fbs.specs.Status.{is_quiet}
-use Rattle.hba_fbs.specs.Taking.{port_of}
-use Rattle.ata_reply.specs.Replies.{Shows}
-use Rattle.ata_reply.specs.declared.reply.Announcement.{Announcement}
-use Rattle.ata_reply.specs.declared.reply.Reply.{Reply}
+use Rattle.fan_out.specs.declared.fan_out.FanOut.{FanOut, TheVariants.{Device, Multiplier}}
+use Rattle.hba_fbs.specs.{Status.is_quiet, Taking.port_of}
+use Rattle.ata_reply.specs.{Replies.Shows, declared.reply.{Announcement.Announcement, Reply.Reply}}
 use Rattle.ata_reply.specs.declared.reply.Reply.TheVariants as replies
-use Rattle.sata_disk.specs.State.{DiskState}
-use Rattle.sata_disk.specs.declared.out.Out.{Out}
+use Rattle.sata_disk.specs.{State.DiskState, declared.out.Out.Out}
 use Rattle.sata_disk.specs.declared.out.Out.TheVariants as out
 use Rattle.sata_disk_books.specs.LastData.{is_last_block, sets_up_last}
 use Rattle.sata_disk_laws.specs.Calls.{Answers, Asks, Call, Hears, Plugs, Sends, Starts, after_calls}
 use Rattle.controller_laws.specs.Events as call
 use Rattle.controller_laws.specs.Events.{Event}
-use Rattle.ahci_machine.specs.States.{MachineState, bay_at}
+use Rattle.ahci_machine.specs.{States.{MachineState, bay_at}, declared.bay.Unit.TheVariants.Disk}
 use Rattle.ahci_machine.specs.declared.act.Act.TheVariants as act
-use Rattle.ahci_machine.specs.declared.bay.Unit.TheVariants.{Disk}
-use Rattle.machine_laws.specs.ControllerLaws.{RunsRuled}
-use Rattle.machine_laws.specs.Deeds.{Deed, Does, FrameOffered, Moved}
-use Rattle.machine_laws.specs.Disks.{DisksGoOn, calls_at}
-use Rattle.machine_laws.specs.Rising.{bytes_of, frames_of, risen, sent_by}
-use Rattle.machine_theorem.specs.Crossing.{Within}
-use Rattle.machine_theorem.specs.Identity.{calls_of}
-use Rattle.machine_theorem.specs.InTurn.{is_answer, is_register}
-use Rattle.machine_theorem.specs.OwnSlots.{AllKeepLine, AreOne, KeepsLine, is_of}
-use Rattle.machine_theorem.specs.Settled.{settled_in}
-use Rattle.machine_theorem.specs.Tags.{once_if}
-use Rattle.machine_theorem.proofs.Closing.{frame_kinds, kinds, taken_kinds}
-use Rattle.machine_theorem.proofs.EndSent.{cut_run, kind_view, seen_kind, set_kept}
-use Rattle.machine_theorem.proofs.EndsFew.{sent_of}
-use Rattle.machine_theorem.proofs.Fallen.{left_there}
-use Rattle.machine_theorem.proofs.RisenTold.{conn_both}
-use Rattle.machine_theorem.proofs.Sent.{type_is}
-use Rattle.machine_theorem.proofs.SentFises.{offers_none, sender_is}
-use Rattle.machine_theorem.proofs.Within.{all_within, within_both}
+use Rattle.machine_laws.specs.{ControllerLaws.RunsRuled, Deeds.{Deed, Does, FrameOffered, Moved}, Disks.{DisksGoOn, calls_at}, Rising.bytes_of}
+use Rattle.machine_laws.specs.Rising.{frames_of, risen, sent_by}
+use Rattle.machine_theorem.specs.{Crossing.Within, Identity.calls_of, InTurn.{is_answer, is_register}, OwnSlots.{AllKeepLine, AreOne, KeepsLine}}
+use Rattle.machine_theorem.specs.{OwnSlots.is_of, Settled.settled_in, Tags.once_if}
+use Rattle.machine_theorem.proofs.{Closing.{frame_kinds, kinds, taken_kinds}, EndSent.{cut_run, kind_view, seen_kind, set_kept}, EndsFew.sent_of}
+use Rattle.machine_theorem.proofs.{Fallen.left_there, RisenTold.conn_both, Sent.type_is, SentFises.{offers_none, sender_is}, Within.all_within}
+use Rattle.machine_theorem.proofs.Within.{within_both}
 
 -- ---- what a disk sends
 

@@ -1,9 +1,7 @@
 -- The last end with a tag in a run, and the last FIS that asks for it.
-use Rattle.std.proofs.Common.{◌≡◌, ℕ, ◌+◌, ◌≤◌, Bool, true, false, List, [], ◌∷◌, ◌++◌, length, Option, Some, None, Result, Ok, Err, refl, sym, ap, subst, ◌∙◌, arith}
+use Rattle.std.proofs.Common.{◌≡◌, ℕ, ◌+◌, ◌≤◌, Bool, true, false, List, [], ◌∷◌, ◌++◌, length, Option, Some, None, Result, Ok, Err, refl, sym, ap}
+use Rattle.std.proofs.{Common.{subst, ◌∙◌, arith}, lemmas.{Bool.{eqb-true, false≢true}, Grind.{flat_map-append}, List.{length-append}}}
 use Rattle.std.specs.Prelude.{◌==◌, if◌then◌else◌}
-use Rattle.std.proofs.lemmas.Bool.{eqb-true, false≢true}
-use Rattle.std.proofs.lemmas.Grind.{flat_map-append}
-use Rattle.std.proofs.lemmas.List.{length-append}
 use Rattle.fis_view.specs.Frames.{Stamped, marked}
 use Rattle.block_queue.specs.Line.{has_bit}
 use Rattle.sata_disk.specs.declared.out.Out.TheVariants as out
@@ -12,20 +10,13 @@ use Rattle.ahci_controller.specs.declared.feeding.Fed.{Fed}
 use Rattle.ahci_controller.specs.declared.feeding.Fed.TheVariants as fed
 use Rattle.ahci_controller.specs.declared.next.Next.TheVariants as next
 use Rattle.controller_laws.specs.Events.{Event}
-use Rattle.ahci_machine.specs.Gathers.{host_stamp}
-use Rattle.ahci_machine.specs.States.{MachineState, bay_at}
-use Rattle.ahci_machine.specs.declared.act.Act.{Act}
+use Rattle.ahci_machine.specs.{Gathers.host_stamp, States.{MachineState, bay_at}, declared.act.Act.Act}
 use Rattle.ahci_machine.specs.declared.act.Act.TheVariants as act
-use Rattle.machine_laws.specs.ControllerLaws.{RunsRuled, calls_in}
-use Rattle.machine_laws.specs.Controllers.{deed_calls, lost_calls, miss_calls, rest_calls, supply_calls}
-use Rattle.machine_laws.specs.Deeds.{Deed, Does, Missed, Moved, Supplied, Answered, Pulled}
-use Rattle.machine_laws.specs.Disks.{calls_at, calls_by, heard, unless_refused}
+use Rattle.machine_laws.specs.{ControllerLaws.{RunsRuled, calls_in}, Controllers.{deed_calls, lost_calls, miss_calls, rest_calls, supply_calls}}
+use Rattle.machine_laws.specs.{Deeds.{Deed, Does, Missed, Moved, Supplied, Answered, Pulled}, Disks.{calls_at, calls_by, heard, unless_refused}}
 use Rattle.machine_laws.specs.Falling.{sent_by, sent_in}
-use Rattle.machine_theorem.specs.Identity.{asked_of, asks_of, calls_of, heard_as, is_for}
-use Rattle.machine_theorem.specs.Tags.{ended_with, once_if}
-use Rattle.machine_theorem.proofs.Asking.{DataAskNone, asked_both, picked}
-use Rattle.machine_theorem.proofs.Cut.{total}
-use Rattle.machine_theorem.proofs.Ordered.{loses, misses, rests, supplies}
+use Rattle.machine_theorem.specs.{Identity.{asked_of, asks_of, calls_of, heard_as, is_for}, Tags.{ended_with, once_if}}
+use Rattle.machine_theorem.proofs.{Asking.{DataAskNone, asked_both, picked}, Cut.total, Ordered.{loses, misses, rests, supplies}}
 use Rattle.machine_theorem.proofs.TagCounts.{ended_both}
 
 -- ---- ends

@@ -1,18 +1,14 @@
 -- The last FIS of a stretch of calls that is a command for a disk, and what goes before it.
-use Rattle.std.proofs.Common.{◌≡◌, ℕ, zero, suc, ◌+◌, ◌≤◌, Bool, true, List, [], ◌∷◌, ◌++◌, append_assoc, append-nil, length, refl, sym, ap, subst, ◌∙◌, arith}
-use Rattle.std.proofs.lemmas.List.{length-append}
+use Rattle.std.proofs.Common.{◌≡◌, ℕ, zero, suc, ◌+◌, ◌≤◌, Bool, true, List, [], ◌∷◌, ◌++◌, append_assoc, append-nil, length, refl, sym, ap, subst}
+use Rattle.std.proofs.{Common.{◌∙◌, arith}, lemmas.List.{length-append}}
 use Rattle.fis_view.specs.Frames.{marked}
 use Rattle.ahci_controller.specs.States.{ControllerState}
 use Rattle.ahci_controller.specs.declared.next.Next.TheVariants as next
 use Rattle.controller_laws.specs.Events as call
 use Rattle.controller_laws.specs.Events.{Event, Runs}
 use Rattle.ahci_machine.specs.Gathers.{host_stamp}
-use Rattle.machine_theorem.specs.Identity.{is_for}
-use Rattle.machine_theorem.specs.InTurn.{is_asking}
-use Rattle.machine_theorem.specs.Singles.{AllOfDevice}
-use Rattle.machine_theorem.specs.Waits.{commanded_in}
-use Rattle.machine_theorem.proofs.Commanded.{AreNoCommands, IsAsking, IsNoCommand, asked, asked_both, asked_one, asking_is}
-use Rattle.machine_theorem.proofs.OneConn.{no_length}
+use Rattle.machine_theorem.specs.{Identity.is_for, InTurn.is_asking, Singles.AllOfDevice, Waits.commanded_in}
+use Rattle.machine_theorem.proofs.{Commanded.{AreNoCommands, IsAsking, IsNoCommand, asked, asked_both, asked_one, asking_is}, OneConn.no_length}
 
 module _ (many : Bool) (n dev : ℕ) where
   pub record LastSent (old : ControllerState) (events : List Event) (now : ControllerState) (run : Runs old events now) : Type 0 where

@@ -1,39 +1,23 @@
 -- Slots are named by a Set Device Bits FIS, and by no other.
 use Rattle.std.proofs.Common.{◌≡◌, ℕ, ◌-◌, Bool, true, false, cond, eqb, List, [], length, drop, refl, sym, ap, subst, ◌∙◌, Option, Some, None}
 use Rattle.std.specs.Prelude.{◌==◌, is_some, nat_lt, not, if◌then◌else◌, Result, Ok, Err}
-use Rattle.fis_view.specs.Seen.{frame_of, kind_of, may_have, seen, view_as}
-use Rattle.fis_view.specs.Table as table
-use Rattle.fis_view.specs.Table.{Kind, field}
-use Rattle.fis_view.specs.declared.view.Fis.{Fis}
-use Rattle.fis_view.specs.declared.view.Fis.TheVariants as view
-use Rattle.fis_view.specs.declared.view.FisFault.{FisFault}
+use Rattle.fis_view.specs.{Seen.{frame_of, kind_of, may_have, seen, view_as}, Table.{Kind, field}, declared.view.{Fis.Fis, FisFault.FisFault}}
 use Rattle.fis_view.specs.declared.view.FisFault.TheVariants.{WrongLength}
+use Rattle.fis_view.specs.Table as table
+use Rattle.fis_view.specs.declared.view.Fis.TheVariants as view
 use Rattle.port_errors.specs.declared.cause.DeviceCause.TheVariants as cause
-use Rattle.slots.specs.Commands.{answer_of, completed}
-use Rattle.slots.specs.Data.{after_arrive, may_activate}
-use Rattle.slots.specs.Setup.{dma_context, out_setup, pio_fault, pio_issue, setup_fault}
-use Rattle.slots.specs.Slots.{DeviceSlots, match_some, own_issue, sent_pio}
-use Rattle.slots.specs.declared.answer.Answered.{Answered}
+use Rattle.slots.specs.{Commands.{answer_of, completed}, Data.{after_arrive, may_activate}, Setup.{dma_context, out_setup, pio_fault, pio_issue}}
+use Rattle.slots.specs.{Setup.setup_fault, Slots.{DeviceSlots, match_some, own_issue, sent_pio}, declared.answer.Answered.Answered}
+use Rattle.slots.specs.declared.{answer.SetupError.SetupError, table.Context.Context}
 use Rattle.slots.specs.declared.answer.Answered.TheVariants as answer
-use Rattle.slots.specs.declared.answer.SetupError.{SetupError}
-use Rattle.slots.specs.declared.table.Context.{Context}
-use Rattle.hba_fbs.specs.Deciding.{decided, heard_within, is_past}
-use Rattle.hba_fbs.specs.Hearing.{answered, block_of, bus_failed, faulty, heard_bytes, heard_d2h, heard_data_of, heard_fis, heard_out, is_admitted, named, overflowed, quietly, set_up, tag_of}
-use Rattle.hba_fbs.specs.Status.{after_reset, is_busy, is_error, with_bits, with_file}
-use Rattle.hba_fbs.specs.Taking.{admitted, ignores, port_of}
-use Rattle.hba_fbs.specs.Views.{DeviceView, Port, view_of}
-use Rattle.hba_fbs.specs.declared.hearing.Happening.{Happening}
+use Rattle.hba_fbs.specs.{Deciding.{decided, heard_within, is_past}, Hearing.{answered, block_of, bus_failed, faulty, heard_bytes, heard_d2h}}
+use Rattle.hba_fbs.specs.{Hearing.{heard_data_of, heard_fis, heard_out, is_admitted, named, overflowed, quietly, set_up, tag_of}, Status.after_reset}
+use Rattle.hba_fbs.specs.{Status.{is_busy, is_error, with_bits, with_file}, Taking.{admitted, ignores, port_of}, Views.{DeviceView, Port, view_of}}
+use Rattle.hba_fbs.specs.declared.{hearing.{Happening.Happening, Heard.Heard}, report.Wrote.Wrote, room.Room.{Room, TheVariants.{Bytes, NoTable}}}
+use Rattle.hba_fbs.specs.declared.{room.Room.TheVariants.Whole, state.DeviceState.DeviceState, status.Block.Block}
 use Rattle.hba_fbs.specs.declared.hearing.Happening.TheVariants as happening
-use Rattle.hba_fbs.specs.declared.hearing.Heard.{Heard}
-use Rattle.hba_fbs.specs.declared.report.Wrote.{Wrote}
-use Rattle.hba_fbs.specs.declared.room.Room.{Room}
-use Rattle.hba_fbs.specs.declared.room.Room.TheVariants.{Bytes, NoTable, Whole}
-use Rattle.hba_fbs.specs.declared.state.DeviceState.{DeviceState}
-use Rattle.hba_fbs.specs.declared.status.Block.{Block}
-use Rattle.hba_laws.specs.CoreHistories.{event_by}
-use Rattle.hba_laws.specs.Delivering.{event_heard, event_of, event_of_answer, event_of_block}
+use Rattle.hba_laws.specs.{CoreHistories.event_by, Delivering.{event_heard, event_of, event_of_answer, event_of_block}, History.Event}
 use Rattle.hba_laws.specs.History as event
-use Rattle.hba_laws.specs.History.{Event}
 
 -- it names no slot
 abbrev NamesNone : Happening → Type 0

@@ -1,9 +1,8 @@
 -- The bytes that are written are numbered in what the caller gave.
 use Rattle.std.proofs.Common.{◌≡◌, ◌≤◌, ◌+◌, ◌-◌, ℕ, Bool, true, false, List, [], ◌++◌, append_assoc, length, take, drop, refl, sym, ap, ◌∙◌, arith}
+use Rattle.std.proofs.{Math.Seq.{drop-append-add}, lemmas.{Bool.{leb-true}, List.{drop-append-le, drop-drop, length-drop, length-take-le}}}
+use Rattle.std.proofs.lemmas.List.{take-append-le}
 use Rattle.std.specs.Prelude.{nat_le, if◌then◌else◌}
-use Rattle.std.proofs.Math.Seq.{drop-append-add}
-use Rattle.std.proofs.lemmas.Bool.{leb-true}
-use Rattle.std.proofs.lemmas.List.{drop-append-le, drop-drop, length-drop, length-take-le, take-append-le}
 use Rattle.machine_theorem.specs.Parts.{BytesAreGiven}
 
 numbered : (sent part rest given : List ℕ) (k len : ℕ) → given ≡ sent ++ part ++ rest → k + len ≤ length part → take len (drop k part) ≡ take len (drop (length sent + k) given)

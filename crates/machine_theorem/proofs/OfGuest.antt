@@ -1,5 +1,6 @@
 -- Each FIS that goes to a device is of a command in a slot, or has what was supplied for it.
-use Rattle.std.proofs.Common.{◌≡◌, ◌⊎◌, ℕ, ◌+◌, ◌%◌, ◌<◌, Bool, List, [], ◌∷◌, ◌++◌, append_assoc, append-nil, length, drop, refl, sym, ap, ◌∙◌, subst, arith, inl, inr, Contains}
+use Rattle.std.proofs.Common.{◌≡◌, ◌⊎◌, ℕ, ◌+◌, ◌%◌, ◌<◌, Bool, List, [], ◌∷◌, ◌++◌, append_assoc, append-nil, length, drop, refl, sym, ap, ◌∙◌}
+use Rattle.std.proofs.Common.{subst, arith, inl, inr, Contains}
 use Rattle.std.specs.Prelude.{slice_index}
 use Rattle.fis_view.specs.Frames.{Stamped, marked}
 use Rattle.multiplier.specs.State.{pm_port}
@@ -10,23 +11,17 @@ use Rattle.controller_laws.specs.Events as call
 use Rattle.controller_laws.specs.Events.{Event}
 use Rattle.sata_disk_laws.specs.Calls.{Call, Hears}
 use Rattle.sata_disk_laws.specs.Calls as disk_call
-use Rattle.ahci_machine.specs.Gathers.{host_stamp}
-use Rattle.ahci_machine.specs.States.{HasRules, IsOpeningMachine, MachineState}
-use Rattle.ahci_machine.specs.declared.act.Act.{Act}
+use Rattle.ahci_machine.specs.{Gathers.host_stamp, States.{HasRules, IsOpeningMachine, MachineState}, declared.act.Act.Act}
 use Rattle.ahci_machine.specs.declared.act.Act.TheVariants as act
 use Rattle.machine_laws.proofs.Due.{there_is}
-use Rattle.machine_laws.specs.ControllerLaws.{ControllerRuns, OpensLawful, OpensSo, RunsRuled, calls_in}
-use Rattle.machine_laws.specs.Controllers.{GathersDue, deed_calls, lost_calls, miss_calls, move_calls, rest_calls, supply_calls}
-use Rattle.machine_laws.specs.Deeds.{Deed, Does, Moved, Supplied, Missed}
-use Rattle.machine_laws.specs.Falling.{sent_in}
-use Rattle.machine_laws.specs.Feeding.{OpensUnread, came_in, data_with}
-use Rattle.machine_laws.specs.Heard.{AllHeard, FellFrom, HeardWereSent, IsSentOut, life_in, no_life}
-use Rattle.machine_laws.specs.Rising.{is_multiplier}
+use Rattle.machine_laws.specs.{ControllerLaws.{ControllerRuns, OpensLawful, OpensSo, RunsRuled, calls_in}, Controllers.{GathersDue, deed_calls}}
+use Rattle.machine_laws.specs.{Controllers.{lost_calls, miss_calls, move_calls, rest_calls, supply_calls}, Deeds.{Deed, Does, Moved, Supplied}}
+use Rattle.machine_laws.specs.{Deeds.Missed, Falling.sent_in, Feeding.{OpensUnread, came_in, data_with}, Heard.{AllHeard, FellFrom, HeardWereSent}}
+use Rattle.machine_laws.specs.{Heard.{IsSentOut, life_in, no_life}, Rising.is_multiplier}
 use Rattle.machine_theorem.specs.Guest.{HeardIsOfGuest, IsFed, IsOfGuest, IsOrdered, IsSupplied}
-use Rattle.machine_theorem.proofs.AtMoments.{more}
+use Rattle.machine_theorem.proofs.{AtMoments.more, Ordered.{IsOrder, append_runs, does_go, fed_low, first_ruled, is_one, loses, misses, none_there}}
+use Rattle.machine_theorem.proofs.{Ordered.{not_sent, rests, supplies}, Sent.marked_rest}
 use Rattle.machine_theorem.proofs.Ordered as ordered
-use Rattle.machine_theorem.proofs.Ordered.{IsOrder, append_runs, does_go, fed_low, first_ruled, is_one, loses, misses, none_there, not_sent, rests, supplies}
-use Rattle.machine_theorem.proofs.Sent.{marked_rest}
 
 -- it is of a command, or was gathered for a device
 pub record WasGathered (old : MachineState) (deeds : List Deed) (f : Stamped) : Type 0 where

@@ -1,13 +1,11 @@
 -- Where all of a port that was sent and passes a test came, and is of one connection, the last that came is the last that was sent.
 use Rattle.std.proofs.Common.{◌≡◌, ℕ, ◌≤◌, ◌&&◌, Bool, true, false, List, [], ◌∷◌, ◌++◌, length, refl, sym, ap, ◌∙◌, arith, All, Contains}
+use Rattle.std.proofs.lemmas.{Bool.{and_parts, eq-eqb, false≢true}, List.{append-nil, length-append, Elements.{All-cons, All-contains}}}
+use Rattle.std.proofs.lemmas.List.Elements.{All-contains_itself, All-head, All-nil, All-same, All-tail, All-weaker}
 use Rattle.std.specs.Prelude.{◌==◌, if◌then◌else◌}
-use Rattle.std.proofs.lemmas.Bool.{and_parts, eq-eqb, false≢true}
-use Rattle.std.proofs.lemmas.List.{append-nil, length-append}
-use Rattle.std.proofs.lemmas.List.Elements.{All-cons, All-contains, All-contains_itself, All-head, All-nil, All-same, All-tail, All-weaker}
 use Rattle.fis_view.specs.Frames.{Stamped}
 use Rattle.machine_theorem.specs.Identity.{picks}
-use Rattle.machine_theorem.proofs.Risen.{Begins, of_both}
-use Rattle.machine_theorem.proofs.Within.{picks_both}
+use Rattle.machine_theorem.proofs.{Risen.{Begins, of_both}, Within.picks_both}
 
 -- ---- lists
 

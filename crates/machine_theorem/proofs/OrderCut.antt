@@ -5,17 +5,11 @@ use Rattle.ahci_controller.specs.declared.next.Next.{Next}
 use Rattle.ahci_controller.specs.declared.next.Next.TheVariants as next
 use Rattle.controller_laws.specs.Events as call
 use Rattle.controller_laws.specs.Events.{Event}
-use Rattle.ahci_machine.specs.Gathers.{host_stamp}
-use Rattle.ahci_machine.specs.States.{MachineState}
+use Rattle.ahci_machine.specs.{Gathers.host_stamp, States.MachineState}
 use Rattle.ahci_machine.specs.declared.act.Act.TheVariants as act
-use Rattle.machine_laws.specs.ControllerLaws.{RunsRuled, calls_in}
-use Rattle.machine_laws.specs.Controllers.{deed_calls}
-use Rattle.machine_laws.specs.Deeds.{Deed, Does, Missed, Moved, Supplied}
-use Rattle.machine_laws.specs.Falling.{sent_in}
-use Rattle.machine_laws.specs.Feeding.{came_by, came_in}
-use Rattle.machine_theorem.proofs.Cut.{Cut, cut_here, cut_more}
-use Rattle.machine_theorem.proofs.Few.{AreFew, are_few}
-use Rattle.machine_theorem.proofs.Ordered.{loses, misses, rests, supplies}
+use Rattle.machine_laws.specs.{ControllerLaws.{RunsRuled, calls_in}, Controllers.deed_calls, Deeds.{Deed, Does, Missed, Moved, Supplied}}
+use Rattle.machine_laws.specs.{Falling.sent_in, Feeding.{came_by, came_in}}
+use Rattle.machine_theorem.proofs.{Cut.{Cut, cut_here, cut_more}, Few.{AreFew, are_few}, Ordered.{loses, misses, rests, supplies}}
 
 -- ---- what led to a stretch, and then it
 

@@ -1,42 +1,26 @@
 -- A FIS that the controller sends, and that is no Data, is that of a command in a slot.
-use Rattle.std.proofs.Common.{◌≡◌, ℕ, ◌<◌, ◌≤◌, Bool, true, false, List, [], ◌∷◌, ◌++◌, append_assoc, append-nil, length, Option, Some, None, Result, Ok, Err, refl, sym, ap, ◌∙◌, subst, arith, inl, inr, Contains}
-use Rattle.std.specs.Prelude.{◌&&◌, MatchOption, is_some, is_none, nat_lt, slice_index}
-use Rattle.std.specs.Bool.{MatchBool}
-use Rattle.std.specs.declared.alloc.AllocError.{AllocError}
-use Rattle.std.proofs.lemmas.Bool.{false≢true, ltb-true, ltb-false}
-use Rattle.std.proofs.lemmas.List.{get_or_past}
-use Rattle.std.proofs.lemmas.List.Elements.{All-cons, All-contains, All-nil}
+use Rattle.std.proofs.Common.{◌≡◌, ℕ, ◌<◌, ◌≤◌, Bool, true, false, List, [], ◌∷◌, ◌++◌, append_assoc, append-nil, length, Option, Some, None, Result}
+use Rattle.std.proofs.{Common.{Ok, Err, refl, sym, ap, ◌∙◌, subst, arith, inl, inr, Contains}, lemmas.Bool.{false≢true, ltb-true, ltb-false}}
+use Rattle.std.proofs.lemmas.List.{get_or_past, Elements.{All-cons, All-contains, All-nil}}
+use Rattle.std.specs.{Prelude.{◌&&◌, MatchOption, is_some, is_none, nat_lt, slice_index}, Bool.MatchBool, declared.alloc.AllocError.AllocError}
 use Rattle.fis_view.specs.Frames.{Stamped}
-use Rattle.slots.specs.Data.{payload}
-use Rattle.slots.specs.Slots.{Issue, Slots, context_of, issue_at}
-use Rattle.slots.specs.Table.{IsTable}
+use Rattle.slots.specs.{Data.payload, Slots.{Issue, Slots, context_of, issue_at}, Table.IsTable}
 use Rattle.port_errors.specs.Errors.{cause_of}
-use Rattle.hba_fbs.specs.Choosing.{may_feed}
-use Rattle.hba_fbs.specs.Sending.{is_due}
-use Rattle.hba_fbs.specs.Taking.{is_running}
-use Rattle.ahci_controller.specs.Feeding.{GathersIf, SendsIf, without_feeding}
-use Rattle.ahci_controller.specs.Next.{is_fed}
-use Rattle.ahci_controller.specs.States.{ControllerState}
-use Rattle.ahci_controller.specs.declared.feeding.Fed.{Fed}
+use Rattle.hba_fbs.specs.{Choosing.may_feed, Sending.is_due, Taking.is_running}
+use Rattle.ahci_controller.specs.{Feeding.{GathersIf, SendsIf, without_feeding}, Next.is_fed, States.ControllerState, declared.feeding.Fed.Fed}
+use Rattle.ahci_controller.specs.declared.taking.Hindrance.{Hindrance}
 use Rattle.ahci_controller.specs.declared.feeding.Fed.TheVariants as fed
 use Rattle.ahci_controller.specs.declared.next.Next.TheVariants as next
-use Rattle.ahci_controller.specs.declared.taking.Hindrance.{Hindrance}
 use Rattle.controller_laws.specs.Events as call
 use Rattle.controller_laws.specs.Events.{Event}
 use Rattle.ahci_machine.specs.Acts as acts
-use Rattle.ahci_machine.specs.Answers.{IsStale, MissesFor, MissesMachine, SuppliesMachine, is_wanted}
-use Rattle.ahci_machine.specs.Gathers.{GatheringState, host_stamp}
-use Rattle.ahci_machine.specs.States.{HasRules, MachineState, gathering_at}
-use Rattle.ahci_machine.specs.declared.act.Act.{Act}
-use Rattle.ahci_machine.specs.declared.act.Act.TheVariants as act
-use Rattle.ahci_machine.specs.declared.answers.Told.{Told}
-use Rattle.ahci_machine.specs.declared.request.Wanted.{Wanted}
+use Rattle.ahci_machine.specs.{Answers.{IsStale, MissesFor, MissesMachine, SuppliesMachine, is_wanted}, Gathers.{GatheringState, host_stamp}}
+use Rattle.ahci_machine.specs.{States.{HasRules, MachineState, gathering_at}, declared.{act.Act.Act, answers.Told.Told, request.Wanted.Wanted}}
 use Rattle.ahci_machine.specs.declared.request.Wanted.TheVariants.{Command, Data}
-use Rattle.machine_laws.specs.ControllerLaws.{ControllerRuns, RunsAreCalls, RunsRuled, calls_in}
-use Rattle.machine_laws.specs.Controllers.{GathersDue, data_calls, deed_calls, lost_calls, miss_calls, move_calls, rest_calls, supply_calls}
-use Rattle.machine_laws.specs.Deeds.{Deed, Does, Moved, Supplied, Missed}
-use Rattle.machine_laws.specs.Falling.{sent_in}
-use Rattle.machine_laws.specs.Feeding.{DataIsRead, DataIsWhatCame, IsReading, OrdersAreIssued, came_in}
+use Rattle.ahci_machine.specs.declared.act.Act.TheVariants as act
+use Rattle.machine_laws.specs.{ControllerLaws.{ControllerRuns, RunsAreCalls, RunsRuled, calls_in}, Controllers.{GathersDue, data_calls, deed_calls}}
+use Rattle.machine_laws.specs.{Controllers.{lost_calls, miss_calls, move_calls, rest_calls, supply_calls}, Deeds.{Deed, Does, Moved, Supplied}}
+use Rattle.machine_laws.specs.{Deeds.Missed, Falling.sent_in, Feeding.{DataIsRead, DataIsWhatCame, IsReading, OrdersAreIssued, came_in}}
 use Rattle.machine_laws.specs.Heard.{IsSentOut}
 use Rattle.machine_theorem.specs.Commands.{IsSentFrom}
 

@@ -1,28 +1,19 @@
 -- A command that goes was not sent before, and then it was.
 use Rattle.std.proofs.Common.{◌≡◌, ℕ, ◌<◌, ◌&&◌, Bool, true, false, not, List, length, Option, Some, None, refl, sym, ap, subst, ◌∙◌}
-use Rattle.std.specs.Prelude.{MatchOption, if◌then◌else◌}
-use Rattle.std.specs.Option.{option_map}
-use Rattle.std.proofs.lemmas.Bool.{and_parts}
-use Rattle.std.proofs.lemmas.List.{get_or-set_same, length-map}
+use Rattle.std.proofs.lemmas.{Bool.and_parts, List.{get_or-set_same, length-map}}
+use Rattle.std.specs.{Prelude.{MatchOption, if◌then◌else◌}, Option.option_map}
 use Rattle.hba_commands.specs.declared.command.Command as core_command
-use Rattle.guest_fetch.specs.Commands.{Fetched}
-use Rattle.guest_fetch.specs.declared.moves.Move.{Move}
-use Rattle.slots.specs.Commands.{after_sent, is_slot, sent_issue}
-use Rattle.slots.specs.Setup.{begun, whole_context, with_own_context}
-use Rattle.slots.specs.Slots.{DeviceSlots, Issue, freed, holds, is_control, issue_at, match_some, own_issue, owned_by, slots_of, waiting, with_own_issue}
-use Rattle.slots.specs.Work.{is_dma, is_queued}
-use Rattle.slots.specs.declared.work.Kind.{Kind}
-use Rattle.slots.specs.declared.work.Kind.TheVariants.{QueuedRead, QueuedWrite, DmaIn, DmaOut, PioIn, PioOut, NoData, Control}
-use Rattle.hba_fbs.specs.Choosing.{Chooses, MayChoose, is_free}
-use Rattle.hba_fbs.specs.Turning.{orders}
-use Rattle.hba_fbs.specs.Views.{Port, last_command, view_of}
-use Rattle.hba_fbs.specs.declared.turn.Turn.{Turn}
+use Rattle.guest_fetch.specs.{Commands.Fetched, declared.moves.Move.Move}
+use Rattle.slots.specs.{Commands.{after_sent, is_slot, sent_issue}, Setup.{begun, whole_context, with_own_context}, Slots.{DeviceSlots, Issue, freed}}
+use Rattle.slots.specs.{Slots.{holds, is_control, issue_at, match_some, own_issue, owned_by, slots_of, waiting, with_own_issue}, Work.is_dma}
+use Rattle.slots.specs.{Work.is_queued, declared.work.Kind.{Kind, TheVariants.{QueuedRead, QueuedWrite, DmaIn, DmaOut, PioIn, PioOut, NoData}}}
+use Rattle.slots.specs.declared.work.Kind.TheVariants.{Control}
+use Rattle.hba_fbs.specs.{Choosing.{Chooses, MayChoose, is_free}, Turning.orders, Views.{Port, last_command, view_of}, declared.turn.Turn.Turn}
 use Rattle.hba_fbs.specs.declared.turn.Turn.TheVariants.{Feeds, Orders, Rests}
 use Rattle.hba_laws.proofs.Door.{own_here, own_in}
-use Rattle.ahci_controller.specs.Moving.{count_of}
-use Rattle.ahci_controller.specs.Next.{Frames, FramesFor, GoesIf, Reads, RestsNow, Turns, TurnsIf, count_next, counted_slot, feed_next, is_halted, next_device, next_read, next_slot, next_write, order_next, payload_step, rest, written}
-use Rattle.ahci_controller.specs.States.{ControllerState, kept}
-use Rattle.ahci_controller.specs.declared.next.Next.{Next}
+use Rattle.ahci_controller.specs.{Moving.count_of, Next.{Frames, FramesFor, GoesIf, Reads, RestsNow, Turns, TurnsIf, count_next, counted_slot}}
+use Rattle.ahci_controller.specs.Next.{feed_next, is_halted, next_device, next_read, next_slot, next_write, order_next, payload_step, rest, written}
+use Rattle.ahci_controller.specs.{States.{ControllerState, kept}, declared.next.Next.Next}
 use Rattle.ahci_controller.specs.declared.next.Next.TheVariants as next
 
 -- what goes was issued and not sent; a command stands there then, sent, and no slot of its device waited

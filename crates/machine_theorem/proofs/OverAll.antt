@@ -1,41 +1,29 @@
 -- A read brings what a write stored before it, over anything in between: the calls of the disk, from the write's end to what is sent of the read.
-use Rattle.std.proofs.Common.{◌≡◌, ℕ, ◌+◌, ◌-◌, ◌*◌, ◌<◌, ◌≤◌, true, false, List, [], ◌∷◌, ◌++◌, append_assoc, length, take, drop, Option, Some}
-use Rattle.std.proofs.Common.{refl, sym, ap, subst, ◌∙◌, inl, inr, arith}
+use Rattle.std.proofs.Common.{◌≡◌, ℕ, ◌+◌, ◌-◌, ◌*◌, ◌<◌, ◌≤◌, true, false, List, [], ◌∷◌, ◌++◌, append_assoc, length, take, drop, Option, Some, refl}
+use Rattle.std.proofs.{Common.{sym, ap, subst, ◌∙◌, inl, inr, arith}, lemmas.{Bool.{false≢true}, List.{drop-append-le, length-append, length-drop}}}
+use Rattle.std.proofs.lemmas.List.{take-append-le}
 use Rattle.std.specs.Prelude.{Bool}
-use Rattle.std.proofs.lemmas.Bool.{false≢true}
-use Rattle.std.proofs.lemmas.List.{drop-append-le, length-append, length-drop, take-append-le}
 use Rattle.block_command.specs.Laws.{IsEarned, ReadIsEarned}
 use Rattle.block_disk.specs.Laws.{Page}
 use Rattle.ata_reply.specs.declared.reply.Reply.TheVariants as replies
 use Rattle.disk_pages.specs.declared.profile.Profile.{Profile}
-use Rattle.sata_disk.specs.Sending.{IsOut}
-use Rattle.sata_disk.specs.State.{DiskState, commands, is_taken, new_disk}
-use Rattle.sata_disk.specs.declared.out.Out.{Out}
+use Rattle.sata_disk.specs.{Sending.IsOut, State.{DiskState, commands, is_taken, new_disk}, declared.out.Out.Out}
 use Rattle.sata_disk.specs.declared.out.Out.TheVariants as out
 use Rattle.sata_disk_books.specs.Books as books
 use Rattle.sata_disk_books.specs.Books.{AreNext, AreOfPage, page_in}
-use Rattle.sata_disk_laws.specs.Awaited.{OutsAreUnderWay, SinglesAreAwaited}
-use Rattle.sata_disk_laws.specs.Calls.{AreCalls, Call, Hears, Sends, after_call, after_calls}
-use Rattle.sata_disk_laws.specs.Laws.{reached}
-use Rattle.sata_disk_laws.specs.Once.{is_for_data}
+use Rattle.sata_disk_laws.specs.{Awaited.{OutsAreUnderWay, SinglesAreAwaited}, Calls.{AreCalls, Call, Hears, Sends, after_call, after_calls}}
+use Rattle.sata_disk_laws.specs.{Laws.reached, Once.is_for_data}
 use Rattle.sata_disk_laws.proofs.Door.{calls_after, calls_both}
-use Rattle.sata_disk_media.specs.Cells.{covers, sector_of}
-use Rattle.sata_disk_media.specs.Laws.{AreSparing, EndsWell, GivenIsWritten, IsBehindWrite, IsTakenAt, UndisturbedIsSpared, next_data}
-use Rattle.sata_disk_media.specs.Media.{IsHonest}
-use Rattle.sata_disk_media.specs.Settled.{WritesAreSettled}
-use Rattle.ahci_machine.specs.States.{MachineState, bay_at}
-use Rattle.ahci_machine.specs.declared.bay.Unit.TheVariants.{Disk}
-use Rattle.machine_laws.specs.ControllerLaws.{RunsRuled}
-use Rattle.machine_laws.specs.Deeds.{Deed}
-use Rattle.machine_laws.specs.Disks.{DisksGoOn, GoesOn, calls_at}
-use Rattle.machine_theorem.specs.Identity.{calls_of}
-use Rattle.machine_theorem.specs.OverAll.{AllStay, DataFollowOverAll, EndedWritesAreSettled, HasFollowed, IsEnded, IsFollowedSoFar, IsOver, IsSaid}
-use Rattle.machine_theorem.specs.OverAll.{IsVacant, ReadsFollowOverAll, SeenReadsFollow, calls_to, end_of}
+use Rattle.sata_disk_media.specs.{Cells.{covers, sector_of}, Laws.{AreSparing, EndsWell, GivenIsWritten, IsBehindWrite, IsTakenAt}}
+use Rattle.sata_disk_media.specs.{Laws.{UndisturbedIsSpared, next_data}, Media.IsHonest, Settled.WritesAreSettled}
+use Rattle.ahci_machine.specs.{States.{MachineState, bay_at}, declared.bay.Unit.TheVariants.Disk}
+use Rattle.machine_laws.specs.{ControllerLaws.RunsRuled, Deeds.Deed, Disks.{DisksGoOn, GoesOn, calls_at}}
+use Rattle.machine_theorem.specs.{Identity.calls_of, OverAll.{AllStay, DataFollowOverAll, EndedWritesAreSettled, HasFollowed, IsEnded}}
+use Rattle.machine_theorem.specs.OverAll.{IsFollowedSoFar, IsOver, IsSaid, IsVacant, ReadsFollowOverAll, SeenReadsFollow, calls_to, end_of}
 use Rattle.machine_theorem.specs.ReadBack.{IsUntouched}
-use Rattle.machine_theorem.proofs.HeardBehind.{calls_then, honest_first, spared}
-use Rattle.machine_theorem.proofs.HeardSince.{TakenIn, data_taken, end_taken, has_given, taken_in}
-use Rattle.machine_theorem.proofs.TagCounts as counts
+use Rattle.machine_theorem.proofs.{HeardBehind.{calls_then, honest_first, spared}, HeardSince.{TakenIn, data_taken, end_taken, has_given, taken_in}}
 use Rattle.machine_theorem.proofs.TagCounts.{first_calls, one_call_more}
+use Rattle.machine_theorem.proofs.TagCounts as counts
 
 pub record Laws : Type 0 where
   pub disks : DisksGoOn

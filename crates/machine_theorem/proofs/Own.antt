@@ -1,22 +1,17 @@
 -- What brings bytes for a slot is of the device that owns it.
-use Rattle.std.proofs.Common.{◌≡◌, List, [], ◌∷◌, Option, Some, None, refl, sym, subst, All, Contains}
+use Rattle.std.proofs.{Common.{◌≡◌, List, [], ◌∷◌, Option, Some, None, refl, sym, subst, All, Contains}, lemmas.List.Elements.{All-contains, All-nil}}
+use Rattle.std.proofs.lemmas.List.Elements.{Contains-append_right, Contains-push}
 use Rattle.std.specs.Prelude.{IfSome, slice_index}
-use Rattle.std.proofs.lemmas.List.Elements.{All-contains, All-nil, Contains-append_right, Contains-push}
 use Rattle.fis_view.specs.Frames.{Stamped}
 use Rattle.hba_fbs.specs.declared.report.Wrote.{Wrote}
 use Rattle.controller_laws.specs.Carrying.{DataIsOwn, IsOwnData}
 use Rattle.controller_laws.specs.Events as call
 use Rattle.ahci_machine.specs.States.{HasRules, MachineState}
 use Rattle.ahci_machine.specs.declared.act.Act.TheVariants as act
-use Rattle.machine_laws.specs.ControllerLaws.{RunsRuled}
-use Rattle.machine_laws.specs.Deeds.{Deed, Moved}
-use Rattle.machine_laws.specs.Rising.{Frames, HaveRisen, IsOfDevice, came_by, frames_after, frames_in, is_reset, no_frames, sent_by}
-use Rattle.machine_theorem.specs.Origins.{IsSentIn}
-use Rattle.machine_theorem.specs.Parts.{IsOwn, PartsAreOwn}
-use Rattle.machine_theorem.proofs.Brought.{Laws}
-use Rattle.machine_theorem.proofs.IsData.{IsDataOr, brings_data}
-use Rattle.machine_theorem.proofs.Sent.{AllSent, each_sent}
-use Rattle.machine_theorem.proofs.Taken.{more_sent}
+use Rattle.machine_laws.specs.{ControllerLaws.RunsRuled, Deeds.{Deed, Moved}, Rising.{Frames, HaveRisen, IsOfDevice, came_by, frames_after}}
+use Rattle.machine_laws.specs.Rising.{frames_in, is_reset, no_frames, sent_by}
+use Rattle.machine_theorem.specs.{Origins.IsSentIn, Parts.{IsOwn, PartsAreOwn}}
+use Rattle.machine_theorem.proofs.{Brought.Laws, IsData.{IsDataOr, brings_data}, Sent.{AllSent, each_sent}, Taken.more_sent}
 
 pub last_ruled : (deeds : List Deed) (old new : MachineState) → RunsRuled old deeds new → HasRules new
 last_ruled [] old new run = subst HasRules (sym run.1) run.0

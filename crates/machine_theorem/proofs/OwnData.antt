@@ -1,56 +1,35 @@
 -- The Data that a disk hears for a queued write went from its own slot.
 use Rattle.std.proofs.Common.{◌≡◌, ℕ, ◌<◌, Bool, true, false, List, [], ◌∷◌, ◌++◌, append_assoc, map, refl, sym, ap, subst, ◌∙◌, Ok}
-use Rattle.std.specs.Prelude.{◌==◌, if◌then◌else◌}
-use Rattle.std.specs.List.{flat_map}
 use Rattle.std.proofs.lemmas.Bool.{eqb-true}
-use Rattle.fis_view.specs.Frames.{Stamped}
-use Rattle.fis_view.specs.Seen.{seen}
+use Rattle.std.specs.{Prelude.{◌==◌, if◌then◌else◌}, List.flat_map}
+use Rattle.fis_view.specs.{Frames.Stamped, Seen.seen}
 use Rattle.fis_view.specs.declared.view.Fis.TheVariants as view
 use Rattle.multiplier.specs.Passing.{of_conn}
 use Rattle.ahci_controller.specs.declared.feeding.Fed.TheVariants as fed_answer
 use Rattle.ahci_controller.specs.declared.latch.Edge.{Edge}
 use Rattle.controller_laws.specs.Events as call
 use Rattle.controller_laws.specs.Events.{Event, Runs}
-use Rattle.sata_disk.specs.Hearing.{receives}
-use Rattle.sata_disk.specs.State.{DiskState, new_disk}
-use Rattle.sata_disk_books.specs.InTurn.{calls_steps}
-use Rattle.sata_disk_books.specs.Talks.{Sign}
-use Rattle.sata_disk_laws.specs.Calls.{AreCalls, Call}
-use Rattle.sata_disk_laws.specs.Once.{AnswersAreSingle, new_host}
+use Rattle.sata_disk.specs.{Hearing.receives, State.{DiskState, new_disk}}
+use Rattle.sata_disk_books.specs.{InTurn.calls_steps, Talks.Sign}
+use Rattle.sata_disk_laws.specs.{Calls.{AreCalls, Call}, Once.{AnswersAreSingle, new_host}}
 use Rattle.sata_disk_laws.proofs.Door.{calls_both}
 use Rattle.ahci_machine.specs.States.{IsOpeningMachine, MachineState, bay_at}
 use Rattle.ahci_machine.specs.declared.act.Act.TheVariants as act
-use Rattle.machine_laws.specs.ControllerLaws.{ControllerRuns, RunsRuled, calls_in}
-use Rattle.machine_laws.specs.Controllers.{ControllerGoesOn, StaysDue, deed_calls}
-use Rattle.machine_laws.specs.Deeds.{Deed, Moved}
-use Rattle.machine_laws.specs.Disks.{DisksGoOn}
-use Rattle.machine_laws.specs.Falling.{heard_by, sent_in}
-use Rattle.machine_laws.specs.Feeding.{OrdersAreIssued}
-use Rattle.machine_laws.specs.Rising.{AreLinked, Frames, FramesAreTaken, FramesRise, HaveRisen, bytes_of, frames_in, frames_of, no_frames, sent_by}
-use Rattle.machine_theorem.specs.Asking.{events_steps}
-use Rattle.machine_theorem.specs.Brought.{AllTakenWell}
-use Rattle.machine_theorem.specs.Crossing.{OrderedLinksKeepPlaces, Within, downs, ups}
-use Rattle.machine_theorem.specs.Identity.{calls_of, heard_as, is_for, picks}
-use Rattle.machine_theorem.specs.OwnSlots.{AllKeepLine, BeginsClear, NoneLost}
+use Rattle.machine_laws.specs.{ControllerLaws.{ControllerRuns, RunsRuled, calls_in}, Controllers.{ControllerGoesOn, StaysDue, deed_calls}, Deeds.Deed}
+use Rattle.machine_laws.specs.{Deeds.Moved, Disks.DisksGoOn, Falling.{heard_by, sent_in}, Feeding.OrdersAreIssued, Rising.{AreLinked, Frames}}
+use Rattle.machine_laws.specs.Rising.{FramesAreTaken, FramesRise, HaveRisen, bytes_of, frames_in, frames_of, no_frames, sent_by}
+use Rattle.machine_theorem.specs.{Asking.events_steps, Brought.AllTakenWell, Crossing.{OrderedLinksKeepPlaces, Within, downs, ups}, Identity.calls_of}
+use Rattle.machine_theorem.specs.{Identity.{heard_as, is_for, picks}, OwnSlots.{AllKeepLine, BeginsClear, NoneLost}}
 use Rattle.machine_theorem.specs.OwnWrites.{DataComeFromTheirOwnSlot}
-use Rattle.machine_theorem.proofs.Cut.{Cut}
-use Rattle.machine_theorem.proofs.DataDeeds.{Found, all_plain, deed_quiet, find, head_or, no_cons}
-use Rattle.machine_theorem.proofs.DataDown.{Split, as_heard, data_sent, data_within, heard_data, heard_down, is_data, is_payload, picks_last, sent_down, size, sizes, sizes_heard, split}
-use Rattle.machine_theorem.proofs.EndsFew.{sent_of}
-use Rattle.machine_theorem.proofs.Fallen as fallen
-use Rattle.machine_theorem.proofs.Fallen.{given_within, line_stays}
-use Rattle.machine_theorem.proofs.Falls as falls
-use Rattle.machine_theorem.proofs.Falls.{Told, controller_runs, told_now}
-use Rattle.machine_theorem.proofs.FallsFew.{came_of}
-use Rattle.machine_theorem.proofs.Ordered.{first_ruled}
-use Rattle.machine_theorem.proofs.Own.{last_ruled}
-use Rattle.machine_theorem.proofs.OwnPlace.{came_one, frames_are, linked}
-use Rattle.machine_theorem.proofs.RisenTold.{conn_both}
-use Rattle.machine_theorem.proofs.SentFises.{GoneOn, stretch_made}
-use Rattle.machine_theorem.proofs.SignsCame.{Begins, begins, events_up, own_up, signs_own}
-use Rattle.machine_theorem.proofs.SignsSent.{all_well, signs_both, signs_in, stretch_up, up_in, well_both}
-use Rattle.machine_theorem.proofs.TakenWell.{WellRun, well_run}
+use Rattle.machine_theorem.proofs.{Cut.Cut, DataDeeds.{Found, all_plain, deed_quiet, find, head_or, no_cons}, DataDown.{Split, as_heard, data_sent}}
+use Rattle.machine_theorem.proofs.DataDown.{data_within, heard_data, heard_down, is_data, is_payload, picks_last, sent_down, size, sizes, sizes_heard}
+use Rattle.machine_theorem.proofs.{DataDown.split, EndsFew.sent_of, Fallen.{given_within, line_stays}, Falls.{Told, controller_runs, told_now}}
+use Rattle.machine_theorem.proofs.{FallsFew.came_of, Ordered.first_ruled, Own.last_ruled, OwnPlace.{came_one, frames_are, linked}}
+use Rattle.machine_theorem.proofs.{RisenTold.conn_both, SentFises.{GoneOn, stretch_made}, SignsCame.{Begins, begins, events_up, own_up, signs_own}}
+use Rattle.machine_theorem.proofs.{SignsSent.{all_well, signs_both, signs_in, stretch_up, up_in, well_both}, TakenWell.{WellRun, well_run}}
 use Rattle.machine_theorem.proofs.Within.{picks_both, within_map, within_picks, within_then}
+use Rattle.machine_theorem.proofs.Fallen as fallen
+use Rattle.machine_theorem.proofs.Falls as falls
 
 pub record Laws : Type 0 where
   pub falls : falls.Laws

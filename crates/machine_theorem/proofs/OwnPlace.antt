@@ -1,51 +1,34 @@
 -- The Data of a queued read go to its own slot: what the FISes say that came is what those say that were sent before.
-use Rattle.std.proofs.Common.{◌≡◌, ◌⊎◌, ℕ, ◌<◌, Bool, true, false, List, [], ◌∷◌, ◌++◌, append_assoc, append-nil, refl, sym, ap, subst, ◌∙◌, inl, inr, Option, Some, None, Ok, Err, All}
-use Rattle.std.specs.Prelude.{◌==◌, drop, if◌then◌else◌}
-use Rattle.std.specs.Option.{option_to_list}
-use Rattle.std.proofs.lemmas.Bool.{and_parts, false≢true}
-use Rattle.std.proofs.lemmas.List.Elements.{All-contains, Contains-push}
-use Rattle.fis_view.specs.Frames.{Stamped}
-use Rattle.fis_view.specs.Seen.{seen}
+use Rattle.std.proofs.Common.{◌≡◌, ◌⊎◌, ℕ, ◌<◌, Bool, true, false, List, [], ◌∷◌, ◌++◌, append_assoc, append-nil, refl, sym, ap, subst, ◌∙◌, inl, inr}
+use Rattle.std.proofs.{Common.{Option, Some, None, Ok, Err, All}, lemmas.{Bool.{and_parts, false≢true}, List.Elements.{All-contains, Contains-push}}}
+use Rattle.std.specs.{Prelude.{◌==◌, drop, if◌then◌else◌}, Option.option_to_list}
+use Rattle.fis_view.specs.{Frames.Stamped, Seen.seen}
 use Rattle.multiplier.specs.Passing.{of_conn}
-use Rattle.slots.specs.Slots.{Issue, issue_at, match_some}
-use Rattle.slots.specs.declared.work.Kind.TheVariants.{QueuedRead}
-use Rattle.hba_fbs.specs.Taking.{port_of}
-use Rattle.hba_fbs.specs.declared.report.Wrote.{Wrote}
-use Rattle.ahci_controller.specs.Taking.{is_overflow}
-use Rattle.ahci_controller.specs.declared.taking.Took.{Took}
+use Rattle.slots.specs.{Slots.{Issue, issue_at, match_some}, declared.work.Kind.TheVariants.QueuedRead}
+use Rattle.hba_fbs.specs.{Taking.port_of, declared.report.Wrote.Wrote}
+use Rattle.ahci_controller.specs.{Taking.is_overflow, declared.taking.Took.Took}
 use Rattle.controller_laws.specs.Events as call
 use Rattle.controller_laws.specs.Events.{Event}
 use Rattle.block_disk.specs.Laws.{Page}
 use Rattle.disk_pages.specs.declared.profile.Profile.{Profile}
-use Rattle.sata_disk.specs.Sending.{IsOut, part_at}
-use Rattle.sata_disk.specs.State.{DiskState, commands, new_disk}
+use Rattle.sata_disk.specs.{Sending.{IsOut, part_at}, State.{DiskState, commands, new_disk}, declared.out.Out.Out}
 use Rattle.block_queue.specs.Line.{command_at}
-use Rattle.sata_disk.specs.declared.out.Out.{Out}
 use Rattle.sata_disk.specs.declared.out.Out.TheVariants as out
-use Rattle.sata_disk_books.specs.Books.{AreNext, AreOfPage, DataAreGiven, page_in}
-use Rattle.sata_disk_books.specs.Counted.{Counted}
-use Rattle.sata_disk_books.specs.Fises.{AreFises, FisesTell, told_after, told_by}
-use Rattle.sata_disk_laws.specs.Calls.{AreCalls, Call, after_calls}
-use Rattle.sata_disk_laws.specs.Laws.{reached}
+use Rattle.sata_disk_books.specs.{Books.{AreNext, AreOfPage, DataAreGiven, page_in}, Counted.Counted, Fises.{AreFises, FisesTell, told_after}}
+use Rattle.sata_disk_books.specs.Fises.{told_by}
+use Rattle.sata_disk_laws.specs.{Calls.{AreCalls, Call, after_calls}, Laws.reached}
 use Rattle.sata_disk_laws.proofs.Door.{calls_after, calls_both}
-use Rattle.ahci_machine.specs.States.{IsOpeningMachine, MachineState, bay_at}
-use Rattle.ahci_machine.specs.declared.act.Act.{Act}
+use Rattle.ahci_machine.specs.{States.{IsOpeningMachine, MachineState, bay_at}, declared.{act.Act.Act, bay.Unit.TheVariants.Disk}}
 use Rattle.ahci_machine.specs.declared.act.Act.TheVariants as act
-use Rattle.ahci_machine.specs.declared.bay.Unit.TheVariants.{Disk}
-use Rattle.machine_laws.specs.ControllerLaws.{ControllerRuns, RunsRuled, calls_in}
-use Rattle.machine_laws.specs.Deeds.{Deed, Does, FrameOffered, Moved}
-use Rattle.machine_laws.specs.Disks.{DisksGoOn}
-use Rattle.machine_laws.specs.Rising.{AreLinked, CarriesPart, DataCarryParts, Frames, FramesAreTaken, FramesRise, HaveRisen, RisesInOrder, bytes_of, came_by, frames_in, frames_of, held_at, is_over, is_reset, more_frames, no_frames, on_way, risen, sent_by, untaken}
-use Rattle.machine_theorem.specs.Identity.{calls_of}
-use Rattle.machine_theorem.specs.OwnSlots.{AllKeepLine, AreOne, BeginsClear, IsAtPlace, KeepsLine, IsOfOwnSlot, NoneLost, OfItsPlace, PayloadGoesToItsOwnSlot, is_of}
-use Rattle.machine_theorem.specs.Following.{AllHeardWell, DataFollowSetups, told_calls}
-use Rattle.machine_theorem.proofs.Cut.{Cut, cut_here, cut_more}
-use Rattle.machine_theorem.proofs.EndsFew.{disk_same, sent_of}
+use Rattle.machine_laws.specs.{ControllerLaws.{ControllerRuns, RunsRuled, calls_in}, Deeds.{Deed, Does, FrameOffered, Moved}, Disks.DisksGoOn}
+use Rattle.machine_laws.specs.Rising.{AreLinked, CarriesPart, DataCarryParts, Frames, FramesAreTaken, FramesRise, HaveRisen, RisesInOrder, bytes_of}
+use Rattle.machine_laws.specs.Rising.{came_by, frames_in, frames_of, held_at, is_over, is_reset, more_frames, no_frames, on_way, risen, sent_by}
+use Rattle.machine_laws.specs.Rising.{untaken}
+use Rattle.machine_theorem.specs.{Identity.calls_of, OwnSlots.{AllKeepLine, AreOne, BeginsClear, IsAtPlace, KeepsLine, IsOfOwnSlot, NoneLost}}
+use Rattle.machine_theorem.specs.{OwnSlots.{OfItsPlace, PayloadGoesToItsOwnSlot, is_of}, Following.{AllHeardWell, DataFollowSetups, told_calls}}
+use Rattle.machine_theorem.proofs.{Cut.{Cut, cut_here, cut_more}, EndsFew.{disk_same, sent_of}, Falls.{Told, told_now}, FallsFew.came_of}
+use Rattle.machine_theorem.proofs.{RisenTold.conn_both, SentFises.{GoneOn, sender_is, stretch_made}}
 use Rattle.machine_theorem.proofs.Falls as falls
-use Rattle.machine_theorem.proofs.Falls.{Told, told_now}
-use Rattle.machine_theorem.proofs.FallsFew.{came_of}
-use Rattle.machine_theorem.proofs.RisenTold.{conn_both}
-use Rattle.machine_theorem.proofs.SentFises.{GoneOn, sender_is, stretch_made}
 
 pub record Laws : Type 0 where
   pub falls : falls.Laws

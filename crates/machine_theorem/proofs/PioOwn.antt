@@ -1,87 +1,53 @@
 -- The command that is not queued, and whose bit of PxCI falls, is the one that its disk ended, be it by a Register FIS or by the last Data of a PIO data-in.
-use Rattle.std.proofs.Common.{◌≡◌, ℕ, suc, ◌+◌, ◌<◌, ◌≤◌, ◌&&◌, Bool, true, false, not, List, [], ◌∷◌, ◌++◌, append_assoc, length, Option, Some, None, refl, sym, ap, subst, ◌∙◌, inl, inr, arith}
-use Rattle.std.specs.Prelude.{◌==◌, ◌||◌, if◌then◌else◌, nat_lt, MatchOption}
-use Rattle.std.specs.List.{flat_map}
-use Rattle.std.proofs.lemmas.List.{length-append}
-use Rattle.fis_view.specs.Frames.{Stamped, marked}
-use Rattle.fis_view.specs.Seen.{seen}
+use Rattle.std.proofs.Common.{◌≡◌, ℕ, suc, ◌+◌, ◌<◌, ◌≤◌, ◌&&◌, Bool, true, false, not, List, [], ◌∷◌, ◌++◌, append_assoc, length, Option, Some, None}
+use Rattle.std.proofs.{Common.{refl, sym, ap, subst, ◌∙◌, inl, inr, arith}, lemmas.List.{length-append}}
+use Rattle.std.specs.{Prelude.{◌==◌, ◌||◌, if◌then◌else◌, nat_lt, MatchOption}, List.flat_map}
+use Rattle.fis_view.specs.{Frames.{Stamped, marked}, Seen.seen}
 use Rattle.multiplier.specs.Passing.{of_conn}
 use Rattle.slots.specs.Slots.{Issue, context_of, is_pio, is_waiting, issue_at, own_issue, slots_of}
 use Rattle.hba_commands.specs.declared.command.Command as core_command
-use Rattle.hba_laws.specs.CoreHistories.{CoreViewsAreTold}
-use Rattle.hba_laws.specs.History.{Setup}
+use Rattle.hba_laws.specs.{CoreHistories.CoreViewsAreTold, History.Setup}
 use Rattle.hba_laws.proofs.Door.{own_here}
 use Rattle.ahci_controller.specs.States.{ControllerState}
 use Rattle.ahci_controller.specs.declared.next.Next.TheVariants as next
 use Rattle.controller_laws.specs.Events as call
-use Rattle.controller_laws.specs.Events.{Event, IsController, Runs}
-use Rattle.controller_laws.specs.Sources.{IsIssuedFrom, command_of}
+use Rattle.controller_laws.specs.{Events.{Event, IsController, Runs}, Sources.{IsIssuedFrom, command_of}}
 use Rattle.ata_reply.specs.declared.reply.Reply.TheVariants as replies
 use Rattle.disk_pages.specs.declared.profile.Profile.{Profile}
-use Rattle.sata_disk.specs.Sending.{IsOut}
-use Rattle.sata_disk.specs.State.{DiskState, new_disk}
-use Rattle.sata_disk.specs.declared.out.Out.{Out}
+use Rattle.sata_disk.specs.{Sending.IsOut, State.{DiskState, new_disk}, declared.out.Out.Out}
 use Rattle.sata_disk.specs.declared.out.Out.TheVariants as out
-use Rattle.sata_disk_books.specs.Books.{page_in}
-use Rattle.sata_disk_books.specs.Ended.{SinglesAreOfPages}
-use Rattle.sata_disk_books.specs.LastData.{sets_up_last}
-use Rattle.sata_disk_laws.specs.Calls.{AreCalls, Call, Hears, Sends, after_calls}
-use Rattle.sata_disk_laws.specs.Laws.{reached}
-use Rattle.sata_disk_laws.specs.Once.{AnswersAreSingle, ForLast, ForNothing, Host, IsDataAt, IsOutDue, host_of, new_host}
+use Rattle.sata_disk_books.specs.{Books.page_in, Ended.SinglesAreOfPages, LastData.sets_up_last}
+use Rattle.sata_disk_laws.specs.{Calls.{AreCalls, Call, Hears, Sends, after_calls}, Laws.reached, Once.{AnswersAreSingle, ForLast, ForNothing, Host}}
+use Rattle.sata_disk_laws.specs.Once.{IsDataAt, IsOutDue, host_of, new_host}
 use Rattle.sata_disk_laws.proofs.Door.{calls_after, calls_both}
 use Rattle.ahci_machine.specs.States.{IsOpeningMachine, MachineState, bay_at}
 use Rattle.ahci_machine.specs.declared.act.Act.TheVariants as act
-use Rattle.machine_laws.specs.ControllerLaws.{ControllerRuns, OpensSo, RunsRuled, calls_in}
-use Rattle.machine_laws.specs.Controllers.{GathersDue}
-use Rattle.machine_laws.specs.Deeds.{Deed, Does, FrameOffered, Moved}
-use Rattle.machine_laws.specs.Disks.{DisksGoOn, calls_at}
-use Rattle.machine_laws.specs.Falling.{AllLast, HasLink, heard_by}
-use Rattle.machine_laws.specs.Feeding.{IsOrderOf, IsOrdered}
-use Rattle.machine_laws.specs.Rising.{AreLinked, Frames, FramesAreTaken, FramesRise, HaveRisen, bytes_of, frames_in, frames_of, no_frames, risen, sent_by}
-use Rattle.machine_theorem.specs.Completed.{CompletionsAreOfDevices}
-use Rattle.machine_theorem.specs.Given.{IsWhole}
-use Rattle.machine_theorem.specs.Ending.{AllKeepEnding, SentLastWait, UnqueuedCommandsWait, carries}
-use Rattle.machine_theorem.specs.Identity.{calls_of, picks}
-use Rattle.machine_theorem.specs.InTurn.{AreKeptOn, IsIdle, heard_in, is_answer, is_answering, is_asking}
-use Rattle.machine_theorem.specs.OwnSlots.{AllKeepLine, KeepsLine, is_of}
-use Rattle.machine_theorem.specs.PioIn.{IsAnsweredThere, IsDoneThere, IsEndedThere, IsWholeThere, PlainUnqueuedAreOfSlots, UnqueuedAreOfSlots}
-use Rattle.machine_theorem.specs.Settled.{AreSettled, CommandsAreSettledInTurn, IsAskedInTurn, IsBehindLastBlock, IsSettledLast, IsUnsettled, SectorsEndByData, IsWholeInTurn, is_data, settled_in}
-use Rattle.machine_theorem.specs.Singles.{AllOfDevice, BeginsIdle, IsFromSlot, IsSlots}
-use Rattle.machine_theorem.specs.Tags.{once_if}
-use Rattle.machine_theorem.specs.Transfers.{TransfersEndSo, is_transferring}
-use Rattle.machine_theorem.specs.Waits.{IsWaitingAlone, commanded_in, is_commanded, waits_in}
-use Rattle.machine_theorem.proofs.Answered.{heard_both}
-use Rattle.machine_theorem.proofs.AsSupplied.{supplied_in}
+use Rattle.machine_laws.specs.{ControllerLaws.{ControllerRuns, OpensSo, RunsRuled, calls_in}, Controllers.GathersDue, Deeds.{Deed, Does}}
+use Rattle.machine_laws.specs.{Deeds.{FrameOffered, Moved}, Disks.{DisksGoOn, calls_at}, Falling.{AllLast, HasLink, heard_by}, Feeding.IsOrderOf}
+use Rattle.machine_laws.specs.{Feeding.IsOrdered, Rising.{AreLinked, Frames, FramesAreTaken, FramesRise, HaveRisen, bytes_of, frames_in, frames_of}}
+use Rattle.machine_laws.specs.Rising.{no_frames, risen, sent_by}
+use Rattle.machine_theorem.specs.{Completed.CompletionsAreOfDevices, Given.IsWhole, Ending.{AllKeepEnding, SentLastWait, UnqueuedCommandsWait}}
+use Rattle.machine_theorem.specs.{Ending.carries, Identity.{calls_of, picks}, InTurn.{AreKeptOn, IsIdle, heard_in, is_answer, is_answering}}
+use Rattle.machine_theorem.specs.{InTurn.is_asking, OwnSlots.{AllKeepLine, KeepsLine, is_of}, PioIn.{IsAnsweredThere, IsDoneThere, IsEndedThere}}
+use Rattle.machine_theorem.specs.{PioIn.{IsWholeThere, PlainUnqueuedAreOfSlots, UnqueuedAreOfSlots}, Settled.{AreSettled, CommandsAreSettledInTurn}}
+use Rattle.machine_theorem.specs.Settled.{IsAskedInTurn, IsBehindLastBlock, IsSettledLast, IsUnsettled, SectorsEndByData, IsWholeInTurn, is_data}
+use Rattle.machine_theorem.specs.{Settled.settled_in, Singles.{AllOfDevice, BeginsIdle, IsFromSlot, IsSlots}, Tags.once_if, Transfers.TransfersEndSo}
+use Rattle.machine_theorem.specs.{Transfers.is_transferring, Waits.{IsWaitingAlone, commanded_in, is_commanded, waits_in}, Crossing.Within}
+use Rattle.machine_theorem.proofs.{Answered.heard_both, AsSupplied.supplied_in, Asking.all_none as data_none, Closing.{EndsTrue, await_settled, due}}
+use Rattle.machine_theorem.proofs.{Closing.{due_shut, settled_last, taken_kinds}, Commanded.{AreNoCommands, all_none, asked, asked_few, heard_long}}
+use Rattle.machine_theorem.proofs.{EndsFew.{disk_same, sent_of}, ErrorNone.{IsErrorFis, fails_with}, Fallen.{heard_among, line_stays}, Falls.Told}
+use Rattle.machine_theorem.proofs.{Falls.{kept_of, told_after, told_now}, FallsFew.came_of, KindsSent.{frames_kinds, said_kinds, said_long}}
+use Rattle.machine_theorem.proofs.{KindsSent.{sent_within, taken_within}, LastSent.{LastSent, last_sent}, OneConn.ends_same, Ordered.first_ruled}
+use Rattle.machine_theorem.proofs.{Own.last_ruled, OwnPlace.{Found, InOrder, came_one, find, frames_are, head_or, in_order, linked, port_is}}
+use Rattle.machine_theorem.proofs.{OwnPlace.untaken_is, RegistersSent.says, SentFises.{GoneOn, offers_none, sender_is, stretch_made}, Still.fis_of}
+use Rattle.machine_theorem.proofs.{Stretch.whole_run, Shutting.is_shut, SinglesOwn.{completed_by, completed_waits, earns, kept_behind, kept_first}}
+use Rattle.machine_theorem.proofs.{SinglesOwn.{last_heard, no_error, owner_is}, TagCounts.due_at, Waiting.{low_slot, some_waits}, Within.all_of}
+use Rattle.machine_theorem.proofs.{Within.{fewer, within_picks, within_then}, EndedByData.{answered_less, behind_block, data_ends, says_data}}
 use Rattle.machine_theorem.proofs.Asking as asking
-use Rattle.machine_theorem.proofs.Asking.{all_none as data_none}
-use Rattle.machine_theorem.proofs.Closing.{EndsTrue, await_settled, due, due_shut, settled_last, taken_kinds}
-use Rattle.machine_theorem.proofs.Commanded.{AreNoCommands, all_none, asked, asked_few, heard_long}
-use Rattle.machine_theorem.proofs.EndsFew.{disk_same, sent_of}
-use Rattle.machine_theorem.proofs.ErrorNone.{IsErrorFis, fails_with}
 use Rattle.machine_theorem.proofs.Fallen as fallen
-use Rattle.machine_theorem.proofs.Fallen.{heard_among, line_stays}
 use Rattle.machine_theorem.proofs.Falls as falls
-use Rattle.machine_theorem.proofs.Falls.{Told, kept_of, told_after, told_now}
-use Rattle.machine_theorem.proofs.FallsFew.{came_of}
-use Rattle.machine_theorem.proofs.KindsSent.{frames_kinds, said_kinds, said_long, sent_within, taken_within}
-use Rattle.machine_theorem.proofs.LastSent.{LastSent, last_sent}
-use Rattle.machine_theorem.proofs.OneConn.{ends_same}
-use Rattle.machine_theorem.proofs.Ordered.{first_ruled}
-use Rattle.machine_theorem.proofs.Own.{last_ruled}
-use Rattle.machine_theorem.proofs.OwnPlace.{Found, InOrder, came_one, find, frames_are, head_or, in_order, linked, port_is, untaken_is}
-use Rattle.machine_theorem.proofs.RegistersSent.{says}
-use Rattle.machine_theorem.proofs.SentFises.{GoneOn, offers_none, sender_is, stretch_made}
 use Rattle.machine_theorem.proofs.Still as still
-use Rattle.machine_theorem.proofs.Still.{fis_of}
-use Rattle.machine_theorem.proofs.Stretch.{whole_run}
-use Rattle.machine_theorem.proofs.Shutting.{is_shut}
-use Rattle.machine_theorem.proofs.SinglesOwn.{completed_by, completed_waits, earns, kept_behind, kept_first, last_heard, no_error, owner_is}
-use Rattle.machine_theorem.proofs.TagCounts.{due_at}
 use Rattle.machine_theorem.proofs.Waiting as waiting
-use Rattle.machine_theorem.proofs.Waiting.{low_slot, some_waits}
-use Rattle.machine_theorem.specs.Crossing.{Within}
-use Rattle.machine_theorem.proofs.Within.{all_of, fewer, within_picks, within_then}
-use Rattle.machine_theorem.proofs.EndedByData.{answered_less, behind_block, data_ends, says_data}
 
 pub record Laws : Type 0 where
   pub falls : falls.Laws

@@ -1,35 +1,23 @@
 -- A guest that keeps to commands which are not queued: its deeds are calls of the controller as PlainSinglesAreOfSlots asks for; and the deed by which a
 -- command went.
-use Rattle.std.proofs.Common.{◌≡◌, ℕ, Bool, true, false, List, [], ◌∷◌, ◌++◌, sym, ap, subst, ◌∙◌, refl, Option, Some, None, Result, Ok, Err, inl, inr}
-use Rattle.std.specs.Prelude.{MatchOption}
-use Rattle.std.specs.Bool.{MatchBool}
-use Rattle.std.specs.declared.alloc.AllocError.{AllocError}
+use Rattle.std.proofs.Common.{◌≡◌, ℕ, Bool, true, false, List, [], ◌∷◌, ◌++◌, sym, ap, subst, ◌∙◌, refl, Option, Some, None, Result, Ok, Err, inl}
+use Rattle.std.proofs.Common.{inr}
+use Rattle.std.specs.{Prelude.MatchOption, Bool.MatchBool, declared.alloc.AllocError.AllocError}
 use Rattle.fis_view.specs.Frames.{Stamped}
-use Rattle.ahci_controller.specs.States.{ControllerState}
-use Rattle.ahci_controller.specs.declared.next.Next.{Next}
+use Rattle.ahci_controller.specs.{States.ControllerState, declared.{next.Next.Next, taking.Hindrance.Hindrance}}
 use Rattle.ahci_controller.specs.declared.next.Next.TheVariants as next
-use Rattle.ahci_controller.specs.declared.taking.Hindrance.{Hindrance}
 use Rattle.controller_laws.specs.Events as call
 use Rattle.controller_laws.specs.Events.{Event, Runs}
 use Rattle.ahci_machine.specs.Acts as acts
-use Rattle.ahci_machine.specs.Answers.{IsStale, MissesFor, MissesMachine, SuppliesMachine, is_wanted}
-use Rattle.ahci_machine.specs.Gathers.{GatheringState}
-use Rattle.ahci_machine.specs.States.{MachineState, gathering_at}
-use Rattle.ahci_machine.specs.declared.act.Act.{Act}
+use Rattle.ahci_machine.specs.{Answers.{IsStale, MissesFor, MissesMachine, SuppliesMachine, is_wanted}, Gathers.GatheringState, States.MachineState}
+use Rattle.ahci_machine.specs.{States.gathering_at, declared.{act.Act.Act, answers.Told.Told, request.Wanted.{Wanted, TheVariants.{Command, Data}}}}
 use Rattle.ahci_machine.specs.declared.act.Act.TheVariants as act
-use Rattle.ahci_machine.specs.declared.answers.Told.{Told}
-use Rattle.ahci_machine.specs.declared.request.Wanted.{Wanted}
-use Rattle.ahci_machine.specs.declared.request.Wanted.TheVariants.{Command, Data}
-use Rattle.machine_laws.specs.ControllerLaws.{ControllerRuns, RunsRuled, calls_in}
-use Rattle.machine_laws.specs.Controllers.{ControllerGoesOn, GathersDue, StaysDue, data_calls, deed_calls, lost_calls, miss_calls, move_calls, rest_calls, supply_calls}
-use Rattle.machine_laws.specs.Deeds.{Deed, Does, Missed, Moved, Supplied, Wrote}
-use Rattle.machine_theorem.specs.SingleData.{AllUnqueued, HasNoQueued}
-use Rattle.machine_theorem.specs.SingleWrites.{AllKeepPlain, KeepsPlain}
-use Rattle.machine_theorem.specs.Singles.{AllOfDevice, IsOfDevice}
+use Rattle.machine_laws.specs.{ControllerLaws.{ControllerRuns, RunsRuled, calls_in}, Controllers.{ControllerGoesOn, GathersDue, StaysDue, data_calls}}
+use Rattle.machine_laws.specs.{Controllers.{deed_calls, lost_calls, miss_calls, move_calls, rest_calls, supply_calls}, Deeds.{Deed, Does, Missed}}
+use Rattle.machine_laws.specs.Deeds.{Moved, Supplied, Wrote}
+use Rattle.machine_theorem.specs.{SingleData.{AllUnqueued, HasNoQueued}, SingleWrites.{AllKeepPlain, KeepsPlain}, Singles.{AllOfDevice, IsOfDevice}}
 use Rattle.machine_theorem.specs.Waits.{AllPlain, HasPlain, SparesWaiting, waits_in}
-use Rattle.machine_theorem.proofs.Cut.{Cut, cut_here, cut_more}
-use Rattle.machine_theorem.proofs.Few.{AreFew, are_few}
-use Rattle.machine_theorem.proofs.Ordered.{first_ruled}
+use Rattle.machine_theorem.proofs.{Cut.{Cut, cut_here, cut_more}, Few.{AreFew, are_few}, Ordered.first_ruled}
 
 -- ---- calls that are neither a write nor what is next
 

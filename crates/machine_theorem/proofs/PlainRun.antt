@@ -3,16 +3,10 @@ use Rattle.std.proofs.Common.{ℕ, Bool, List, [], ◌∷◌, ◌++◌, sym, ap,
 use Rattle.ahci_controller.specs.States.{ControllerState}
 use Rattle.controller_laws.specs.Events.{Event, Runs}
 use Rattle.ahci_machine.specs.States.{MachineState}
-use Rattle.machine_laws.specs.ControllerLaws.{ControllerRuns, RunsRuled, calls_in}
-use Rattle.machine_laws.specs.Controllers.{ControllerGoesOn, GathersDue, StaysDue, deed_calls}
+use Rattle.machine_laws.specs.{ControllerLaws.{ControllerRuns, RunsRuled, calls_in}, Controllers.{ControllerGoesOn, GathersDue, StaysDue, deed_calls}}
 use Rattle.machine_laws.specs.Deeds.{Deed}
-use Rattle.machine_theorem.specs.Brought.{AllTakenWell}
-use Rattle.machine_theorem.specs.Following.{AllHeardWell}
-use Rattle.machine_theorem.specs.SingleBytes.{AllKeepPlain}
-use Rattle.machine_theorem.specs.Singles.{AllOfDevice}
-use Rattle.machine_theorem.specs.Waits.{AllPlain}
-use Rattle.machine_theorem.proofs.Ordered.{first_ruled}
-use Rattle.machine_theorem.proofs.TakenWell.{deed_well}
+use Rattle.machine_theorem.specs.{Brought.AllTakenWell, Following.AllHeardWell, SingleBytes.AllKeepPlain, Singles.AllOfDevice, Waits.AllPlain}
+use Rattle.machine_theorem.proofs.{Ordered.first_ruled, TakenWell.deed_well}
 
 record PlainCalls (many : Bool) (n dev : ℕ) (old : ControllerState) (events : List Event) (new : ControllerState) : Type 0 where
   run : Runs old events new

@@ -1,56 +1,33 @@
 -- A command that is neither queued nor a PIO data-in waits in its slot until its device answers, if the guest spares it.
-use Rattle.std.proofs.Common.{◌≡◌, ℕ, zero, suc, ◌<◌, ◌^◌, ◌&&◌, Bool, true, false, not, List, [], ◌∷◌, ◌++◌, drop, refl, sym, ap, ◌∙◌, arith, Option, Some, None}
-use Rattle.std.specs.Prelude.{◌==◌, IfSome, is_some, if◌then◌else◌}
-use Rattle.std.specs.Option.{option_map}
-use Rattle.std.proofs.lemmas.Bool.{eq-eqb, eqb-true, false≢true}
+use Rattle.std.proofs.Common.{◌≡◌, ℕ, zero, suc, ◌<◌, ◌^◌, ◌&&◌, Bool, true, false, not, List, [], ◌∷◌, ◌++◌, drop, refl, sym, ap, ◌∙◌, arith, Option}
+use Rattle.std.proofs.{Common.{Some, None}, lemmas.Bool.{eq-eqb, eqb-true, false≢true}}
+use Rattle.std.specs.{Prelude.{◌==◌, IfSome, is_some, if◌then◌else◌}, Option.option_map}
 use Rattle.guest_fetch.specs.Commands.{Fetched}
 use Rattle.host_memory.specs.declared.table.Prd.{Prd}
 use Rattle.hba_commands.specs.declared.command.Command.{Command}
-use Rattle.slots.specs.Data.{payload}
-use Rattle.slots.specs.Slots.{Issue, context_of, has_bit, holds, is_pio, is_waiting, issue_at, match_some, own_issue, slots_of, waiting}
-use Rattle.slots.specs.Work.{is_dma, is_queued, is_read}
-use Rattle.slots.specs.declared.work.Work.{Work}
+use Rattle.slots.specs.{Data.payload, Slots.{Issue, context_of, has_bit, holds, is_pio, is_waiting, issue_at, match_some, own_issue, slots_of}}
+use Rattle.slots.specs.{Slots.waiting, Work.{is_dma, is_queued, is_read}, declared.work.Work.Work}
 use Rattle.slots.proofs.Door.{lowest_is, own_at}
-use Rattle.hba_fbs.specs.Offering.{asked_by}
-use Rattle.hba_fbs.specs.Registers.{falls}
-use Rattle.hba_fbs.specs.Taking.{port_of}
-use Rattle.hba_fbs.specs.Turning.{feeds}
-use Rattle.hba_fbs.specs.Views.{Port, last_command, view_of}
-use Rattle.hba_fbs.specs.declared.error.WriteError.{WriteError}
-use Rattle.hba_fbs.specs.declared.report.TakeReport.{TakeReport}
-use Rattle.hba_fbs.specs.declared.turn.Turn.{Turn}
-use Rattle.hba_fbs.specs.declared.turn.Turn.TheVariants.{Feeds, Orders, Rests}
-use Rattle.hba_laws.specs.Agreement.{IsTold, work_of_issue, work_of_transfer}
-use Rattle.hba_laws.specs.Alike.{told_issue, told_issued}
-use Rattle.hba_laws.specs.CoreHistories.{event_by, happened, history_through, turned_for}
+use Rattle.hba_fbs.specs.{Offering.asked_by, Registers.falls, Taking.port_of, Turning.feeds, Views.{Port, last_command, view_of}}
+use Rattle.hba_fbs.specs.declared.{error.WriteError.WriteError, report.TakeReport.TakeReport, turn.Turn.{Turn, TheVariants.{Feeds, Orders, Rests}}}
+use Rattle.hba_laws.specs.{Agreement.{IsTold, work_of_issue, work_of_transfer}, Alike.{told_issue, told_issued}, CoreHistories.{event_by, happened}}
+use Rattle.hba_laws.specs.{CoreHistories.{history_through, turned_for}, Cores.{CoreEvent, RunsBy}, Delivering.{begun_by, event_sent}}
+use Rattle.hba_laws.specs.{Delivering.is_control_issue, History.{Event, History, Transfer, completes, is_at, issued, unless, waiting_in}}
 use Rattle.hba_laws.specs.Cores as core
-use Rattle.hba_laws.specs.Cores.{CoreEvent, RunsBy}
-use Rattle.hba_laws.specs.Delivering.{begun_by, event_sent, is_control_issue}
 use Rattle.hba_laws.specs.History as history
-use Rattle.hba_laws.specs.History.{Event, History, Transfer, completes, is_at, issued, unless, waiting_in}
 use Rattle.hba_laws.proofs.Door.{held, own_in}
-use Rattle.ahci_controller.specs.Issuing.{device_of, offered_command}
-use Rattle.ahci_controller.specs.Next.{is_halted, next_write, written}
-use Rattle.ahci_controller.specs.Offers.{offer_in}
-use Rattle.ahci_controller.specs.States.{ControllerState, kept}
-use Rattle.ahci_controller.specs.declared.feeding.Fed.{Fed}
+use Rattle.ahci_controller.specs.{Issuing.{device_of, offered_command}, Next.{is_halted, next_write, written}, Offers.offer_in}
+use Rattle.ahci_controller.specs.{States.{ControllerState, kept}, declared.{feeding.Fed.Fed, issuing.Supply.Supply, next.Next.Next}}
 use Rattle.ahci_controller.specs.declared.feeding.Fed.TheVariants as fed_answer
-use Rattle.ahci_controller.specs.declared.issuing.Supply.{Supply}
 use Rattle.ahci_controller.specs.declared.issuing.Supply.TheVariants as supply_answer
-use Rattle.ahci_controller.specs.declared.next.Next.{Next}
 use Rattle.ahci_controller.specs.declared.next.Next.TheVariants as next_step
-use Rattle.controller_laws.specs.CoreEvents.{no_tables, of_event, of_fed, of_frame, of_next, of_supply, of_turn}
+use Rattle.controller_laws.specs.{CoreEvents.{no_tables, of_event, of_fed, of_frame, of_next, of_supply, of_turn}, Events.{Does, Event as Call}}
+use Rattle.controller_laws.specs.Events.{IsController, Runs}
 use Rattle.controller_laws.specs.Events as call
-use Rattle.controller_laws.specs.Events.{Does, Event as Call, IsController, Runs}
-use Rattle.machine_theorem.specs.Commands.{is_issue, issues_in}
-use Rattle.machine_theorem.specs.InTurn.{is_answering}
-use Rattle.machine_theorem.specs.Waits.{AllKeepWaiting, AllPlain, HasPlain, KeepsWaiting, PlainCommandsWait, SparesWaiting, is_answered, is_command_issue, is_commanded, waits_in}
-use Rattle.machine_theorem.proofs.AnswersHeard.{IsMild, fis_mild}
-use Rattle.machine_theorem.proofs.CoreStems.{PlaceNone, supply_none}
-use Rattle.machine_theorem.proofs.OrderedOnce.{IsOrderedOnce, ordered_once}
-use Rattle.machine_theorem.proofs.SetupFrames.{the_issue}
-use Rattle.machine_theorem.proofs.Unread.{is_alone}
-use Rattle.machine_theorem.proofs.Waiting.{Laws, commanded_free, core_events, first_kept, owner, some_waits}
+use Rattle.machine_theorem.specs.{Commands.{is_issue, issues_in}, InTurn.is_answering, Waits.{AllKeepWaiting, AllPlain, HasPlain, KeepsWaiting}}
+use Rattle.machine_theorem.specs.Waits.{PlainCommandsWait, SparesWaiting, is_answered, is_command_issue, is_commanded, waits_in}
+use Rattle.machine_theorem.proofs.{AnswersHeard.{IsMild, fis_mild}, CoreStems.{PlaceNone, supply_none}, OrderedOnce.{IsOrderedOnce, ordered_once}}
+use Rattle.machine_theorem.proofs.{SetupFrames.the_issue, Unread.is_alone, Waiting.{Laws, commanded_free, core_events, first_kept, owner, some_waits}}
 
 -- ---- histories
 

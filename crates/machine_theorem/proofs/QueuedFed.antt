@@ -1,48 +1,29 @@
 -- What a disk takes for a queued write, of a guest that sends it queued commands alone: it went of the slot of the tag, as it was supplied for it.
 use Rattle.std.proofs.Common.{◌≡◌, ℕ, ◌<◌, Bool, true, List, [], ◌++◌, sym, ap, ◌∙◌, Ok, Some, inl}
-use Rattle.std.specs.Prelude.{drop}
-use Rattle.std.specs.List.{flat_map}
-use Rattle.fis_view.specs.Frames.{Stamped}
-use Rattle.fis_view.specs.Seen.{seen}
+use Rattle.std.specs.{Prelude.drop, List.flat_map}
+use Rattle.fis_view.specs.{Frames.Stamped, Seen.seen}
 use Rattle.fis_view.specs.declared.view.Fis.TheVariants as view
 use Rattle.slots.specs.declared.work.Kind.TheVariants.{QueuedWrite}
 use Rattle.ahci_controller.specs.declared.feeding.Fed.TheVariants as fed_answer
 use Rattle.controller_laws.specs.Events.{Event}
 use Rattle.block_queue.specs.Line.{command_at}
-use Rattle.sata_disk.specs.Hearing.{receives}
-use Rattle.sata_disk.specs.State.{commands, new_disk}
+use Rattle.sata_disk.specs.{Hearing.receives, State.{commands, new_disk}}
 use Rattle.sata_disk_books.specs.InTurn.{AreOfQueue, AwaitsNone}
-use Rattle.sata_disk_laws.specs.Calls.{AreCalls}
-use Rattle.sata_disk_laws.specs.Laws.{reached}
+use Rattle.sata_disk_laws.specs.{Calls.AreCalls, Laws.reached}
 use Rattle.ahci_machine.specs.States.{IsOpeningMachine, bay_at}
 use Rattle.ahci_machine.specs.declared.act.Act.TheVariants as act
-use Rattle.machine_laws.specs.ControllerLaws.{calls_in}
-use Rattle.machine_laws.specs.Controllers.{deed_calls}
-use Rattle.machine_laws.specs.Deeds.{Deed, Moved}
-use Rattle.machine_laws.specs.Falling.{AllLast, HasLink, heard_by, sent_in}
+use Rattle.machine_laws.specs.{ControllerLaws.calls_in, Controllers.deed_calls, Deeds.{Deed, Moved}, Falling.{AllLast, HasLink, heard_by, sent_in}}
 use Rattle.machine_laws.specs.Feeding.{came_in}
-use Rattle.machine_theorem.specs.Brought.{AllTakenWell, DiskStretch}
-use Rattle.machine_theorem.specs.Crossing.{Within}
-use Rattle.machine_theorem.specs.Fed.{FedDataAreOfTheirSlots, IsFedFor}
-use Rattle.machine_theorem.specs.Given.{CommandsAreGiven, IsWhole}
-use Rattle.machine_theorem.specs.Identity.{AllKeep, IsAtRest}
-use Rattle.machine_theorem.specs.OwnSlots.{AllKeepLine, BeginsClear, NoneLost}
-use Rattle.machine_theorem.specs.OwnWrites.{AreOwnData}
-use Rattle.machine_theorem.specs.QueuedWrites.{AllQueued, HasQueued, QueuedAloneIsServed, QueuedWritesAreAsSupplied}
+use Rattle.machine_theorem.specs.{Brought.{AllTakenWell, DiskStretch}, Crossing.Within, Fed.{FedDataAreOfTheirSlots, IsFedFor}}
+use Rattle.machine_theorem.specs.{Given.{CommandsAreGiven, IsWhole}, Identity.{AllKeep, IsAtRest}, OwnSlots.{AllKeepLine, BeginsClear, NoneLost}}
+use Rattle.machine_theorem.specs.{OwnWrites.AreOwnData, QueuedWrites.{AllQueued, HasQueued, QueuedAloneIsServed, QueuedWritesAreAsSupplied}}
 use Rattle.machine_theorem.specs.TakenWrites.{IsSuppliedWrite}
-use Rattle.machine_theorem.proofs.EndsFew.{disk_same}
-use Rattle.machine_theorem.proofs.Fallen.{heard_within}
-use Rattle.machine_theorem.proofs.FedKinds.{write_kind}
-use Rattle.machine_theorem.proofs.HostShut.{none_heard}
-use Rattle.machine_theorem.proofs.OrderCut.{Joined, joined}
+use Rattle.machine_theorem.proofs.{EndsFew.disk_same, Fallen.heard_within, FedKinds.write_kind, HostShut.none_heard, OrderCut.{Joined, joined}}
+use Rattle.machine_theorem.proofs.{ServesQueued.serves, Sent.marked_rest, Stretch.{HasDisk, Stretch, calls, due_at, has_disk}, WentBehind.Behind}
+use Rattle.machine_theorem.proofs.{WentBehind.{fell_in, went_behind}, WritesOwn.{Awaits, awaits}}
 use Rattle.machine_theorem.proofs.OwnData as data_of
 use Rattle.machine_theorem.proofs.ServesQueued as serves_of
-use Rattle.machine_theorem.proofs.ServesQueued.{serves}
-use Rattle.machine_theorem.proofs.Sent.{marked_rest}
-use Rattle.machine_theorem.proofs.Stretch.{HasDisk, Stretch, calls, due_at, has_disk}
 use Rattle.machine_theorem.proofs.TheSlots as slots
-use Rattle.machine_theorem.proofs.WentBehind.{Behind, fell_in, went_behind}
-use Rattle.machine_theorem.proofs.WritesOwn.{Awaits, awaits}
 
 -- ---- what the disk serves
 

@@ -4,36 +4,22 @@ use Rattle.std.specs.Prelude.{drop}
 use Rattle.fis_view.specs.Frames.{Stamped}
 use Rattle.hba_fbs.specs.declared.report.Wrote.{Wrote}
 use Rattle.block_queue.specs.Line.{command_at}
-use Rattle.sata_disk.specs.Sending.{IsOut, part_at}
-use Rattle.sata_disk.specs.State.{commands}
+use Rattle.sata_disk.specs.{Sending.{IsOut, part_at}, State.commands}
 use Rattle.sata_disk.specs.declared.out.Out.TheVariants as out
-use Rattle.sata_disk_laws.specs.Calls.{Call, Sends}
-use Rattle.sata_disk_laws.specs.Laws.{reached}
-use Rattle.sata_disk_media.specs.Laws.{HasSector, ReadsBringWrites, UndisturbedIsSpared, sector_in}
-use Rattle.sata_disk_media.specs.Media.{IsHonest}
+use Rattle.sata_disk_laws.specs.{Calls.{Call, Sends}, Laws.reached}
+use Rattle.sata_disk_media.specs.{Laws.{HasSector, ReadsBringWrites, UndisturbedIsSpared, sector_in}, Media.IsHonest}
 use Rattle.ahci_machine.specs.States.{MachineState}
 use Rattle.ahci_machine.specs.declared.act.Act.TheVariants as act
-use Rattle.machine_laws.specs.Deeds.{Deed, Does, Moved}
-use Rattle.machine_laws.specs.Disks.{calls_at}
-use Rattle.machine_laws.specs.Rising.{sent_by}
-use Rattle.machine_theorem.specs.Completions.{IsDone}
-use Rattle.machine_theorem.specs.FirstDeeds.{first_deeds, first_run, machine_at}
-use Rattle.machine_theorem.specs.Identity.{AllKeep, IsAtRest, calls_of, own_of}
-use Rattle.machine_theorem.specs.OwnSlots.{AllKeepLine, BeginsClear, is_of}
-use Rattle.machine_theorem.specs.ReadBack.{GuestsReadBack, IfQueuedData, IsBack, IsReadBack}
+use Rattle.machine_laws.specs.{Deeds.{Deed, Does, Moved}, Disks.calls_at, Rising.sent_by}
+use Rattle.machine_theorem.specs.{Completions.IsDone, FirstDeeds.{first_deeds, first_run, machine_at}, Identity.{AllKeep, IsAtRest, calls_of, own_of}}
+use Rattle.machine_theorem.specs.{OwnSlots.{AllKeepLine, BeginsClear, is_of}, ReadBack.{GuestsReadBack, IfQueuedData, IsBack, IsReadBack}}
 use Rattle.machine_theorem.specs.Writes.{WritesAreSupplied}
 use Rattle.machine_theorem.proofs.AsSupplied as supplied
-use Rattle.machine_theorem.proofs.CameFirst.{few_fell}
-use Rattle.machine_theorem.proofs.EndsFew.{disk_same}
-use Rattle.machine_theorem.proofs.FirstDeeds.{Fell, fell}
-use Rattle.machine_theorem.proofs.Given.{taken_data}
-use Rattle.machine_theorem.proofs.HeardAfter.{Part, behind_of, fall, heard, part, to, with_tag}
-use Rattle.machine_theorem.proofs.OwnPlace.{IsFound, found_at, part_of, place_of, sends_of}
-use Rattle.machine_theorem.proofs.OwnPlace as places
-use Rattle.machine_theorem.proofs.ReadsOwn.{brought_as}
-use Rattle.machine_theorem.proofs.Stretch.{Fall, Stretch, calls, has_disk}
-use Rattle.machine_theorem.proofs.TheirSlots.{EndsIn, ends_in, is_done}
+use Rattle.machine_theorem.proofs.{CameFirst.few_fell, EndsFew.disk_same, FirstDeeds.{Fell, fell}, Given.taken_data, HeardAfter.{Part, behind_of}}
+use Rattle.machine_theorem.proofs.{HeardAfter.{fall, heard, part, to, with_tag}, OwnPlace.{IsFound, found_at, part_of, place_of, sends_of}}
+use Rattle.machine_theorem.proofs.{ReadsOwn.brought_as, Stretch.{Fall, Stretch, calls, has_disk}, TheirSlots.{EndsIn, ends_in, is_done}}
 use Rattle.machine_theorem.proofs.WrittenSupplied.{written_supplied}
+use Rattle.machine_theorem.proofs.OwnPlace as places
 
 -- ---- the moment of the Data
 

@@ -1,32 +1,17 @@
 -- Read after write, as the guest sees it: a read that it sees completed.
 use Rattle.std.proofs.Common.{◌≡◌, ℕ, ◌<◌, ◌≤◌, true, false, List, [], ◌∷◌, ◌++◌, append_assoc, sym, ap, subst, ◌∙◌, arith}
 use Rattle.fis_view.specs.Frames.{Stamped}
-use Rattle.block_command.specs.declared.command.Command.{Command}
-use Rattle.block_command.specs.Laws.{IsEarned, ReadIsEarned}
-use Rattle.block_command.specs.Moments.{is_verify}
+use Rattle.block_command.specs.{declared.command.Command.Command, Laws.{IsEarned, ReadIsEarned}, Moments.is_verify}
 use Rattle.sata_disk.specs.State.{commands, is_taken, new_disk}
 use Rattle.sata_disk.specs.declared.out.Out.TheVariants as out
-use Rattle.sata_disk_laws.specs.Calls.{AreCalls, Call, Sends}
-use Rattle.sata_disk_laws.specs.Laws.{reached}
-use Rattle.sata_disk_media.specs.Cells.{sector_of}
-use Rattle.sata_disk_media.specs.Laws.{GivenIsWritten, UndisturbedIsSpared}
-use Rattle.sata_disk_media.specs.Media.{IsHonest}
-use Rattle.machine_theorem.specs.Completions.{IsDone}
-use Rattle.machine_theorem.specs.FirstDeeds.{first_deeds, first_run, machine_at}
-use Rattle.machine_theorem.specs.Identity.{AllKeep, IsAtRest, calls_of, own_of}
-use Rattle.machine_theorem.specs.ReadsFollow.{CompletedReadsFollowWrites, IsFollowed, IsFollowing}
-use Rattle.machine_theorem.specs.Tags.{ended_with}
-use Rattle.machine_theorem.specs.Writes.{WritesAreSupplied}
+use Rattle.sata_disk_laws.specs.{Calls.{AreCalls, Call, Sends}, Laws.reached}
+use Rattle.sata_disk_media.specs.{Cells.sector_of, Laws.{GivenIsWritten, UndisturbedIsSpared}, Media.IsHonest}
+use Rattle.machine_theorem.specs.{Completions.IsDone, FirstDeeds.{first_deeds, first_run, machine_at}, Identity.{AllKeep, IsAtRest, calls_of, own_of}}
+use Rattle.machine_theorem.specs.{ReadsFollow.{CompletedReadsFollowWrites, IsFollowed, IsFollowing}, Tags.ended_with, Writes.WritesAreSupplied}
 use Rattle.machine_theorem.proofs.AsSupplied as supplied
-use Rattle.machine_theorem.proofs.FirstDeeds.{Fell, fell}
-use Rattle.machine_theorem.proofs.HeardAfter.{Part, behind_of, fall, heard, to, with_tag}
-use Rattle.machine_theorem.proofs.HeardBehind.{taken_queued}
-use Rattle.machine_theorem.proofs.HeardSince.{has_given}
-use Rattle.machine_theorem.proofs.Stretch.{Fall, Stretch, calls, falls, has_disk, was_free}
-use Rattle.machine_theorem.proofs.TagCounts.{ends_it, first_calls}
-use Rattle.machine_theorem.proofs.TagPages.{page_same}
-use Rattle.machine_theorem.proofs.TheirSlots.{EndsIn, ends_in, is_done}
-use Rattle.machine_theorem.proofs.WrittenSupplied.{written_supplied}
+use Rattle.machine_theorem.proofs.{FirstDeeds.{Fell, fell}, HeardAfter.{Part, behind_of, fall, heard, to, with_tag}, HeardBehind.taken_queued}
+use Rattle.machine_theorem.proofs.{HeardSince.has_given, Stretch.{Fall, Stretch, calls, falls, has_disk, was_free}, TagCounts.{ends_it, first_calls}}
+use Rattle.machine_theorem.proofs.{TagPages.page_same, TheirSlots.{EndsIn, ends_in, is_done}, WrittenSupplied.written_supplied}
 
 module _ (laws : supplied.Laws) (given : GivenIsWritten) (undisturbed : UndisturbedIsSpared) (writes : WritesAreSupplied)
     (s : Stretch) (r : ℕ) (low : r < 32) (rest : IsAtRest s.many s.n r s.old s.before s.at s.first) (keeps : AllKeep s.many s.n r s.at s.deeds s.now s.run)

@@ -7,25 +7,17 @@ use Rattle.hba_fbs.specs.declared.report.Wrote.{Wrote}
 use Rattle.block_disk.specs.Laws.{Page}
 use Rattle.sata_disk.specs.State.{DiskState}
 use Rattle.sata_disk.specs.declared.out.Out.TheVariants as out
-use Rattle.sata_disk_books.specs.Books.{AreNext, page_in}
-use Rattle.sata_disk_books.specs.Fises.{told_after}
+use Rattle.sata_disk_books.specs.{Books.{AreNext, page_in}, Fises.told_after}
 use Rattle.sata_disk_laws.specs.Laws.{reached}
-use Rattle.ahci_machine.specs.declared.act.Act.{Act}
+use Rattle.ahci_machine.specs.{declared.{act.Act.Act, bay.Unit.TheVariants.Disk}, States.bay_at}
 use Rattle.ahci_machine.specs.declared.act.Act.TheVariants as act
-use Rattle.ahci_machine.specs.States.{bay_at}
-use Rattle.ahci_machine.specs.declared.bay.Unit.TheVariants.{Disk}
-use Rattle.machine_laws.specs.Deeds.{Deed, Does, Moved}
-use Rattle.machine_laws.specs.Rising.{bytes_of, sent_by}
-use Rattle.machine_theorem.specs.Given.{IsGivenData}
-use Rattle.machine_theorem.specs.Identity.{calls_of}
-use Rattle.machine_theorem.specs.OwnSlots.{BeginsClear, IsAtPlace, is_of}
-use Rattle.machine_theorem.specs.Reads.{IsBroughtAsRead, IsReadOf, OfItsRead, ReadsAreAsSupplied}
+use Rattle.machine_laws.specs.{Deeds.{Deed, Does, Moved}, Rising.{bytes_of, sent_by}}
+use Rattle.machine_theorem.specs.{Given.IsGivenData, Identity.calls_of, OwnSlots.{BeginsClear, IsAtPlace, is_of}, Reads.{IsBroughtAsRead, IsReadOf}}
+use Rattle.machine_theorem.specs.Reads.{OfItsRead, ReadsAreAsSupplied}
 use Rattle.machine_theorem.proofs.AsSupplied as supplied
-use Rattle.machine_theorem.proofs.EndsFew.{disk_same}
-use Rattle.machine_theorem.proofs.Given.{given_data}
-use Rattle.machine_theorem.proofs.OwnPlace.{Found, IsFound, found_at, place_of, speaker}
+use Rattle.machine_theorem.proofs.{EndsFew.disk_same, Given.given_data, OwnPlace.{Found, IsFound, found_at, place_of, speaker}, Stretch.Stretch}
+use Rattle.machine_theorem.proofs.Stretch.{front}
 use Rattle.machine_theorem.proofs.OwnPlace as places
-use Rattle.machine_theorem.proofs.Stretch.{Stretch, front}
 
 pub one_page : (a b : Page) → Some a ≡ Some b → a ≡ b
 one_page a b e = ap (λ (o : Option Page). match_some o a (λ x. x)) e

@@ -1,61 +1,33 @@
 -- A FIS that goes from a slot is a Register FIS: no other is taken for the FIS of a command.
-use Rattle.std.proofs.Common.{◌≡◌, ℕ, Bool, true, false, List, [], ◌∷◌, get_or, set, length, Option, Some, None, Result, Ok, refl, sym, ap, ◌∙◌, subst}
+use Rattle.std.proofs.Common.{◌≡◌, ℕ, Bool, true, false, List, [], ◌∷◌, get_or, set, length, Option, Some, None, Result, Ok, refl, sym, ap, ◌∙◌}
+use Rattle.std.proofs.{Common.subst, lemmas.Bool.{and_parts, false≢true}}
 use Rattle.std.specs.Prelude.{◌==◌, MatchOption, if◌then◌else◌, nat_le, nat_lt, not, replicate, slice_index}
-use Rattle.std.proofs.lemmas.Bool.{and_parts, false≢true}
-use Rattle.fis_view.specs.Seen.{seen}
-use Rattle.fis_view.specs.declared.view.Fis.{Fis}
+use Rattle.fis_view.specs.{Seen.seen, declared.view.{Fis.Fis, FisFault.FisFault}}
 use Rattle.fis_view.specs.declared.view.Fis.TheVariants as view
-use Rattle.fis_view.specs.declared.view.FisFault.{FisFault}
 use Rattle.slots.specs.Slots.{match_some}
-use Rattle.guest_fetch.specs.Commands.{Fetched}
-use Rattle.guest_fetch.specs.Entries.{entries_at, first_fault}
-use Rattle.guest_fetch.specs.Fetch.{Fetching}
-use Rattle.guest_fetch.specs.Fetching.{Supplies, SuppliesAt, asked, framed, going, headed, no_entries, supplied_at, tabled, wants_more}
-use Rattle.guest_fetch.specs.Headers.{header_in, header_place, header_refusal}
-use Rattle.guest_fetch.specs.Heads.{cfis_of, fields_in, fis_refusal, head_of, is_command, is_command_view}
-use Rattle.guest_fetch.specs.Places.{Places}
-use Rattle.guest_fetch.specs.Spans.{left_of, with_entries}
-use Rattle.guest_fetch.specs.declared.entry.FaultyEntry.{FaultyEntry}
-use Rattle.guest_fetch.specs.declared.fetch.Step.{Step}
-use Rattle.guest_fetch.specs.declared.fetch.Step.TheVariants.{AtEntries, AtFis, AtHeader}
-use Rattle.guest_fetch.specs.declared.fetch.Supplied.{Supplied}
-use Rattle.guest_fetch.specs.declared.fetch.Supplied.TheVariants as came
-use Rattle.guest_fetch.specs.declared.head.Head.{Head}
-use Rattle.guest_fetch.specs.declared.header.Header.{Header}
+use Rattle.guest_fetch.specs.{Commands.Fetched, Entries.{entries_at, first_fault}, Fetch.Fetching, Fetching.{Supplies, SuppliesAt, asked, framed}}
+use Rattle.guest_fetch.specs.{Fetching.{going, headed, no_entries, supplied_at, tabled, wants_more}, Headers.{header_in, header_place}}
+use Rattle.guest_fetch.specs.{Headers.header_refusal, Heads.{cfis_of, fields_in, fis_refusal, head_of, is_command, is_command_view}, Places.Places}
+use Rattle.guest_fetch.specs.{Spans.{left_of, with_entries}, declared.{entry.FaultyEntry.FaultyEntry, fetch.Step.{Step, TheVariants.AtEntries}}}
+use Rattle.guest_fetch.specs.declared.{fetch.{Step.TheVariants.{AtFis, AtHeader}, Supplied.Supplied}, head.Head.Head, header.Header.Header}
 use Rattle.guest_fetch.specs.declared.refusal.Refusal.{Refusal}
+use Rattle.guest_fetch.specs.declared.fetch.Supplied.TheVariants as came
 use Rattle.guest_fetch.specs.declared.refusal.Refusal.TheVariants as refusal
 use Rattle.block_disk.proofs.Door.{each_is}
 use Rattle.hba_commands.specs.declared.command.Command as core_command
-use Rattle.hba_fbs.specs.Choosing.{may_feed}
-use Rattle.hba_fbs.specs.declared.report.Wrote.{Wrote}
-use Rattle.hba_fbs.specs.declared.turn.Turn.{Turn}
-use Rattle.hba_fbs.specs.declared.turn.Turn.TheVariants.{Feeds}
-use Rattle.ahci_controller.specs.Access.{fits as fits_width}
-use Rattle.ahci_controller.specs.Feeding.{GathersIf, Loses, LosesIf, MissesIf as MissesDataIf, SendsIf, sent_to, without_feeding}
-use Rattle.ahci_controller.specs.Fetching.{GoesOn, MissesIf, SuppliesIf, answered, fetch_of, fits, is_asked, without_fetch}
-use Rattle.ahci_controller.specs.Issuing.{PlacesSlot, RefusesSlot, not_issued}
-use Rattle.ahci_controller.specs.Moving.{commands_after, moved_on}
-use Rattle.ahci_controller.specs.Next.{is_fed, turn_to}
-use Rattle.ahci_controller.specs.Opening.{IsOpening}
-use Rattle.ahci_controller.specs.Own.{list_of}
-use Rattle.ahci_controller.specs.Rules.{IsOffered}
-use Rattle.ahci_controller.specs.States.{ControllerState, fetch_at, kept}
-use Rattle.ahci_controller.specs.Taking.{brought}
-use Rattle.ahci_controller.specs.Wide.{WritesFitting}
-use Rattle.ahci_controller.specs.declared.access.Width.{Width}
-use Rattle.ahci_controller.specs.declared.feeding.Fed.{Fed}
-use Rattle.ahci_controller.specs.declared.issuing.NotTaken.{NotTaken}
-use Rattle.ahci_controller.specs.declared.issuing.Supply.{Supply}
+use Rattle.hba_fbs.specs.{Choosing.may_feed, declared.{report.Wrote.Wrote, turn.Turn.{Turn, TheVariants.Feeds}}}
+use Rattle.ahci_controller.specs.{Access.fits as fits_width, Feeding.{GathersIf, Loses, LosesIf, MissesIf as MissesDataIf, SendsIf, sent_to}}
+use Rattle.ahci_controller.specs.{Feeding.without_feeding, Fetching.{GoesOn, MissesIf, SuppliesIf, answered, fetch_of, fits, is_asked, without_fetch}}
+use Rattle.ahci_controller.specs.{Issuing.{PlacesSlot, RefusesSlot, not_issued}, Moving.{commands_after, moved_on}, Next.{is_fed, turn_to}}
+use Rattle.ahci_controller.specs.{Opening.IsOpening, Own.list_of, Rules.IsOffered, States.{ControllerState, fetch_at, kept}, Taking.brought}
+use Rattle.ahci_controller.specs.{Wide.WritesFitting, declared.{access.Width.Width, feeding.Fed.Fed, issuing.{NotTaken.NotTaken, Supply.Supply}}}
 use Rattle.ahci_controller.specs.declared.wide.WideWritten.{WideWritten}
 use Rattle.controller_laws.specs.Events as event
 use Rattle.controller_laws.specs.Events.{Does, Event, Runs}
-use Rattle.controller_laws.proofs.TouchLemmas.{IsCalm, Touches, no_fetch, part_touches, turn_calm, write_touches}
-use Rattle.controller_laws.proofs.TouchLemmas.Touches.{Drops, Keeps}
+use Rattle.controller_laws.proofs.TouchLemmas.{IsCalm, Touches, no_fetch, part_touches, turn_calm, write_touches, Touches.{Drops, Keeps}}
 use Rattle.machine_laws.specs.Feeding.{IsOrderOf}
 use Rattle.machine_theorem.specs.Commands.{IsSentFrom}
-use Rattle.machine_theorem.proofs.Came.{set_each}
-use Rattle.machine_theorem.proofs.FromHost.{no_data}
-use Rattle.machine_theorem.proofs.Ordered.{last_kept}
+use Rattle.machine_theorem.proofs.{Came.set_each, FromHost.no_data, Ordered.last_kept}
 
 -- ---- what is read of the guest
 

@@ -1,47 +1,27 @@
 -- A disk sends no more Register FISes than answers, and no more of a device are taken than came of its connection.
 use Rattle.std.proofs.Common.{◌≡◌, ℕ, ◌+◌, ◌≤◌, ◌&&◌, Bool, true, false, List, [], ◌∷◌, ◌++◌, length, Result, Ok, Err, refl, sym, ap, ◌∙◌, arith}
+use Rattle.std.proofs.lemmas.{Bool.{and_parts, eq-eqb, false≢true}, List.{length-append}}
 use Rattle.std.specs.Prelude.{◌==◌, if◌then◌else◌, slice_index}
-use Rattle.std.proofs.lemmas.Bool.{and_parts, eq-eqb, false≢true}
-use Rattle.std.proofs.lemmas.List.{length-append}
-use Rattle.fis_view.specs.Frames.{Stamped}
-use Rattle.fis_view.specs.Seen.{kind_of, seen}
+use Rattle.fis_view.specs.{Frames.Stamped, Seen.{kind_of, seen}, Table.Kind, declared.view.{Fis.Fis, FisFault.FisFault}}
 use Rattle.fis_view.specs.Table as table
-use Rattle.fis_view.specs.Table.{Kind}
-use Rattle.fis_view.specs.declared.view.Fis.{Fis}
 use Rattle.fis_view.specs.declared.view.Fis.TheVariants as view
-use Rattle.fis_view.specs.declared.view.FisFault.{FisFault}
 use Rattle.multiplier.specs.Passing.{of_conn}
 use Rattle.hba_fbs.specs.Taking.{port_of}
-use Rattle.ata_reply.specs.Replies.{Shows}
-use Rattle.ata_reply.specs.declared.reply.Reply.{Reply}
+use Rattle.ata_reply.specs.{Replies.Shows, declared.reply.Reply.Reply}
 use Rattle.ata_reply.specs.declared.reply.Reply.TheVariants as replies
-use Rattle.sata_disk.specs.State.{DiskState}
-use Rattle.sata_disk.specs.declared.out.Out.{Out}
+use Rattle.sata_disk.specs.{State.DiskState, declared.out.Out.Out}
 use Rattle.sata_disk.specs.declared.out.Out.TheVariants as out
 use Rattle.sata_disk_laws.specs.Calls.{Call, Sends, after_calls}
 use Rattle.controller_laws.specs.Events as call
 use Rattle.controller_laws.specs.Events.{Event}
-use Rattle.ahci_machine.specs.States.{MachineState, bay_at}
+use Rattle.ahci_machine.specs.{States.{MachineState, bay_at}, declared.bay.Unit.TheVariants.Disk}
 use Rattle.ahci_machine.specs.declared.act.Act.TheVariants as act
-use Rattle.ahci_machine.specs.declared.bay.Unit.TheVariants.{Disk}
-use Rattle.machine_laws.specs.ControllerLaws.{RunsRuled}
-use Rattle.machine_laws.specs.Deeds.{Deed, Does, FrameOffered, Moved}
-use Rattle.machine_laws.specs.Disks.{DisksGoOn, calls_at}
-use Rattle.machine_laws.specs.Rising.{bytes_of, frames_of, risen, sent_by}
-use Rattle.machine_theorem.specs.Identity.{calls_of, picks}
-use Rattle.machine_theorem.specs.InTurn.{answered_in, answers, is_answer, is_answering, is_register}
-use Rattle.machine_theorem.specs.OwnSlots.{AllKeepLine, AreOne, KeepsLine, is_of}
-use Rattle.machine_theorem.specs.Tags.{once_if}
-use Rattle.machine_theorem.specs.Waits.{taken_in}
-use Rattle.machine_theorem.proofs.Answered.{answered_both}
-use Rattle.machine_theorem.proofs.EndSent.{kind_view, seen_kind}
-use Rattle.machine_theorem.proofs.EndsFew.{sent_of}
-use Rattle.machine_theorem.proofs.Fallen.{left_there}
-use Rattle.machine_theorem.proofs.Risen.{if_more}
-use Rattle.machine_theorem.proofs.RisenTold.{conn_both}
-use Rattle.machine_theorem.proofs.Sent.{type_is}
-use Rattle.machine_theorem.proofs.SentFises.{offers_none, sender_is}
-use Rattle.machine_theorem.proofs.Within.{picks_both}
+use Rattle.machine_laws.specs.{ControllerLaws.RunsRuled, Deeds.{Deed, Does, FrameOffered, Moved}, Disks.{DisksGoOn, calls_at}, Rising.bytes_of}
+use Rattle.machine_laws.specs.Rising.{frames_of, risen, sent_by}
+use Rattle.machine_theorem.specs.{Identity.{calls_of, picks}, InTurn.{answered_in, answers, is_answer, is_answering, is_register}}
+use Rattle.machine_theorem.specs.{OwnSlots.{AllKeepLine, AreOne, KeepsLine, is_of}, Tags.once_if, Waits.taken_in}
+use Rattle.machine_theorem.proofs.{Answered.answered_both, EndSent.{kind_view, seen_kind}, EndsFew.sent_of, Fallen.left_there, Risen.if_more}
+use Rattle.machine_theorem.proofs.{RisenTold.conn_both, Sent.type_is, SentFises.{offers_none, sender_is}, Within.picks_both}
 
 abbrev pub answers_by : Stamped → Bool
 answers_by f = is_answering f.bytes

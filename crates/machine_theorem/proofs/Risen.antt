@@ -1,20 +1,13 @@
 -- A bit of PxSACT that falls as a FIS is taken falls by an end that the disk at the port sent, and each end takes it once.
-use Rattle.std.proofs.Common.{◌≡◌, ℕ, zero, suc, ◌+◌, ◌≤◌, ◌&&◌, Bool, true, false, List, [], ◌∷◌, ◌++◌, length, Result, Ok, Err, refl, sym, ap, subst, ◌∙◌, inl, inr, arith}
+use Rattle.std.proofs.Common.{◌≡◌, ℕ, zero, suc, ◌+◌, ◌≤◌, ◌&&◌, Bool, true, false, List, [], ◌∷◌, ◌++◌, length, Result, Ok, Err, refl, sym, ap}
+use Rattle.std.proofs.{Common.{subst, ◌∙◌, inl, inr, arith}, lemmas.Bool.{cases_lt, eq-eqb, eqb-true, false≢true, lt-ltb, ltb-true}}
 use Rattle.std.specs.Prelude.{◌==◌, nat_lt, if◌then◌else◌}
-use Rattle.std.proofs.lemmas.Bool.{cases_lt, eq-eqb, eqb-true, false≢true, lt-ltb, ltb-true}
-use Rattle.fis_view.specs.Frames.{Stamped}
-use Rattle.fis_view.specs.Seen.{seen}
-use Rattle.fis_view.specs.Table.{Bits, SActive, field}
-use Rattle.fis_view.specs.declared.view.Fis.{Fis}
+use Rattle.fis_view.specs.{Frames.Stamped, Seen.seen, Table.{Bits, SActive, field}, declared.view.{Fis.Fis, FisFault.FisFault}}
 use Rattle.fis_view.specs.declared.view.Fis.TheVariants as view
-use Rattle.fis_view.specs.declared.view.FisFault.{FisFault}
 use Rattle.multiplier.specs.Passing.{of_conn}
 use Rattle.slots.specs.Slots.{has_bit}
-use Rattle.machine_theorem.specs.Identity.{names_in, picks}
-use Rattle.machine_theorem.specs.Tags.{once_if}
-use Rattle.machine_theorem.proofs.Names.{same_frame}
-use Rattle.machine_theorem.specs.Crossing.{Within}
-use Rattle.machine_theorem.proofs.Within.{fewer, first_within}
+use Rattle.machine_theorem.specs.{Identity.{names_in, picks}, Tags.once_if, Crossing.Within}
+use Rattle.machine_theorem.proofs.{Names.same_frame, Within.{fewer, first_within}}
 
 -- ---- ends
 

@@ -1,19 +1,13 @@
 -- What the FISes of a disk say by their bytes they say as they came up, too: only the PM Port is written on the way.
-use Rattle.std.proofs.Common.{◌≡◌, ℕ, zero, suc, ◌+◌, ◌*◌, ◌-◌, ◌≤◌, ◌^◌, Bool, true, false, List, [], ◌∷◌, ◌++◌, length, refl, ap, ◌∙◌, arith, Option, Some}
-use Rattle.std.specs.Prelude.{◌==◌, ◌&&◌, ◌/◌, ◌%◌, map, slice_index, slice_set, if◌then◌else◌, Ok, Err}
-use Rattle.std.specs.Int.{bit_at}
-use Rattle.std.proofs.lemmas.List.{get_or-set_other, length-set}
-use Rattle.fis_view.specs.Frames.{Stamped, marked}
-use Rattle.fis_view.specs.Seen.{kind_of, kind_of_type, may_have, seen, view_as}
+use Rattle.std.proofs.Common.{◌≡◌, ℕ, zero, suc, ◌+◌, ◌*◌, ◌-◌, ◌≤◌, ◌^◌, Bool, true, false, List, [], ◌∷◌, ◌++◌, length, refl, ap, ◌∙◌, arith}
+use Rattle.std.proofs.{Common.{Option, Some}, lemmas.List.{get_or-set_other, length-set}}
+use Rattle.std.specs.{Prelude.{◌==◌, ◌&&◌, ◌/◌, ◌%◌, map, slice_index, slice_set, if◌then◌else◌, Ok, Err}, Int.bit_at}
+use Rattle.fis_view.specs.{Frames.{Stamped, marked}, Seen.{kind_of, kind_of_type, may_have, seen, view_as}, Bits.bits, Table.{Kind, field, places}}
+use Rattle.fis_view.specs.{Table.spelled, declared.view.FisFault.TheVariants.WrongLength}
 use Rattle.fis_view.specs.Table as table
-use Rattle.fis_view.specs.Bits.{bits}
-use Rattle.fis_view.specs.Table.{Kind, field, places, spelled}
-use Rattle.fis_view.specs.declared.view.FisFault.TheVariants.{WrongLength}
-use Rattle.fan_out.specs.declared.fan_out.FanOut.{FanOut}
-use Rattle.fan_out.specs.declared.fan_out.FanOut.TheVariants.{Device, Multiplier}
+use Rattle.fan_out.specs.declared.fan_out.FanOut.{FanOut, TheVariants.{Device, Multiplier}}
 use Rattle.multiplier.specs.Passing.{of_conn}
-use Rattle.sata_disk_books.specs.Counted.{Counted, more_by}
-use Rattle.sata_disk_books.specs.Fises.{told_after, told_by}
+use Rattle.sata_disk_books.specs.{Counted.{Counted, more_by}, Fises.{told_after, told_by}}
 use Rattle.machine_laws.specs.Rising.{risen}
 use Rattle.machine_theorem.specs.SingleNumbers.{since_after, since_by}
 use Rattle.machine_theorem.proofs.Sent.{marked_type}

@@ -1,40 +1,25 @@
 -- The FIS by which a bit falls behind a stretch is the one that the disk sent as it ended the last command of the tag.
-use Rattle.std.proofs.Common.{◌≡◌, ℕ, ◌+◌, ◌≤◌, ◌&&◌, Bool, true, false, List, [], ◌∷◌, ◌++◌, length, Option, Some, None, Ok, Err, refl, sym, ap, subst}
-use Rattle.std.proofs.Common.{◌∙◌, arith, All, Contains}
+use Rattle.std.proofs.Common.{◌≡◌, ℕ, ◌+◌, ◌≤◌, ◌&&◌, Bool, true, false, List, [], ◌∷◌, ◌++◌, length, Option, Some, None, Ok, Err, refl, sym, ap}
+use Rattle.std.proofs.{Common.{subst, ◌∙◌, arith, All, Contains}, lemmas.{Bool.{and_parts, eq-eqb}, List.{length-append, Elements.{All-append}}}}
+use Rattle.std.proofs.lemmas.List.Elements.{All-cons, All-contains, All-head, All-nil, All-tail, Contains-append_left, Contains-append_right}
+use Rattle.std.proofs.lemmas.List.Elements.{Contains-push}
 use Rattle.std.specs.Prelude.{◌==◌, if◌then◌else◌}
-use Rattle.std.proofs.lemmas.Bool.{and_parts, eq-eqb}
-use Rattle.std.proofs.lemmas.List.{length-append}
-use Rattle.std.proofs.lemmas.List.Elements.{All-append, All-cons, All-contains, All-head, All-nil, All-tail, Contains-append_left, Contains-append_right, Contains-push}
 use Rattle.fis_view.specs.Frames.{Stamped}
-use Rattle.fan_out.specs.FanOuts.{wants_at}
-use Rattle.fan_out.specs.Fans.{seat_at}
-use Rattle.fan_out.specs.Seats.{connection}
-use Rattle.fan_out.specs.declared.fan_out.FanOut.{FanOut}
-use Rattle.fan_out.specs.declared.fan_out.FanOut.TheVariants.{Device, Multiplier}
+use Rattle.fan_out.specs.{FanOuts.wants_at, Fans.seat_at, Seats.connection, declared.fan_out.FanOut.{FanOut, TheVariants.{Device, Multiplier}}}
 use Rattle.fan_out.specs.declared.seat.Seat.{Seat}
 use Rattle.sata_disk.specs.State.{DiskState, new_disk}
 use Rattle.sata_disk.specs.declared.out.Out.TheVariants as out
-use Rattle.sata_disk_laws.specs.Calls.{Call, after_calls}
-use Rattle.sata_disk_laws.specs.Laws.{reached}
+use Rattle.sata_disk_laws.specs.{Calls.{Call, after_calls}, Laws.reached}
 use Rattle.sata_disk_laws.proofs.Door.{calls_after}
 use Rattle.ahci_machine.specs.States.{MachineState}
 use Rattle.ahci_machine.specs.declared.act.Act.TheVariants as act
-use Rattle.machine_laws.specs.ControllerLaws.{RunsRuled}
-use Rattle.machine_laws.specs.Deeds.{Deed, Does, FrameOffered, Moved}
-use Rattle.machine_laws.specs.Disks.{calls_at}
-use Rattle.machine_laws.specs.Falling.{AllLast, connection_at}
+use Rattle.machine_laws.specs.{ControllerLaws.RunsRuled, Deeds.{Deed, Does, FrameOffered, Moved}, Disks.calls_at, Falling.{AllLast, connection_at}}
 use Rattle.machine_laws.specs.Rising.{risen, sent_by}
-use Rattle.machine_theorem.specs.Identity.{AllKeep, IsThere, calls_of, picks}
-use Rattle.machine_theorem.specs.Tags.{ended_with, once_if}
-use Rattle.machine_theorem.proofs.AtEnd.{LastEnd, speaks}
-use Rattle.machine_theorem.proofs.EndsFew.{one_call, sender_is, sent_few, sent_of}
-use Rattle.machine_theorem.proofs.LastSaid.{all_ends}
-use Rattle.machine_theorem.proofs.OneConn.{IsHere, came_as_sent, last_came}
-use Rattle.machine_theorem.proofs.Risen.{names_of, names_tag}
-use Rattle.machine_theorem.proofs.Stretch.{AllEnded, Fall, Falls, Stretch, calls, comes, counts, front, has_disk, names, sends}
-use Rattle.machine_theorem.proofs.TagCounts.{ended_both}
+use Rattle.machine_theorem.specs.{Identity.{AllKeep, IsThere, calls_of, picks}, Tags.{ended_with, once_if}}
+use Rattle.machine_theorem.proofs.{AtEnd.{LastEnd, speaks}, EndsFew.{one_call, sender_is, sent_few, sent_of}, LastSaid.all_ends, OneConn.IsHere}
+use Rattle.machine_theorem.proofs.{OneConn.{came_as_sent, last_came}, Risen.{names_of, names_tag}, Stretch.{AllEnded, Fall, Falls, Stretch, calls}}
+use Rattle.machine_theorem.proofs.{Stretch.{comes, counts, front, has_disk, names, sends}, TagCounts.ended_both, Within.picks_both}
 use Rattle.machine_theorem.proofs.TheSlots as slots
-use Rattle.machine_theorem.proofs.Within.{picks_both}
 
 -- ---- the connection of what is sent
 

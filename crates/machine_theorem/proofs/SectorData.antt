@@ -1,33 +1,23 @@
 -- The Data that end a PIO data-in which moves sectors are of these, and no page that the disk has of itself.
 use Rattle.std.proofs.Common.{◌≡◌, ℕ, ◌+◌, ◌||◌, Bool, true, false, List, [], ◌∷◌, ◌++◌, append_assoc, Some, None, refl, sym, ap, subst, ◌∙◌, arith}
-use Rattle.std.specs.Prelude.{nat_lt, if◌then◌else◌}
-use Rattle.std.specs.List.{flat_map}
+use Rattle.std.specs.{Prelude.{nat_lt, if◌then◌else◌}, List.flat_map}
 use Rattle.fis_view.specs.Seen.{seen}
 use Rattle.ata_reply.specs.declared.reply.Reply.{Reply}
 use Rattle.ata_reply.specs.declared.reply.Reply.TheVariants as replies
 use Rattle.disk_pages.specs.declared.profile.Profile.{Profile}
-use Rattle.sata_disk.specs.Sending.{IsOut}
-use Rattle.sata_disk.specs.State.{DiskState, new_disk}
-use Rattle.sata_disk.specs.declared.out.Out.{Out}
+use Rattle.sata_disk.specs.{Sending.IsOut, State.{DiskState, new_disk}, declared.{out.Out.Out, unheard.Unheard.TheVariants.{Busy, InReset}}}
 use Rattle.sata_disk.specs.declared.out.Out.TheVariants as out
-use Rattle.sata_disk.specs.declared.unheard.Unheard.TheVariants.{Busy, InReset}
 use Rattle.sata_disk_books.specs.LastData.{is_last_block, sets_up_last}
-use Rattle.sata_disk_laws.specs.Calls.{AreCalls, Call, Hears, Sends, after_call, after_calls}
-use Rattle.sata_disk_laws.specs.Laws.{reached}
-use Rattle.sata_disk_laws.specs.Once.{AnswersAreSingle, ForLast, ForNothing, Host, IsDataAt, IsOutDue, OpenIsUnderWay, Wait, host_of, new_host, unheard_of, waits_for_nothing}
+use Rattle.sata_disk_laws.specs.{Calls.{AreCalls, Call, Hears, Sends, after_call, after_calls}, Laws.reached, Once.{AnswersAreSingle, ForLast}}
+use Rattle.sata_disk_laws.specs.Once.{ForNothing, Host, IsDataAt, IsOutDue, OpenIsUnderWay, Wait, host_of, new_host, unheard_of, waits_for_nothing}
 use Rattle.sata_disk_laws.proofs.Door.{calls_after, calls_both}
 use Rattle.machine_laws.specs.Falling.{heard_by}
-use Rattle.machine_theorem.specs.Identity.{picks}
-use Rattle.machine_theorem.specs.InTurn.{AreKeptOn, IsIdle, answered_in, heard_in, is_answer, is_asking, is_register}
+use Rattle.machine_theorem.specs.{Identity.picks, InTurn.{AreKeptOn, IsIdle, answered_in, heard_in, is_answer, is_asking, is_register}}
 use Rattle.machine_theorem.specs.Settled.{AreSettled, CommandsAreSettledInTurn, IsUnsettled, SectorsEndByData, is_data, is_settling, settled_in}
-use Rattle.machine_theorem.specs.Tags.{once_if}
-use Rattle.machine_theorem.specs.Transfers.{is_transferring}
-use Rattle.machine_theorem.proofs.Answered.{answered_both, heard_both}
-use Rattle.machine_theorem.proofs.EndedByData.{answered_less}
-use Rattle.machine_theorem.proofs.Settled.{settled_both}
-use Rattle.machine_theorem.proofs.SinglesOwn.{kept_behind, kept_first, last_heard}
-use Rattle.machine_theorem.proofs.TagCounts.{due_at, first_calls}
-use Rattle.machine_theorem.proofs.Transferring.{Works, calls_so, hears_transfer, one_then, owes_no_page, rest_calls}
+use Rattle.machine_theorem.specs.{Tags.once_if, Transfers.is_transferring}
+use Rattle.machine_theorem.proofs.{Answered.{answered_both, heard_both}, EndedByData.answered_less, Settled.settled_both, SinglesOwn.kept_behind}
+use Rattle.machine_theorem.proofs.{SinglesOwn.{kept_first, last_heard}, TagCounts.{due_at, first_calls}, Transferring.{Works, calls_so}}
+use Rattle.machine_theorem.proofs.Transferring.{hears_transfer, one_then, owes_no_page, rest_calls}
 
 pub record Laws : Type 0 where
   pub single : AnswersAreSingle

@@ -1,39 +1,26 @@
 -- What each device sends, and what its Data are.
-use Rattle.std.proofs.Common.{◌≡◌, ℕ, ◌+◌, ◌*◌, ◌/◌, Bool, true, false, List, [], ◌∷◌, length, drop, Some, None, Option, Result, Ok, Err, refl, sym, ap, ◌∙◌, subst, arith, inl, inr, All, Contains}
-use Rattle.std.specs.Prelude.{if◌then◌else◌, slice_index}
-use Rattle.std.proofs.lemmas.Bool.{false≢true}
-use Rattle.std.proofs.lemmas.List.{drop-set-lt, get_or-set_other}
+use Rattle.std.proofs.Common.{◌≡◌, ℕ, ◌+◌, ◌*◌, ◌/◌, Bool, true, false, List, [], ◌∷◌, length, drop, Some, None, Option, Result, Ok, Err, refl, sym}
+use Rattle.std.proofs.{Common.{ap, ◌∙◌, subst, arith, inl, inr, All, Contains}, lemmas.{Bool.{false≢true}, List.{drop-set-lt, get_or-set_other}}}
 use Rattle.std.proofs.lemmas.List.Elements.{All-cons, All-contains, All-contains_itself, All-nil, All-weaker, Contains-push}
-use Rattle.fis_view.specs.Frames.{Stamped, marked}
-use Rattle.fis_view.specs.Seen.{kind_of_type, may_have, seen, view_as}
-use Rattle.fis_view.specs.declared.view.Fis.{Fis}
-use Rattle.fis_view.specs.declared.view.Fis.TheVariants as view
+use Rattle.std.specs.Prelude.{if◌then◌else◌, slice_index}
+use Rattle.fis_view.specs.{Frames.{Stamped, marked}, Seen.{kind_of_type, may_have, seen, view_as}, declared.view.Fis.Fis}
 use Rattle.fis_view.specs.declared.view.FisFault.TheVariants.{WrongLength}
-use Rattle.fan_out.specs.declared.fan_out.FanOut.{FanOut}
-use Rattle.fan_out.specs.declared.fan_out.FanOut.TheVariants.{Device, Multiplier}
+use Rattle.fis_view.specs.declared.view.Fis.TheVariants as view
+use Rattle.fan_out.specs.declared.fan_out.FanOut.{FanOut, TheVariants.{Device, Multiplier}}
 use Rattle.ata_front.specs.declared.task.Page as own
 use Rattle.block_disk.specs.Laws.{Page}
-use Rattle.ata_reply.specs.Replies.{Shows}
-use Rattle.ata_reply.specs.declared.reply.Reply.{Reply}
+use Rattle.ata_reply.specs.{Replies.Shows, declared.reply.Reply.Reply}
 use Rattle.ata_reply.specs.declared.reply.Reply.TheVariants as reply
 use Rattle.block_queue.specs.Line.{command_at}
 use Rattle.disk_pages.specs.declared.profile.Profile.{Profile}
-use Rattle.sata_disk.specs.Pages.{IsPage}
-use Rattle.sata_disk.specs.Sending.{IsOut, part_at}
-use Rattle.sata_disk.specs.State.{DiskState, commands}
-use Rattle.sata_disk.specs.declared.out.Out.{Out}
+use Rattle.sata_disk.specs.{Pages.IsPage, Sending.{IsOut, part_at}, State.{DiskState, commands}, declared.out.Out.Out}
 use Rattle.sata_disk.specs.declared.out.Out.TheVariants as out
 use Rattle.sata_disk_books.specs.Books.{AreOfPage, CommandsAreAsked, DataAreGiven, page_in}
-use Rattle.sata_disk_laws.specs.Calls.{Call}
-use Rattle.sata_disk_laws.specs.Laws.{reached}
-use Rattle.ahci_machine.specs.States.{MachineState, bay_at}
-use Rattle.ahci_machine.specs.declared.act.Act.{Act}
+use Rattle.sata_disk_laws.specs.{Calls.Call, Laws.reached}
+use Rattle.ahci_machine.specs.{States.{MachineState, bay_at}, declared.{act.Act.Act, bay.Unit.{Unit as Inside, TheVariants.Disk}}}
 use Rattle.ahci_machine.specs.declared.act.Act.TheVariants as act
-use Rattle.ahci_machine.specs.declared.bay.Unit.{Unit as Inside}
-use Rattle.ahci_machine.specs.declared.bay.Unit.TheVariants.{Disk}
-use Rattle.machine_laws.specs.ControllerLaws.{RunsRuled}
-use Rattle.machine_laws.specs.Deeds.{Deed, Does, Moved, FrameOffered}
-use Rattle.machine_laws.specs.Rising.{CarriesPart, DataCarryParts, is_multiplier, risen, sent_by, unless_back}
+use Rattle.machine_laws.specs.{ControllerLaws.RunsRuled, Deeds.{Deed, Does, Moved, FrameOffered}, Rising.{CarriesPart, DataCarryParts, is_multiplier}}
+use Rattle.machine_laws.specs.Rising.{risen, sent_by, unless_back}
 use Rattle.machine_theorem.specs.Origins.{AreOfCommand, AreOwnPage, AreSectors, IsSentIn, Origin, sender}
 
 -- the laws, as the crates below have them

@@ -1,38 +1,22 @@
 -- The FISes that a disk sends in a stretch, as they go up from its port.
 use Rattle.std.proofs.Common.{◌≡◌, ℕ, Bool, true, false, List, [], ◌∷◌, ◌++◌, refl, sym, ap, subst, ◌∙◌, arith, Option, Some, None}
+use Rattle.std.proofs.lemmas.{Bool.{and_parts, eqb-true, eq-eqb, false≢true, ltb-true}, List.Elements.{Contains-push}}
 use Rattle.std.specs.Prelude.{◌==◌, ◌&&◌, map, if◌then◌else◌, Result, Ok, Err}
-use Rattle.std.proofs.lemmas.Bool.{and_parts, eqb-true, eq-eqb, false≢true, ltb-true}
-use Rattle.std.proofs.lemmas.List.Elements.{Contains-push}
 use Rattle.fis_view.specs.Frames.{Stamped}
-use Rattle.fan_out.specs.FanOuts.{wants_at}
-use Rattle.fan_out.specs.declared.fan_out.FanOut.{FanOut}
-use Rattle.fan_out.specs.declared.fan_out.FanOut.TheVariants.{Device, Multiplier}
+use Rattle.fan_out.specs.{FanOuts.wants_at, declared.fan_out.FanOut.{FanOut, TheVariants.{Device, Multiplier}}}
 use Rattle.multiplier.specs.Passing.{of_conn}
-use Rattle.sata_disk.specs.State.{DiskState}
-use Rattle.sata_disk.specs.Sending.{IsFis}
-use Rattle.sata_disk.specs.declared.out.Out.{Out}
-use Rattle.sata_disk_books.specs.Counted.{Counted}
-use Rattle.sata_disk_books.specs.Fises.{AreFises, told_after}
+use Rattle.sata_disk.specs.{State.DiskState, Sending.IsFis, declared.out.Out.Out}
+use Rattle.sata_disk_books.specs.{Counted.Counted, Fises.{AreFises, told_after}}
 use Rattle.sata_disk_laws.specs.Calls as disk_call
 use Rattle.sata_disk_laws.specs.Calls.{AreCalls, Call, Sends, after_call, after_calls}
 use Rattle.sata_disk_laws.proofs.Door.{calls_after, calls_both}
-use Rattle.ahci_machine.specs.Answers.{is_own}
-use Rattle.ahci_machine.specs.States.{MachineState, bay_at}
-use Rattle.ahci_machine.specs.declared.act.Act.{Act}
+use Rattle.ahci_machine.specs.{Answers.is_own, States.{MachineState, bay_at}, declared.{act.Act.Act, bay.Unit.{Unit as Inside, TheVariants.Disk}}}
 use Rattle.ahci_machine.specs.declared.act.Act.TheVariants as act
-use Rattle.ahci_machine.specs.declared.bay.Unit.{Unit as Inside}
-use Rattle.ahci_machine.specs.declared.bay.Unit.TheVariants.{Disk}
-use Rattle.machine_laws.specs.ControllerLaws.{RunsRuled}
-use Rattle.machine_laws.specs.Deeds.{Answered, Deed, Does, FrameOffered, Moved, Pulled}
-use Rattle.machine_laws.specs.Disks.{DisksGoOn, calls_at, calls_by, heard, unless_refused}
-use Rattle.machine_laws.specs.Rising.{is_multiplier, risen, sent_by, unless_back}
-use Rattle.machine_theorem.specs.Identity.{IsThere, calls_of}
-use Rattle.machine_theorem.specs.OwnSlots.{AllKeepLine, KeepsLine}
-use Rattle.machine_theorem.proofs.EndsFew.{disk_same, sent_of, straight_port}
-use Rattle.machine_theorem.proofs.Fallen.{left_there}
-use Rattle.machine_theorem.specs.SingleNumbers.{since_after}
-use Rattle.machine_theorem.proofs.RisenTold.{conn_both, map_both, risen_since, risen_told, since_both, told_both}
-use Rattle.machine_theorem.proofs.Sent.{stamped}
+use Rattle.machine_laws.specs.{ControllerLaws.RunsRuled, Deeds.{Answered, Deed, Does, FrameOffered, Moved, Pulled}, Disks.{DisksGoOn, calls_at}}
+use Rattle.machine_laws.specs.{Disks.{calls_by, heard, unless_refused}, Rising.{is_multiplier, risen, sent_by, unless_back}}
+use Rattle.machine_theorem.specs.{Identity.{IsThere, calls_of}, OwnSlots.{AllKeepLine, KeepsLine}, SingleNumbers.since_after}
+use Rattle.machine_theorem.proofs.{EndsFew.{disk_same, sent_of, straight_port}, Fallen.left_there, RisenTold.{conn_both, map_both, risen_since}}
+use Rattle.machine_theorem.proofs.{RisenTold.{risen_told, since_both, told_both}, Sent.stamped}
 
 -- ---- FISes of a disk
 

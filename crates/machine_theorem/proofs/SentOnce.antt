@@ -1,37 +1,24 @@
 -- Over each stretch of a run: as many queued commands are sent from a slot as its bit of PxSACT falls, and one more where one that was sent stands.
-use Rattle.std.proofs.Common.{◌≡◌, ℕ, ◌+◌, ◌<◌, ◌≤◌, ◌&&◌, Bool, true, false, not, List, [], ◌∷◌, append-nil, refl, sym, ap, subst, ◌∙◌, arith, Option, Some, None}
-use Rattle.std.specs.Prelude.{◌==◌, MatchOption}
-use Rattle.std.specs.Option.{option_map}
-use Rattle.std.proofs.lemmas.Bool.{and_parts, eqb-true, false≢true}
-use Rattle.slots.specs.Commands.{sent_issue, slots_where}
-use Rattle.slots.specs.Slots.{Issue, has_bit, holds, is_queued_issue, issue_at, own_issue}
-use Rattle.slots.specs.Table.{IsIssue}
+use Rattle.std.proofs.Common.{◌≡◌, ℕ, ◌+◌, ◌<◌, ◌≤◌, ◌&&◌, Bool, true, false, not, List, [], ◌∷◌, append-nil, refl, sym, ap, subst, ◌∙◌, arith}
+use Rattle.std.proofs.{Common.{Option, Some, None}, lemmas.Bool.{and_parts, eqb-true, false≢true}}
+use Rattle.std.specs.{Prelude.{◌==◌, MatchOption}, Option.option_map}
+use Rattle.slots.specs.{Commands.{sent_issue, slots_where}, Slots.{Issue, has_bit, holds, is_queued_issue, issue_at, own_issue}, Table.IsIssue}
 use Rattle.ahci_registers.specs.declared.register.Register.TheVariants.{PxSact}
 use Rattle.hba_fbs.specs.Views.{view_of}
 use Rattle.hba_laws.specs.Cores.{CoreEvent}
 use Rattle.hba_laws.proofs.Door.{held, own_here}
-use Rattle.ahci_controller.specs.Reading.{shown}
-use Rattle.ahci_controller.specs.States.{ControllerState}
+use Rattle.ahci_controller.specs.{Reading.shown, States.ControllerState}
 use Rattle.ahci_controller.specs.declared.next.Next.TheVariants as next
 use Rattle.ahci_controller.proofs.Door.{or_none, or_right}
-use Rattle.controller_laws.specs.CoreEvents.{AreCoreEvents, EventsAreCoreEvents, of_event}
-use Rattle.controller_laws.specs.Ends.{AreTold}
+use Rattle.controller_laws.specs.{CoreEvents.{AreCoreEvents, EventsAreCoreEvents, of_event}, Ends.AreTold, Events.{Does as Calls, Event}}
+use Rattle.controller_laws.specs.Events.{IsController, Runs}
 use Rattle.controller_laws.specs.Events as call
-use Rattle.controller_laws.specs.Events.{Does as Calls, Event, IsController, Runs}
 use Rattle.ahci_machine.specs.States.{HasRules, MachineState}
-use Rattle.machine_laws.specs.ControllerLaws.{OpensLawful, RunsRuled}
-use Rattle.machine_laws.specs.Controllers.{ControllerGoesOn, GathersDue, StaysDue, deed_calls}
-use Rattle.machine_laws.specs.Deeds.{Deed}
-use Rattle.machine_theorem.specs.Commands.{issues_in}
-use Rattle.machine_theorem.specs.Orders.{CommandsAreSentOnce, are_ordered, fallen_in, is_fallen, is_ordered, is_queued_of, is_sent_of, ordered_in, standing_in}
-use Rattle.machine_theorem.specs.Tags.{once_if}
-use Rattle.machine_theorem.proofs.Armed.{IsBare, queued_bit, sact_is, stays_bare, there_of}
-use Rattle.machine_theorem.proofs.CoreStems.{call_stems}
-use Rattle.machine_theorem.proofs.Few.{AreFew, are_few}
-use Rattle.machine_theorem.proofs.OrderedOnce.{IsOrderedOnce, ordered_once, queued_kind}
-use Rattle.machine_theorem.proofs.Stems.{Stems}
-use Rattle.machine_theorem.proofs.Stood.{is_placed}
-use Rattle.machine_theorem.proofs.Unread.{is_alone}
+use Rattle.machine_laws.specs.{ControllerLaws.{OpensLawful, RunsRuled}, Controllers.{ControllerGoesOn, GathersDue, StaysDue, deed_calls}, Deeds.Deed}
+use Rattle.machine_theorem.specs.{Commands.issues_in, Orders.{CommandsAreSentOnce, are_ordered, fallen_in, is_fallen, is_ordered, is_queued_of}}
+use Rattle.machine_theorem.specs.{Orders.{is_sent_of, ordered_in, standing_in}, Tags.once_if}
+use Rattle.machine_theorem.proofs.{Armed.{IsBare, queued_bit, sact_is, stays_bare, there_of}, CoreStems.call_stems, Few.{AreFew, are_few}}
+use Rattle.machine_theorem.proofs.{OrderedOnce.{IsOrderedOnce, ordered_once, queued_kind}, Stems.Stems, Stood.is_placed, Unread.is_alone}
 
 pub record Laws : Type 0 where
   pub opens : OpensLawful

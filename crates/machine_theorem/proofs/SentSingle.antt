@@ -1,37 +1,25 @@
 -- How many bytes the books of a disk have as sent of the command that is not queued, call by call: those of Data, and no others.
-use Rattle.std.proofs.Common.{◌≡◌, ℕ, zero, suc, ◌+◌, Bool, true, false, List, [], ◌∷◌, ◌++◌, append-nil, get_or, set, length, Some, None, refl, sym, ap, subst, ◌∙◌}
-use Rattle.std.proofs.Common.{inl, inr}
-use Rattle.std.specs.Prelude.{Option, ◌&&◌, ◌==◌, if◌then◌else◌}
-use Rattle.std.specs.Option.{option_map}
-use Rattle.std.proofs.lemmas.Bool.{cases_eq}
-use Rattle.std.proofs.lemmas.List.{get_or-set_other, length-append}
-use Rattle.std.proofs.lemmas.Option.{same_Some}
-use Rattle.block_command.specs.declared.command.Command.{Command}
-use Rattle.block_command.specs.declared.command.Stage.{Stage}
-use Rattle.block_command.specs.declared.command.Stage.TheVariants.{Sending, SetUpRead, SetUpWrite}
-use Rattle.block_command.specs.Laws.{AskedFlush, AskedLoad, AskedStore, CameData, Comes, Flushed, Goes, Happening, Input, Ledger, Loaded, SentActivate, SentData}
-use Rattle.block_command.specs.Laws.{SentSetUp, Stored, blank, entered, given_to, shown, stored_in}
-use Rattle.block_command.specs.Moments.{Moment, part_of, turn_of}
-use Rattle.block_disk.specs.Laws.{At, Page, Refused, Reset, Shown, Took, at_page, entered_in, page_entered, shown_at}
-use Rattle.block_disk.specs.Requests.{Books, Seen, entered_by, is_out, no_books, seen, told}
-use Rattle.block_disk.specs.Table.{is_under_way}
+use Rattle.std.proofs.Common.{◌≡◌, ℕ, zero, suc, ◌+◌, Bool, true, false, List, [], ◌∷◌, ◌++◌, append-nil, get_or, set, length, Some, None, refl, sym}
+use Rattle.std.proofs.{Common.{ap, subst, ◌∙◌, inl, inr}, lemmas.{Bool.cases_eq, List.{get_or-set_other, length-append}, Option.same_Some}}
+use Rattle.std.specs.{Prelude.{Option, ◌&&◌, ◌==◌, if◌then◌else◌}, Option.option_map}
+use Rattle.block_command.specs.{declared.command.{Command.Command, Stage.{Stage, TheVariants.{Sending, SetUpRead, SetUpWrite}}}, Laws.AskedFlush}
+use Rattle.block_command.specs.Laws.{AskedLoad, AskedStore, CameData, Comes, Flushed, Goes, Happening, Input, Ledger, Loaded, SentActivate, SentData}
+use Rattle.block_command.specs.{Laws.{SentSetUp, Stored, blank, entered, given_to, shown, stored_in}, Moments.{Moment, part_of, turn_of}}
+use Rattle.block_disk.specs.{Laws.{At, Page, Refused, Reset, Shown, Took, at_page, entered_in, page_entered, shown_at}, Requests.{Books, Seen}}
+use Rattle.block_disk.specs.{Requests.{entered_by, is_out, no_books, seen, told}, Table.is_under_way}
 use Rattle.block_disk.proofs.Door.{each_is}
 use Rattle.block_queue.specs.Deeds as deed
-use Rattle.block_queue.specs.Deeds.{Deed, IsDeed, act_of, after_deed, seen_of}
-use Rattle.block_queue.specs.Line.{Line, command_at}
-use Rattle.block_scheduler.specs.Schedule.{ends_all}
-use Rattle.block_scheduler.specs.Laws.{all_deeds}
+use Rattle.block_queue.specs.{Deeds.{Deed, IsDeed, act_of, after_deed, seen_of}, Line.{Line, command_at}}
+use Rattle.block_scheduler.specs.{Schedule.ends_all, Laws.all_deeds}
 use Rattle.block_engine.specs.Laws as engine
 use Rattle.block_engine.specs.Laws.{Step, all_moves}
 use Rattle.disk_pages.specs.declared.profile.Profile.{Profile}
-use Rattle.sata_disk.specs.Sending.{IsOut, out_at}
-use Rattle.sata_disk.specs.State.{DiskState, commands, new_disk}
+use Rattle.sata_disk.specs.{Sending.{IsOut, out_at}, State.{DiskState, commands, new_disk}}
 use Rattle.sata_disk.specs.declared.out.Out.TheVariants as out
 use Rattle.sata_disk_books.specs.Books.{books_after, page_in}
-use Rattle.sata_disk_laws.specs.Calls.{Call, IsCall, Sends, after_call, all_steps, steps_of}
-use Rattle.sata_disk_laws.specs.Laws.{reached, seen_in}
-use Rattle.sata_disk_books.proofs.Door.{AreDone, Each, IsQuiet, IsQuietCall, OfDeed, OfStep, books_both, call_are, call_quiet, data_stage, deeds_by, is_loud_stage}
-use Rattle.sata_disk_books.proofs.Door.{loud_at, moves_deeds, sent_deeds, shown_both, shown_by, shown_from, steps_done, steps_moves}
+use Rattle.sata_disk_laws.specs.{Calls.{Call, IsCall, Sends, after_call, all_steps, steps_of}, Laws.{reached, seen_in}}
+use Rattle.sata_disk_books.proofs.Door.{AreDone, Each, IsQuiet, IsQuietCall, OfDeed, OfStep, books_both, call_are, call_quiet, data_stage, deeds_by}
+use Rattle.sata_disk_books.proofs.Door.{is_loud_stage, loud_at, moves_deeds, sent_deeds, shown_both, shown_by, shown_from, steps_done, steps_moves}
 use Rattle.machine_theorem.proofs.TagKept.{StepNone}
 
 -- the books have so many bytes as sent, if they have a command there

@@ -1,57 +1,35 @@
 -- Where a guest sends a disk queued commands alone, and the disk takes each, it serves queued commands alone: none of its Data and none of its FISes is of another.
-use Rattle.std.proofs.Common.{◌≡◌, ◌⊎◌, ℕ, ◌<◌, ◌/◌, ◌&&◌, Bool, true, false, not, List, [], ◌∷◌, ◌++◌, append_assoc, append-nil, drop, Option, Some, None, Ok, refl, sym, ap, subst, ◌∙◌}
-use Rattle.std.proofs.Common.{arith, inl, inr}
-use Rattle.std.specs.Prelude.{◌%◌, nat_lt, if◌then◌else◌, Result}
-use Rattle.std.specs.List.{flat_map}
-use Rattle.std.proofs.lemmas.Bool.{false≢true, lt-ltb, ltb-true}
-use Rattle.fis_view.specs.Seen.{frame_of, seen}
-use Rattle.fis_view.specs.Table.{H2d, Command, Count, field}
-use Rattle.fis_view.specs.declared.view.Fis.{Fis}
+use Rattle.std.proofs.Common.{◌≡◌, ◌⊎◌, ℕ, ◌<◌, ◌/◌, ◌&&◌, Bool, true, false, not, List, [], ◌∷◌, ◌++◌, append_assoc, append-nil, drop, Option, Some}
+use Rattle.std.proofs.{Common.{None, Ok, refl, sym, ap, subst, ◌∙◌, arith, inl, inr}, lemmas.Bool.{false≢true, lt-ltb, ltb-true}}
+use Rattle.std.specs.{Prelude.{◌%◌, nat_lt, if◌then◌else◌, Result}, List.flat_map}
+use Rattle.fis_view.specs.{Seen.{frame_of, seen}, Table.{H2d, Command, Count, field}, declared.view.{Fis.Fis, FisFault.FisFault}}
 use Rattle.fis_view.specs.declared.view.Fis.TheVariants as view
-use Rattle.fis_view.specs.declared.view.FisFault.{FisFault}
 use Rattle.block_command.specs.declared.command.Command as block
-use Rattle.block_engine.specs.declared.aside.AsideStage.{AsideStage}
+use Rattle.block_engine.specs.{declared.aside.AsideStage.AsideStage, Aside.is_over, Laws.Step}
 use Rattle.block_engine.specs.declared.aside.AsideStage.TheVariants as stages
-use Rattle.block_engine.specs.Aside.{is_over}
 use Rattle.block_engine.specs.Laws as engine
-use Rattle.block_engine.specs.Laws.{Step}
-use Rattle.ata_command.specs.Courses.{course, resets}
-use Rattle.ata_command.specs.declared.asked.Asked.{Asked as Ask}
+use Rattle.ata_command.specs.{Courses.{course, resets}, declared.{asked.{Asked.Asked as Ask, Move.Move}, control.Course.{Course, TheVariants.Drop}}}
+use Rattle.ata_command.specs.declared.control.Course.TheVariants.{Refuse, AbortAll, Take}
 use Rattle.ata_command.specs.declared.asked.Asked.TheVariants as ask
-use Rattle.ata_command.specs.declared.asked.Move.{Move}
-use Rattle.ata_command.specs.declared.control.Course.{Course}
-use Rattle.ata_command.specs.declared.control.Course.TheVariants.{Drop, Refuse, AbortAll, Take}
-use Rattle.ata_front.specs.Fronts.{commanded_by, controlled, heard_data, owed, said_by, standing}
-use Rattle.ata_front.specs.declared.front.Front.{Front}
-use Rattle.ata_front.specs.declared.front.Heard.{Heard}
-use Rattle.ata_front.specs.declared.task.Act.{Act}
+use Rattle.ata_front.specs.{Fronts.{commanded_by, controlled, heard_data, owed, said_by, standing}, declared.front.{Front.Front, Heard.Heard}}
+use Rattle.ata_front.specs.declared.task.{Act.Act, Owed.Owed, Page.Page, Task.Task}
 use Rattle.ata_front.specs.declared.task.Act.TheVariants as act
-use Rattle.ata_front.specs.declared.task.Owed.{Owed}
 use Rattle.ata_front.specs.declared.task.Owed.TheVariants as owe
-use Rattle.ata_front.specs.declared.task.Page.{Page}
-use Rattle.ata_front.specs.declared.task.Task.{Task}
 use Rattle.ata_front.specs.declared.task.Task.TheVariants as tasks
 use Rattle.ata_reply.specs.declared.reply.Reply.{Reply}
 use Rattle.ata_reply.specs.declared.reply.Reply.TheVariants as replies
 use Rattle.disk_pages.specs.declared.profile.Profile.{Profile}
-use Rattle.sata_disk.specs.Hearing.{asked_of, command_told, data_by, fis_heard, is_command, register_told}
-use Rattle.sata_disk.specs.Sending.{IsOut}
-use Rattle.sata_disk.specs.State.{DiskState, IsBeside, commands, new_disk, tags_of}
-use Rattle.sata_disk.specs.declared.out.Out.{Out}
+use Rattle.sata_disk.specs.{Hearing.{asked_of, command_told, data_by, fis_heard, is_command, register_told}, Sending.IsOut, State.DiskState}
+use Rattle.sata_disk.specs.{State.{IsBeside, commands, new_disk, tags_of}, declared.out.Out.Out}
 use Rattle.sata_disk.specs.declared.out.Out.TheVariants as out
 use Rattle.sata_disk_books.specs.InTurn.{AreOfQueue, IsNoPio, IsOfQueue, IsQueuedFis}
-use Rattle.sata_disk_laws.specs.Awaited.{AsidesAreAwaited}
-use Rattle.sata_disk_laws.specs.Calls.{AreCalls, Call, Plugs, Hears, Starts, Asks, Answers, IsCall, Sends, act_steps, after_call, after_calls}
-use Rattle.sata_disk_laws.specs.Laws.{reached}
-use Rattle.sata_disk_laws.specs.Once.{AnswersAreSingle, Host, IsCallDue, IsDataAt, IsOfPlace, IsOpenAt, IsOutDue, host_of, is_queued_code, new_host, place_in}
+use Rattle.sata_disk_laws.specs.{Awaited.AsidesAreAwaited, Calls.{AreCalls, Call, Plugs, Hears, Starts, Asks, Answers, IsCall, Sends, act_steps}}
+use Rattle.sata_disk_laws.specs.{Calls.{after_call, after_calls}, Laws.reached, Once.{AnswersAreSingle, Host, IsCallDue, IsDataAt, IsOfPlace}}
+use Rattle.sata_disk_laws.specs.Once.{IsOpenAt, IsOutDue, host_of, is_queued_code, new_host, place_in}
 use Rattle.machine_laws.specs.Falling.{heard_by}
-use Rattle.machine_theorem.specs.QueuedOnly.{asks_single}
-use Rattle.machine_theorem.specs.QueuedWrites.{IsTaken, TakesAll, TakesBy, TakesIt}
-use Rattle.machine_theorem.proofs.HostShut.{IsShut, NoneAsk, calls_shut, host_both}
-use Rattle.machine_theorem.proofs.TagKept.{StepNone}
-use Rattle.machine_theorem.proofs.TagAsked.{Outcome, outcome}
-use Rattle.machine_theorem.proofs.TagAsked.Outcome.{Nothing, Taken}
-use Rattle.machine_theorem.proofs.TagCounts.{due_at, first_calls, one_call_more}
+use Rattle.machine_theorem.specs.{QueuedOnly.asks_single, QueuedWrites.{IsTaken, TakesAll, TakesBy, TakesIt}}
+use Rattle.machine_theorem.proofs.{HostShut.{IsShut, NoneAsk, calls_shut, host_both}, TagKept.StepNone, TagAsked.{Outcome, outcome, Outcome.Nothing}}
+use Rattle.machine_theorem.proofs.{TagAsked.Outcome.Taken, TagCounts.{due_at, first_calls, one_call_more}}
 
 -- ---- what a disk owes of itself: nothing, or that a queued command is accepted
 

@@ -1,46 +1,34 @@
 -- A disk settles no more commands than it heard, each by a Register FIS or by the PIO Setup FIS of its last block.
-use Rattle.std.proofs.Common.{◌≡◌, ◌⊎◌, ℕ, zero, suc, ◌+◌, ◌-◌, ◌≤◌, ◌&&◌, ◌||◌, Bool, true, false, not, List, [], ◌∷◌, ◌++◌, Some, refl, sym, ap, ◌∙◌, subst, arith, inl, inr, append_assoc, append-nil}
+use Rattle.std.proofs.Common.{◌≡◌, ◌⊎◌, ℕ, zero, suc, ◌+◌, ◌-◌, ◌≤◌, ◌&&◌, ◌||◌, Bool, true, false, not, List, [], ◌∷◌, ◌++◌, Some, refl, sym, ap}
+use Rattle.std.proofs.Common.{◌∙◌, subst, arith, inl, inr, append_assoc, append-nil}
 use Rattle.std.specs.Prelude.{if◌then◌else◌, Option, None, nat_lt, Result, Ok, Err}
-use Rattle.fis_view.specs.Seen.{seen}
-use Rattle.fis_view.specs.declared.view.Fis.{Fis}
+use Rattle.fis_view.specs.{Seen.seen, declared.view.{Fis.Fis, FisFault.FisFault}}
 use Rattle.fis_view.specs.declared.view.Fis.TheVariants as view
-use Rattle.fis_view.specs.declared.view.FisFault.{FisFault}
-use Rattle.block_command.specs.declared.command.Command.{Command}
-use Rattle.block_command.specs.declared.command.Stage.{Stage}
-use Rattle.block_command.specs.declared.command.Stage.TheVariants.{Ended}
-use Rattle.block_command.specs.Moments.{Moment}
+use Rattle.block_command.specs.{declared.command.{Command.Command, Stage.{Stage, TheVariants.Ended}}, Moments.Moment}
 use Rattle.block_command.proofs.Door.{at as moment}
-use Rattle.block_disk.specs.Laws.{Page}
-use Rattle.block_disk.specs.Table.{is_under_way}
+use Rattle.block_disk.specs.{Laws.Page, Table.is_under_way}
 use Rattle.block_queue.specs.Line.{command_at}
 use Rattle.ata_command.specs.Courses.{resets}
 use Rattle.ata_reply.specs.declared.reply.Reply.{Reply}
 use Rattle.ata_reply.specs.declared.reply.Reply.TheVariants as replies
 use Rattle.disk_pages.specs.declared.profile.Profile.{Profile}
-use Rattle.sata_disk.specs.Hearing.{is_command}
-use Rattle.sata_disk.specs.Sending.{IsOut, out_at}
-use Rattle.sata_disk.specs.State.{DiskState, commands as line_of, is_taken, new_disk}
-use Rattle.sata_disk.specs.declared.out.Out.{Out}
+use Rattle.sata_disk.specs.{Hearing.is_command, Sending.{IsOut, out_at}, State.{DiskState, commands as line_of, is_taken, new_disk}}
+use Rattle.sata_disk.specs.declared.{out.Out.Out, unheard.Unheard.{Unheard, TheVariants.{Busy, InReset}}}
 use Rattle.sata_disk.specs.declared.out.Out.TheVariants as out
-use Rattle.sata_disk.specs.declared.unheard.Unheard.{Unheard}
-use Rattle.sata_disk.specs.declared.unheard.Unheard.TheVariants.{Busy, InReset}
-use Rattle.sata_disk_books.specs.Books.{IsAskedFor, page_in}
-use Rattle.sata_disk_books.specs.LastData.{HearNoCommand, IsNoCommand, IsReadWhole, LastBlocksAreAlone, LastDataAreEarned, is_last_block, sets_up_last}
-use Rattle.sata_disk_laws.specs.Awaited.{OutsAreUnderWay, SinglesAreAwaited}
-use Rattle.sata_disk_laws.specs.Calls.{Answers, AreCalls, Asks, Call, Hears, Plugs, Sends, Starts, after_call}
-use Rattle.sata_disk_laws.specs.Laws.{reached}
+use Rattle.sata_disk_books.specs.{Books.{IsAskedFor, page_in}, LastData.{HearNoCommand, IsNoCommand, IsReadWhole, LastBlocksAreAlone}}
+use Rattle.sata_disk_books.specs.LastData.{LastDataAreEarned, is_last_block, sets_up_last}
+use Rattle.sata_disk_laws.specs.{Awaited.{OutsAreUnderWay, SinglesAreAwaited}, Calls.{Answers, AreCalls, Asks, Call, Hears, Plugs, Sends, Starts}}
+use Rattle.sata_disk_laws.specs.{Calls.after_call, Laws.reached, Once.{AnswersAreSingle, ForAnswer, ForEnd, ForLast, ForNothing, ForSignature, Host}}
+use Rattle.sata_disk_laws.specs.Once.{IsAccepted, IsDataAt, IsDue, IsOutDue, IsRefused, Wait, announced, command_given, control_given, data_got_by}
+use Rattle.sata_disk_laws.specs.Once.{fis_given, host_after, host_of, is_for_data, new_host, none_open, out_got, place_in, reply_got, unheard_of}
+use Rattle.sata_disk_laws.specs.Once.{waits_for_nothing}
 use Rattle.sata_disk_laws.proofs.Door.{calls_both}
-use Rattle.sata_disk_laws.specs.Once.{AnswersAreSingle, ForAnswer, ForEnd, ForLast, ForNothing, ForSignature, Host, IsAccepted, IsDataAt, IsDue, IsOutDue, IsRefused, Wait, announced, command_given, control_given, data_got_by, fis_given, host_after, host_of, is_for_data, new_host, none_open, out_got, place_in, reply_got, unheard_of, waits_for_nothing}
 use Rattle.machine_theorem.specs.InTurn.{AreKeptOn, IsIdle, IsKeptOn, commands, heard_in, hears_one, is_answer, is_asking, is_register, sets_reset}
-use Rattle.machine_theorem.specs.Settled.{CommandsAreSettledInTurn, IsAskedInTurn, IsBehindLastBlock, IsSettledLast, IsUnsettled, IsWholeInTurn, is_data, is_settling, settled_in, settles_one}
-use Rattle.machine_theorem.specs.Tags.{once_if}
-use Rattle.machine_theorem.proofs.Answered.{heard_both}
-use Rattle.machine_theorem.proofs.TagAsked.{Outcome, outcome}
-use Rattle.machine_theorem.proofs.TagAsked.Outcome.{Nothing, Taken}
-use Rattle.machine_theorem.proofs.TagCounts.{due_at, first_calls, held_of_taken, host_then, none_held, one_call_more}
-use Rattle.machine_theorem.proofs.TagKept.{IsNoFis, call_held, call_takes, held_at, others_none}
-use Rattle.machine_theorem.proofs.TagPages.{page_same}
-use Rattle.machine_theorem.proofs.Transferring.{rest_calls}
+use Rattle.machine_theorem.specs.Settled.{CommandsAreSettledInTurn, IsAskedInTurn, IsBehindLastBlock, IsSettledLast, IsUnsettled, IsWholeInTurn}
+use Rattle.machine_theorem.specs.{Settled.{is_data, is_settling, settled_in, settles_one}, Tags.once_if}
+use Rattle.machine_theorem.proofs.{Answered.heard_both, TagAsked.{Outcome, outcome, Outcome.{Nothing, Taken}}, TagCounts.{due_at, first_calls}}
+use Rattle.machine_theorem.proofs.{TagCounts.{held_of_taken, host_then, none_held, one_call_more}, TagKept.{IsNoFis, call_held, call_takes, held_at}}
+use Rattle.machine_theorem.proofs.{TagKept.others_none, TagPages.page_same, Transferring.rest_calls}
 
 pub record Laws : Type 0 where
   pub single : AnswersAreSingle

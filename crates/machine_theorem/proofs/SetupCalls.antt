@@ -1,71 +1,42 @@
 -- The history of a device beside what its FISes say, over the calls of a controller.
-use Rattle.std.proofs.Common.{◌≡◌, ℕ, ◌+◌, ◌-◌, length, ◌<◌, ◌≤◌, ◌^◌, Bool, true, false, List, [], ◌∷◌, ◌++◌, append-nil, drop, refl, sym, ap, subst, ◌∙◌, Option, Some, None}
+use Rattle.std.proofs.Common.{◌≡◌, ℕ, ◌+◌, ◌-◌, length, ◌<◌, ◌≤◌, ◌^◌, Bool, true, false, List, [], ◌∷◌, ◌++◌, append-nil, drop, refl, sym, ap, subst}
+use Rattle.std.proofs.{Common.{◌∙◌, Option, Some, None}, lemmas.{Bool.{eqb-true, false≢true, true≢false}, List.{length-drop}}}
 use Rattle.std.specs.Prelude.{◌==◌, ◌%◌, if◌then◌else◌, Result, Ok, Err}
-use Rattle.std.proofs.lemmas.Bool.{eqb-true, false≢true, true≢false}
-use Rattle.std.proofs.lemmas.List.{length-drop}
-use Rattle.fis_view.specs.Seen.{seen}
-use Rattle.fis_view.specs.declared.view.Fis.{Fis}
+use Rattle.fis_view.specs.{Seen.seen, declared.view.{Fis.Fis, FisFault.FisFault}}
 use Rattle.fis_view.specs.declared.view.Fis.TheVariants as view
-use Rattle.fis_view.specs.declared.view.FisFault.{FisFault}
 use Rattle.guest_fetch.specs.Commands.{Fetched}
 use Rattle.hba_commands.specs.declared.command.Command.{Command}
-use Rattle.slots.specs.Data.{payload}
-use Rattle.slots.specs.Slots.{Issue, context_of, issue_at, match_some, own_issue}
-use Rattle.slots.specs.declared.work.Kind.{Kind}
-use Rattle.slots.specs.declared.work.Kind.TheVariants.{QueuedRead}
-use Rattle.slots.specs.declared.work.Work.{Work}
-use Rattle.slots.specs.Work.{is_dma, is_read}
+use Rattle.slots.specs.{Data.payload, Slots.{Issue, context_of, issue_at, match_some, own_issue}, declared.work.Kind.{Kind, TheVariants.QueuedRead}}
+use Rattle.slots.specs.{declared.work.Work.Work, Work.{is_dma, is_read}}
 use Rattle.ahci_registers.specs.Bits as line_bits
-use Rattle.ahci_registers.specs.Offsets.{register_at}
-use Rattle.ahci_registers.specs.declared.link.Effect.{Effect}
+use Rattle.ahci_registers.specs.{Offsets.register_at, declared.{link.Effect.Effect, register.Register.Register}}
 use Rattle.ahci_registers.specs.declared.link.Effect.TheVariants as effect
-use Rattle.ahci_registers.specs.declared.register.Register.{Register}
 use Rattle.ahci_registers.specs.declared.register.Register.TheVariants as ahci
-use Rattle.hba_fbs.specs.Greeting.{Greets}
-use Rattle.hba_fbs.specs.Taking.{heard_report, port_of}
-use Rattle.hba_fbs.specs.Turning.{feeds}
-use Rattle.hba_fbs.specs.Views.{Port, last_command, view_of}
-use Rattle.hba_fbs.specs.declared.turn.Turn.TheVariants.{Orders, Rests}
-use Rattle.hba_fbs.specs.declared.error.WriteError.{WriteError}
+use Rattle.hba_fbs.specs.{Greeting.Greets, Taking.{heard_report, port_of}, Turning.feeds, Views.{Port, last_command, view_of}}
+use Rattle.hba_fbs.specs.declared.{turn.Turn.TheVariants.{Orders, Rests}, error.WriteError.WriteError, report.{TakeReport.TakeReport, Wrote.Wrote}}
 use Rattle.hba_fbs.specs.declared.register.Register as port_register
 use Rattle.hba_fbs.specs.declared.register.Register.TheVariants as on_port
-use Rattle.hba_fbs.specs.declared.report.TakeReport.{TakeReport}
-use Rattle.hba_fbs.specs.declared.report.Wrote.{Wrote}
 use Rattle.hba_laws.proofs.Door.{own_in}
-use Rattle.hba_laws.specs.Agreement.{IsTold}
-use Rattle.hba_laws.specs.CoreHistories.{CoreChoicesFilled, CoreReportsFilled, CoreViewsAreTold, FillsFrom, ReportsFilled, event_by}
+use Rattle.hba_laws.specs.{Agreement.IsTold, CoreHistories.{CoreChoicesFilled, CoreReportsFilled, CoreViewsAreTold, FillsFrom, ReportsFilled}}
+use Rattle.hba_laws.specs.{CoreHistories.event_by, Cores.CoreEvent, History.{Carried, History, Transfer, issued}}
 use Rattle.hba_laws.specs.Cores as core
-use Rattle.hba_laws.specs.Cores.{CoreEvent}
-use Rattle.hba_laws.specs.History.{Carried, History, Transfer, issued}
-use Rattle.ahci_controller.specs.Access.{fits, high_of, low_of, merged, ones_of, spread_of}
-use Rattle.ahci_controller.specs.Issuing.{device_of, offered_command}
-use Rattle.ahci_controller.specs.Next.{is_halted, next_write, turn_to, written}
-use Rattle.ahci_controller.specs.Offers.{offer_in, offers_nothing}
-use Rattle.ahci_controller.specs.Reading.{shown}
-use Rattle.ahci_controller.specs.States.{ControllerState, kept}
-use Rattle.ahci_controller.specs.Taking.{CoreHearsIf, part_of, payload_of, room_for}
-use Rattle.ahci_controller.specs.Wide.{WritesFitting, block_of}
-use Rattle.ahci_controller.specs.Writing.{clears_busy, link_effect, told_refusal}
-use Rattle.ahci_controller.specs.declared.access.Width.{Width}
-use Rattle.ahci_controller.specs.declared.feeding.Fed.{Fed}
+use Rattle.ahci_controller.specs.{Access.{fits, high_of, low_of, merged, ones_of, spread_of}, Issuing.{device_of, offered_command}, Next.is_halted}
+use Rattle.ahci_controller.specs.{Next.{next_write, turn_to, written}, Offers.{offer_in, offers_nothing}, Reading.shown, States.ControllerState}
+use Rattle.ahci_controller.specs.{States.kept, Taking.{CoreHearsIf, part_of, payload_of, room_for}, Wide.{WritesFitting, block_of}}
+use Rattle.ahci_controller.specs.{Writing.{clears_busy, link_effect, told_refusal}, declared.{access.Width.Width, feeding.Fed.Fed}}
+use Rattle.ahci_controller.specs.declared.{issuing.Supply.Supply, latch.Edge.Edge, next.Next.Next, taking.Took.Took, wide.WideWritten.WideWritten}
 use Rattle.ahci_controller.specs.declared.feeding.Fed.TheVariants as fed_answer
-use Rattle.ahci_controller.specs.declared.issuing.Supply.{Supply}
-use Rattle.ahci_controller.specs.declared.latch.Edge.{Edge}
 use Rattle.ahci_controller.specs.declared.issuing.Supply.TheVariants as supply_answer
-use Rattle.ahci_controller.specs.declared.next.Next.{Next}
 use Rattle.ahci_controller.specs.declared.next.Next.TheVariants as next_step
-use Rattle.ahci_controller.specs.declared.taking.Took.{Took}
-use Rattle.ahci_controller.specs.declared.wide.WideWritten.{WideWritten}
-use Rattle.controller_laws.specs.CoreEvents.{AreCoreEvents, EventsAreCoreEvents, commanded_by, no_tables, of_event, of_fed, of_frame, of_next, of_part, of_register, of_supply, of_turn, of_wide, overridden_by, relinked_by, reset_by, told}
-use Rattle.controller_laws.specs.Events as call
+use Rattle.controller_laws.specs.CoreEvents.{AreCoreEvents, EventsAreCoreEvents, commanded_by, no_tables, of_event, of_fed, of_frame, of_next}
+use Rattle.controller_laws.specs.CoreEvents.{of_part, of_register, of_supply, of_turn, of_wide, overridden_by, relinked_by, reset_by, told}
 use Rattle.controller_laws.specs.Events.{Does, Event, IsController, Runs}
-use Rattle.sata_disk_books.specs.Counted.{Counted, more_by}
-use Rattle.sata_disk_books.specs.Fises.{told_by}
+use Rattle.controller_laws.specs.Events as call
+use Rattle.sata_disk_books.specs.{Counted.{Counted, more_by}, Fises.told_by}
 use Rattle.machine_theorem.specs.Following.{AllHeardWell, DataFollowSetups, HearsWell, IsHeardWell, told_call, told_calls}
-use Rattle.machine_theorem.proofs.Ordered.{fed_some, last_kept}
-use Rattle.machine_theorem.proofs.SetupHistory.{Follows, IsUp, NoneUp, carried_follows, nothing_up}
-use Rattle.machine_theorem.proofs.SetupFrames.{has_up, is_blocks, the_issue, told_with}
-use Rattle.machine_theorem.proofs.SetupCores.{AreNoFises, Beside, Carries, IsNoFis, IsWritten, fed_beside, fis_beside, fises_none, match_is, other_beside}
+use Rattle.machine_theorem.proofs.{Ordered.{fed_some, last_kept}, SetupHistory.{Follows, IsUp, NoneUp, carried_follows, nothing_up}}
+use Rattle.machine_theorem.proofs.{SetupFrames.{has_up, is_blocks, the_issue, told_with}, SetupCores.{AreNoFises, Beside, Carries, IsNoFis}}
+use Rattle.machine_theorem.proofs.SetupCores.{IsWritten, fed_beside, fis_beside, fises_none, match_is, other_beside}
 
 -- ---- calls that take no FIS
 

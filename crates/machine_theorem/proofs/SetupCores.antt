@@ -1,44 +1,27 @@
 -- The history of a device beside what its FISes say, over the events of a controller's core.
-use Rattle.std.proofs.Common.{◌≡◌, ℕ, ◌<◌, ◌-◌, length, Bool, true, false, List, [], ◌∷◌, ◌++◌, append_assoc, drop, refl, sym, ap, subst, ◌∙◌, Option, Some, None}
+use Rattle.std.proofs.Common.{◌≡◌, ℕ, ◌<◌, ◌-◌, length, Bool, true, false, List, [], ◌∷◌, ◌++◌, append_assoc, drop, refl, sym, ap, subst, ◌∙◌, Option}
+use Rattle.std.proofs.{Common.{Some, None}, lemmas.{Bool.{eqb-true, eq-eqb, false≢true, true≢false}, List.{length-drop}}}
 use Rattle.std.specs.Prelude.{◌==◌, MatchOption, is_some, if◌then◌else◌}
-use Rattle.std.proofs.lemmas.Bool.{eqb-true, eq-eqb, false≢true, true≢false}
-use Rattle.std.proofs.lemmas.List.{length-drop}
 use Rattle.fis_view.specs.Seen.{seen}
-use Rattle.slots.specs.Data.{payload}
-use Rattle.slots.specs.Slots.{Issue, context_of, holds, issue_at, match_some, own_issue}
-use Rattle.slots.specs.Table.{IsContext, IsContextOf, IsTable}
-use Rattle.slots.specs.Work.{is_dma, is_read}
-use Rattle.slots.specs.declared.work.Kind.{Kind}
-use Rattle.slots.specs.declared.table.Context.{Context}
-use Rattle.slots.specs.declared.work.Work.{Work}
-use Rattle.hba_fbs.specs.Deciding.{Decides, decided}
-use Rattle.hba_fbs.specs.Offering.{asked_by}
-use Rattle.hba_fbs.specs.Registers.{falls}
-use Rattle.hba_fbs.specs.Taking.{admitted, device_cause, heard_report, ignores, port_cause, port_of, view_after_hearing}
-use Rattle.hba_fbs.specs.Views.{DeviceView, Port, view_of}
-use Rattle.hba_fbs.specs.Writing.{cleared_by, is_device}
-use Rattle.hba_fbs.specs.declared.hearing.Fault.{Fault}
+use Rattle.slots.specs.{Data.payload, Slots.{Issue, context_of, holds, issue_at, match_some, own_issue}, Table.{IsContext, IsContextOf, IsTable}}
+use Rattle.slots.specs.{Work.{is_dma, is_read}, declared.{work.{Kind.Kind, Work.Work}, table.Context.Context}}
+use Rattle.hba_fbs.specs.{Deciding.{Decides, decided}, Offering.asked_by, Registers.falls, Taking.{admitted, device_cause, heard_report, ignores}}
+use Rattle.hba_fbs.specs.{Taking.{port_cause, port_of, view_after_hearing}, Views.{DeviceView, Port, view_of}, Writing.{cleared_by, is_device}}
+use Rattle.hba_fbs.specs.declared.{hearing.{Fault.Fault, Heard.Heard}, report.TakeReport.TakeReport, room.Room.Room, turn.Turn.Turn}
+use Rattle.hba_fbs.specs.{declared.turn.Turn.TheVariants.{Feeds, Orders, Rests}, Choosing.MayChoose, Turning.feeds}
 use Rattle.hba_fbs.specs.declared.hearing.Fault.TheVariants as fault
-use Rattle.hba_fbs.specs.declared.hearing.Heard.{Heard}
 use Rattle.hba_fbs.specs.declared.register.Register as port_register
 use Rattle.hba_fbs.specs.declared.register.Register.TheVariants as on_port
-use Rattle.hba_fbs.specs.declared.report.TakeReport.{TakeReport}
-use Rattle.hba_fbs.specs.declared.room.Room.{Room}
-use Rattle.hba_fbs.specs.declared.turn.Turn.{Turn}
-use Rattle.hba_fbs.specs.declared.turn.Turn.TheVariants.{Feeds, Orders, Rests}
-use Rattle.hba_fbs.specs.Choosing.{MayChoose}
-use Rattle.hba_fbs.specs.Turning.{feeds}
 use Rattle.hba_laws.proofs.Door.{own_in}
-use Rattle.hba_laws.specs.Agreement.{IsTold}
-use Rattle.hba_laws.specs.CoreHistories.{AreFramedBy, CoreViewsAreTold, IsFramedBy, event_by, happened, turned_for}
-use Rattle.hba_laws.specs.Cores as core
-use Rattle.hba_laws.specs.Cores.{AreCores, CoreEvent, DoesBy, IsCore, RunsBy}
-use Rattle.hba_laws.specs.Delivering.{begun_by, event_heard, event_sent, is_control_issue}
-use Rattle.hba_laws.specs.History as history
+use Rattle.hba_laws.specs.{Agreement.IsTold, CoreHistories.{AreFramedBy, CoreViewsAreTold, IsFramedBy, event_by, happened, turned_for}}
+use Rattle.hba_laws.specs.{Cores.{AreCores, CoreEvent, DoesBy, IsCore, RunsBy}, Delivering.{begun_by, event_heard, event_sent, is_control_issue}}
 use Rattle.hba_laws.specs.History.{Event, History, issued}
+use Rattle.hba_laws.specs.Cores as core
+use Rattle.hba_laws.specs.History as history
 use Rattle.sata_disk_books.specs.Counted.{Counted, more_by}
-use Rattle.machine_theorem.proofs.SetupHistory.{Follows, IsMild, IssuesNone, NoneUp, carried_follows, fed_follows, issued_follow, mild_follows, nothing_up, was_issued}
-use Rattle.machine_theorem.proofs.SetupFrames.{WayIs, frame_follows, is_blocks, none_way, the_issue, told_with}
+use Rattle.machine_theorem.proofs.SetupHistory.{Follows, IsMild, IssuesNone, NoneUp, carried_follows, fed_follows, issued_follow, mild_follows}
+use Rattle.machine_theorem.proofs.{SetupHistory.{nothing_up, was_issued}, SetupFrames.{WayIs, frame_follows, is_blocks, none_way, the_issue}}
+use Rattle.machine_theorem.proofs.SetupFrames.{told_with}
 
 -- ---- contexts
 

@@ -1,44 +1,27 @@
 -- A FIS of a device that is heard, and with which nothing is wrong, is in the history of the device what its bytes say.
 use Rattle.std.proofs.Common.{◌≡◌, ℕ, ◌-◌, Bool, true, false, cond, List, [], ◌∷◌, ◌++◌, drop, length, refl, sym, ap, subst, ◌∙◌, Option, Some, None}
-use Rattle.std.specs.Prelude.{◌==◌, ◌||◌, ◌%◌, IfSome, is_some, not, nat_lt, if◌then◌else◌, Result, Ok, Err}
-use Rattle.std.specs.Option.{option_map}
 use Rattle.std.proofs.lemmas.Bool.{eqb-true, false≢true}
-use Rattle.fis_view.specs.Seen.{kind_of, may_have, seen, view_as}
-use Rattle.fis_view.specs.Table as table
-use Rattle.fis_view.specs.Table.{Kind, Data, field}
-use Rattle.fis_view.specs.declared.view.Fis.{Fis}
-use Rattle.fis_view.specs.declared.view.Fis.TheVariants as view
-use Rattle.fis_view.specs.declared.view.FisFault.{FisFault}
+use Rattle.std.specs.{Prelude.{◌==◌, ◌||◌, ◌%◌, IfSome, is_some, not, nat_lt, if◌then◌else◌, Result, Ok, Err}, Option.option_map}
+use Rattle.fis_view.specs.{Seen.{kind_of, may_have, seen, view_as}, Table.{Kind, Data, field}, declared.view.{Fis.Fis, FisFault.FisFault}}
 use Rattle.fis_view.specs.declared.view.FisFault.TheVariants.{WrongLength}
-use Rattle.slots.specs.Commands.{answer_of, completed}
-use Rattle.slots.specs.Data.{after_arrive, may_activate}
-use Rattle.slots.specs.Setup.{came, context_or, dma_context, out_context, out_fault, out_setup, pio_fault, pio_issue, setup_fault}
-use Rattle.slots.specs.Slots.{DeviceSlots, Issue, holds, is_out_issue, is_pio, match_some, own_issue, sent_pio, waiting}
-use Rattle.slots.specs.Work.{is_out, is_read}
+use Rattle.fis_view.specs.Table as table
+use Rattle.fis_view.specs.declared.view.Fis.TheVariants as view
+use Rattle.slots.specs.{Commands.{answer_of, completed}, Data.{after_arrive, may_activate}, Setup.{came, context_or, dma_context, out_context}}
+use Rattle.slots.specs.{Setup.{out_fault, out_setup, pio_fault, pio_issue, setup_fault}, Slots.{DeviceSlots, Issue, holds, is_out_issue, is_pio}}
+use Rattle.slots.specs.{Slots.{match_some, own_issue, sent_pio, waiting}, Work.{is_out, is_read}, declared.answer.SetupError.SetupError}
+use Rattle.slots.specs.declared.{answer.SetupError.TheVariants.NotOutstanding, table.Context.Context, work.{Kind.Kind as WorkKind, Work.Work}}
 use Rattle.slots.specs.declared.answer.Answered as answered_type
 use Rattle.slots.specs.declared.answer.Answered.TheVariants as answer
-use Rattle.slots.specs.declared.answer.SetupError.{SetupError}
-use Rattle.slots.specs.declared.answer.SetupError.TheVariants.{NotOutstanding}
-use Rattle.slots.specs.declared.table.Context.{Context}
-use Rattle.slots.specs.declared.work.Kind.{Kind as WorkKind}
-use Rattle.slots.specs.declared.work.Work.{Work}
-use Rattle.hba_fbs.specs.Deciding.{decided, heard_within, is_past}
-use Rattle.hba_fbs.specs.Hearing.{answered, block_of, bus_failed, faulty, heard_bytes, heard_data, heard_data_of, heard_fis, heard_out, is_admitted, named, overflowed, quietly, set_up, signing, tag_of}
-use Rattle.hba_fbs.specs.Status.{after_reset, is_busy, is_error, with_bits, with_file}
-use Rattle.hba_fbs.specs.Taking.{admitted, view_after_hearing}
-use Rattle.hba_fbs.specs.Views.{DeviceView}
+use Rattle.hba_fbs.specs.{Deciding.{decided, heard_within, is_past}, Hearing.{answered, block_of, bus_failed, faulty, heard_bytes, heard_data}}
+use Rattle.hba_fbs.specs.Hearing.{heard_data_of, heard_fis, heard_out, is_admitted, named, overflowed, quietly, set_up, signing, tag_of}
+use Rattle.hba_fbs.specs.{Status.{after_reset, is_busy, is_error, with_bits, with_file}, Taking.{admitted, view_after_hearing}, Views.DeviceView}
+use Rattle.hba_fbs.specs.declared.{report.Wrote.Wrote, hearing.Heard.Heard, room.Room.{Room, TheVariants.{Bytes, NoTable, Whole}}}
+use Rattle.hba_fbs.specs.declared.{state.DeviceState.DeviceState, status.Block.Block}
 use Rattle.port_errors.specs.declared.cause.DeviceCause.TheVariants as cause
-use Rattle.hba_fbs.specs.declared.report.Wrote.{Wrote}
 use Rattle.hba_fbs.specs.declared.hearing.Happening.TheVariants as happening
-use Rattle.hba_fbs.specs.declared.hearing.Heard.{Heard}
-use Rattle.hba_fbs.specs.declared.room.Room.{Room}
-use Rattle.hba_fbs.specs.declared.room.Room.TheVariants.{Bytes, NoTable, Whole}
-use Rattle.hba_fbs.specs.declared.state.DeviceState.{DeviceState}
-use Rattle.hba_fbs.specs.declared.status.Block.{Block}
-use Rattle.hba_laws.specs.Agreement.{IsTold, IssueAgrees, end_of, is_for, is_pio_issue, work_of_issue, work_of_transfer}
-use Rattle.hba_laws.specs.Delivering.{event_heard, event_of_answer}
+use Rattle.hba_laws.specs.{Agreement.{IsTold, IssueAgrees, end_of, is_for, is_pio_issue, work_of_issue, work_of_transfer}, Delivering.event_heard}
+use Rattle.hba_laws.specs.{Delivering.event_of_answer, History.{Event, History, Transfer, issued}}
 use Rattle.hba_laws.specs.History as history
-use Rattle.hba_laws.specs.History.{Event, History, Transfer, issued}
 use Rattle.sata_disk_books.specs.Counted.{Counted}
 use Rattle.machine_theorem.proofs.SetupHistory.{Follows, IsMild, IsUp, NoneUp, mild_follows, nothing_up, set_up_follows, was_issued}
 

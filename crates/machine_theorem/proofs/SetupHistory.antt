@@ -1,14 +1,13 @@
 -- A history of a device beside what its FISes say: the slot of a queued command that is set up, and the number of its next byte, are what they say.
-use Rattle.std.proofs.Common.{◌≡◌, ℕ, zero, suc, ◌+◌, Bool, true, false, List, [], ◌∷◌, ◌++◌, append_assoc, length, refl, sym, ap, subst, ◌∙◌, arith, Option, Some, None}
+use Rattle.std.proofs.Common.{◌≡◌, ℕ, zero, suc, ◌+◌, Bool, true, false, List, [], ◌∷◌, ◌++◌, append_assoc, length, refl, sym, ap, subst, ◌∙◌, arith}
+use Rattle.std.proofs.{Common.{Option, Some, None}, lemmas.Bool.{eqb-true}}
 use Rattle.std.specs.Prelude.{◌==◌, is_some, if◌then◌else◌}
-use Rattle.std.proofs.lemmas.Bool.{eqb-true}
 use Rattle.host_memory.specs.declared.table.Prd.{Prd}
-use Rattle.slots.specs.Slots.{match_some}
-use Rattle.slots.specs.declared.work.Kind.{Kind}
+use Rattle.slots.specs.{Slots.match_some, declared.work.Kind.Kind}
 use Rattle.hba_commands.specs.declared.command.Command.{Command}
-use Rattle.hba_laws.specs.Alike.{told_issue, told_issued}
+use Rattle.hba_laws.specs.{Alike.{told_issue, told_issued}, History.{Event, History, Setup, Transfer, carried, completes, is_at, is_set_up, issued}}
+use Rattle.hba_laws.specs.History.{last_setup, next_number, unless, waiting_in}
 use Rattle.hba_laws.specs.History as history
-use Rattle.hba_laws.specs.History.{Event, History, Setup, Transfer, carried, completes, is_at, is_set_up, issued, last_setup, next_number, unless, waiting_in}
 use Rattle.sata_disk_books.specs.Counted.{Counted, more_by}
 
 -- what is issued in a slot that is set up is of this kind

@@ -1,63 +1,37 @@
 -- Data are due to a device only where it asked for them.
-use Rattle.std.proofs.Common.{◌≡◌, ℕ, ◌-◌, ◌<◌, Bool, true, false, List, [], ◌∷◌, ◌++◌, append-nil, length, replicate, get_or, refl, sym, ap, subst, ◌∙◌, inl, inr, Option, Some, None}
+use Rattle.std.proofs.Common.{◌≡◌, ℕ, ◌-◌, ◌<◌, Bool, true, false, List, [], ◌∷◌, ◌++◌, append-nil, length, replicate, get_or, refl, sym, ap, subst}
+use Rattle.std.proofs.{Common.{◌∙◌, inl, inr, Option, Some, None}, lemmas.Bool.{cases_Bool, eqb-false, eqb-true, false≢true, ltb-false, ltb-true}}
+use Rattle.std.proofs.lemmas.{Bool.{true≢false}, List.{get_or_past, get_or-replicate}}
 use Rattle.std.specs.Prelude.{◌==◌, ◌&&◌, min, is_ok, is_some, not, nat_lt, if◌then◌else◌, Result, Ok, Err}
-use Rattle.std.proofs.lemmas.Bool.{cases_Bool, eqb-false, eqb-true, false≢true, ltb-false, ltb-true, true≢false}
-use Rattle.std.proofs.lemmas.List.{get_or_past, get_or-replicate}
-use Rattle.fis_view.specs.Seen.{seen}
+use Rattle.fis_view.specs.{Seen.seen, Table.field, declared.view.{Fis.Fis, FisFault.FisFault}}
 use Rattle.fis_view.specs.Table as table
-use Rattle.fis_view.specs.Table.{field}
-use Rattle.fis_view.specs.declared.view.Fis.{Fis}
 use Rattle.fis_view.specs.declared.view.Fis.TheVariants as view
-use Rattle.fis_view.specs.declared.view.FisFault.{FisFault}
-use Rattle.slots.specs.Commands.{after_pio_done, answer_of, answered_as, completed, is_slot, whole_pio, with_sent}
-use Rattle.slots.specs.Data.{after_arrive, arrive_answer, gone_over, moved_on, payload, payload_len}
-use Rattle.slots.specs.Setup.{begun, dma_context, setup_fault}
-use Rattle.slots.specs.Slots.{DeviceSlots, Issue, context_of, context_unless, freed, holds, is_control, match_some, own_issue}
-use Rattle.slots.specs.Work.{is_dma}
+use Rattle.slots.specs.{Commands.{after_pio_done, answer_of, answered_as, completed, is_slot, whole_pio, with_sent}, Data.after_arrive}
+use Rattle.slots.specs.{Data.{arrive_answer, gone_over, moved_on, payload, payload_len}, Setup.{begun, dma_context, setup_fault}, Slots.DeviceSlots}
+use Rattle.slots.specs.{Slots.{Issue, context_of, context_unless, freed, holds, is_control, match_some, own_issue}, Work.is_dma}
+use Rattle.slots.specs.declared.{answer.SetupError.SetupError, table.Context.Context, work.Kind.TheVariants.QueuedWrite}
 use Rattle.slots.specs.declared.answer.Answered as answered_type
 use Rattle.slots.specs.declared.answer.Answered.TheVariants as answer
-use Rattle.slots.specs.declared.answer.SetupError.{SetupError}
-use Rattle.slots.specs.declared.table.Context.{Context}
-use Rattle.slots.specs.declared.work.Kind.TheVariants.{QueuedWrite}
-use Rattle.hba_fbs.specs.Deciding.{Decides, decided, heard_within, is_past}
-use Rattle.hba_fbs.specs.Greeting.{Greets, greeted_in, line_view}
-use Rattle.hba_fbs.specs.Hearing.{answered, bus_failed, faulty, heard_bytes, heard_data_of, heard_fis, is_admitted, moved, named, overflowed, quietly, set_up, signing, tag_of}
-use Rattle.hba_fbs.specs.Offering.{Offer, view_by}
-use Rattle.hba_fbs.specs.Registers.{falls}
-use Rattle.hba_fbs.specs.Status.{after_reset, is_busy, is_error, is_quiet, with_bits, with_file}
-use Rattle.hba_fbs.specs.Stopping.{fallen_view}
-use Rattle.hba_fbs.specs.Taking.{admitted, heard_report, ignores, port_of}
-use Rattle.hba_fbs.specs.Turning.{feeds}
-use Rattle.hba_fbs.specs.Views.{DeviceView, LeavesOtherViews, Port, stopped_view, view_of}
-use Rattle.hba_fbs.specs.Writing.{cleared_by, is_device, view_cleared}
+use Rattle.hba_fbs.specs.{Deciding.{Decides, decided, heard_within, is_past}, Greeting.{Greets, greeted_in, line_view}, Hearing.answered}
+use Rattle.hba_fbs.specs.Hearing.{bus_failed, faulty, heard_bytes, heard_data_of, heard_fis, is_admitted, moved, named, overflowed, quietly, set_up}
+use Rattle.hba_fbs.specs.{Hearing.{signing, tag_of}, Offering.{Offer, view_by}, Registers.falls, Status.{after_reset, is_busy, is_error, is_quiet}}
+use Rattle.hba_fbs.specs.{Status.{with_bits, with_file}, Stopping.fallen_view, Taking.{admitted, heard_report, ignores, port_of}, Turning.feeds}
+use Rattle.hba_fbs.specs.{Views.{DeviceView, LeavesOtherViews, Port, stopped_view, view_of}, Writing.{cleared_by, is_device, view_cleared}}
+use Rattle.hba_fbs.specs.declared.{hearing.Heard.Heard, report.{TakeReport.TakeReport, Wrote.Wrote}, room.Room.{Room, TheVariants.{Bytes, NoTable}}}
+use Rattle.hba_fbs.specs.declared.{room.Room.TheVariants.Whole, state.DeviceState.DeviceState, status.Block.Block, turn.Turn.TheVariants.Feeds}
+use Rattle.hba_fbs.specs.declared.turn.Turn.TheVariants.{Orders, Rests}
 use Rattle.hba_fbs.specs.declared.hearing.Happening.TheVariants as happening
-use Rattle.hba_fbs.specs.declared.hearing.Heard.{Heard}
 use Rattle.hba_fbs.specs.declared.register.Register.TheVariants as on_port
-use Rattle.hba_fbs.specs.declared.report.TakeReport.{TakeReport}
-use Rattle.hba_fbs.specs.declared.report.Wrote.{Wrote}
-use Rattle.hba_fbs.specs.declared.room.Room.{Room}
-use Rattle.hba_fbs.specs.declared.room.Room.TheVariants.{Bytes, NoTable, Whole}
-use Rattle.hba_fbs.specs.declared.state.DeviceState.{DeviceState}
-use Rattle.hba_fbs.specs.declared.status.Block.{Block}
-use Rattle.hba_fbs.specs.declared.turn.Turn.TheVariants.{Feeds, Orders, Rests}
 use Rattle.port_errors.specs.declared.cause.DeviceCause.TheVariants as cause
 use Rattle.hba_laws.specs.Cores as core
 use Rattle.hba_laws.specs.Cores.{CoreEvent, DoesBy, RunsBy}
-use Rattle.ahci_controller.specs.States.{ControllerState}
-use Rattle.ahci_controller.specs.Next.{turn_to}
-use Rattle.ahci_controller.specs.Taking.{room_for}
+use Rattle.ahci_controller.specs.{States.ControllerState, Next.turn_to, Taking.room_for, declared.{latch.Edge.Edge, taking.Took.Took}}
 use Rattle.ahci_controller.specs.declared.feeding.Fed.TheVariants as fed_answer
-use Rattle.ahci_controller.specs.declared.latch.Edge.{Edge}
-use Rattle.ahci_controller.specs.declared.taking.Took.{Took}
-use Rattle.controller_laws.specs.CoreEvents.{AreCoreEvents, EventsAreCoreEvents, of_event, of_frame}
+use Rattle.controller_laws.specs.{CoreEvents.{AreCoreEvents, EventsAreCoreEvents, of_event, of_frame}, Events.{Does, Event, IsController, Runs}}
 use Rattle.controller_laws.specs.Events as call
-use Rattle.controller_laws.specs.Events.{Does, Event, IsController, Runs}
 use Rattle.sata_disk_books.specs.Talks.{AreAsked, Asks, Down, Plain, SetsUp, Sign, Step, Talk, Up, quiet_talk, sign_of, talk_by}
-use Rattle.machine_theorem.specs.Asking.{DataGoAsAsked, events_steps}
-use Rattle.machine_theorem.specs.Following.{AllHeardWell, IsHeardWell}
-use Rattle.machine_theorem.proofs.Ordered.{fed_some}
-use Rattle.machine_theorem.proofs.SetupCalls.{IsNoTake, call_none, first_kept}
-use Rattle.machine_theorem.proofs.SetupCores.{AreNoFises, IsNoFis, no_fault}
+use Rattle.machine_theorem.specs.{Asking.{DataGoAsAsked, events_steps}, Following.{AllHeardWell, IsHeardWell}}
+use Rattle.machine_theorem.proofs.{Ordered.fed_some, SetupCalls.{IsNoTake, call_none, first_kept}, SetupCores.{AreNoFises, IsNoFis, no_fault}}
 
 abbrev due_by : Option Context → Bool
 due_by o = is_some (payload o)

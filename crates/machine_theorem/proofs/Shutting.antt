@@ -1,36 +1,26 @@
 -- A PIO data-in that waits, and whose last block is set up, is shut: the Data of this block end it. Only the PIO Setup FIS of a last block shuts the slot of a
 -- device that waits, and only a command that goes begins to wait.
 use Rattle.std.proofs.Common.{◌≡◌, ℕ, ◌<◌, ◌&&◌, Bool, true, false, not, [], ◌∷◌, ◌++◌, refl, sym, ap, subst, ◌∙◌, Option, Some, None}
-use Rattle.std.specs.Prelude.{◌==◌, ◌||◌, IfSome, MatchOption, is_some, if◌then◌else◌}
-use Rattle.std.specs.Option.{option_map}
 use Rattle.std.proofs.lemmas.Bool.{and_parts, eq-eqb, eqb-true, false≢true}
+use Rattle.std.specs.{Prelude.{◌==◌, ◌||◌, IfSome, MatchOption, is_some, if◌then◌else◌}, Option.option_map}
 use Rattle.fis_view.specs.Seen.{seen}
 use Rattle.slots.specs.Slots.{Issue, context_of, holds, is_pio, is_queued_issue, is_waiting, issue_at, match_some, own_issue, slots_of, waiting}
-use Rattle.slots.specs.Table.{IsContext, IsContextOf, IsIssue}
-use Rattle.slots.specs.Work.{is_queued, needs_all}
-use Rattle.slots.specs.declared.table.Context.{Context}
-use Rattle.slots.specs.declared.work.Kind.{Kind}
+use Rattle.slots.specs.{Table.{IsContext, IsContextOf, IsIssue}, Work.{is_queued, needs_all}, declared.{table.Context.Context, work.Kind.Kind}}
 use Rattle.slots.specs.declared.work.Kind.TheVariants.{PioIn}
 use Rattle.slots.proofs.Door.{lowest_is}
-use Rattle.hba_fbs.specs.Status.{is_quiet}
-use Rattle.hba_fbs.specs.Taking.{port_of}
-use Rattle.hba_fbs.specs.Views.{DeviceView, view_of}
-use Rattle.hba_fbs.specs.declared.status.Block.{Block}
+use Rattle.hba_fbs.specs.{Status.is_quiet, Taking.port_of, Views.{DeviceView, view_of}, declared.status.Block.Block}
 use Rattle.hba_laws.specs.Agreement.{ContextAgrees, IsTold, SetupAgrees, end_of, is_for, is_pio_issue, work_of_issue, work_of_transfer}
-use Rattle.hba_laws.specs.CoreHistories.{event_by, history_through}
+use Rattle.hba_laws.specs.{CoreHistories.{event_by, history_through}, History.{Event, History, Setup, Transfer, is_at, is_set_up, issued, last_setup}}
+use Rattle.hba_laws.specs.History.{unless, waiting_in}
 use Rattle.hba_laws.specs.History as history
-use Rattle.hba_laws.specs.History.{Event, History, Setup, Transfer, is_at, is_set_up, issued, last_setup, unless, waiting_in}
 use Rattle.hba_laws.proofs.Door.{held, own_in}
 use Rattle.ahci_controller.specs.States.{ControllerState}
-use Rattle.controller_laws.specs.CoreEvents.{of_event}
+use Rattle.controller_laws.specs.{CoreEvents.of_event, Events.{Does, Event as Call, IsController}}
 use Rattle.controller_laws.specs.Events as call
-use Rattle.controller_laws.specs.Events.{Does, Event as Call, IsController}
 use Rattle.machine_theorem.specs.Waits.{is_commanded, waits_in}
-use Rattle.machine_theorem.proofs.Calm.{IsUnsentTurn, NotSent, call_back, fis_not, one_back}
-use Rattle.machine_theorem.proofs.CallEvents.{AllOf, FrameIs, IsPlain, grown, turn_of, unsent_goes}
-use Rattle.machine_theorem.proofs.FisEvents.{IsOpenEvent, closes, fis_open}
-use Rattle.machine_theorem.proofs.PlainWaits.{at_some}
-use Rattle.machine_theorem.proofs.Waiting.{Laws, core_events, some_waits}
+use Rattle.machine_theorem.proofs.{Calm.{IsUnsentTurn, NotSent, call_back, fis_not, one_back}, CallEvents.{AllOf, FrameIs, IsPlain, grown, turn_of}}
+use Rattle.machine_theorem.proofs.{CallEvents.unsent_goes, FisEvents.{IsOpenEvent, closes, fis_open}, PlainWaits.at_some, Waiting.{Laws, core_events}}
+use Rattle.machine_theorem.proofs.Waiting.{some_waits}
 
 -- ---- histories
 

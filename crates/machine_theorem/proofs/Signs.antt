@@ -1,33 +1,21 @@
 -- What the FISes that a disk sends say of Data that are to go to it: what the calls of the disk say, and the same as they come up.
-use Rattle.std.proofs.Common.{◌≡◌, ℕ, ◌%◌, ◌<◌, Bool, true, false, not, List, length, refl, ap, ◌∙◌, arith}
-use Rattle.std.specs.Prelude.{◌==◌, ◌&&◌, ◌*◌, ◌/◌, ◌+◌, slice_index, if◌then◌else◌, Ok, Err}
-use Rattle.std.specs.Int.{from_bool}
-use Rattle.std.proofs.lemmas.Bool.{eqb-true, true≢false}
+use Rattle.std.proofs.{Common.{◌≡◌, ℕ, ◌%◌, ◌<◌, Bool, true, false, not, List, length, refl, ap, ◌∙◌, arith}, lemmas.Bool.{eqb-true, true≢false}}
 use Rattle.std.proofs.lemmas.List.{length-set}
-use Rattle.fis_view.specs.Built.{cut}
-use Rattle.fis_view.specs.Frames.{Stamped, marked}
-use Rattle.fis_view.specs.Marks.{IsMarked}
-use Rattle.fis_view.specs.Seen.{kind_of, kind_of_type, may_have, seen, view_as}
+use Rattle.std.specs.{Prelude.{◌==◌, ◌&&◌, ◌*◌, ◌/◌, ◌+◌, slice_index, if◌then◌else◌, Ok, Err}, Int.from_bool}
+use Rattle.fis_view.specs.{Built.cut, Frames.{Stamped, marked}, Marks.IsMarked, Seen.{kind_of, kind_of_type, may_have, seen, view_as}, Table.Kind}
+use Rattle.fis_view.specs.{Table.{field, places}, declared.view.FisFault.TheVariants.WrongLength}
 use Rattle.fis_view.specs.Table as table
-use Rattle.fis_view.specs.Table.{Kind, field, places}
-use Rattle.fis_view.specs.declared.view.FisFault.TheVariants.{WrongLength}
 use Rattle.fis_view.proofs.Door.{is_marked_from}
-use Rattle.fan_out.specs.declared.fan_out.FanOut.{FanOut}
-use Rattle.fan_out.specs.declared.fan_out.FanOut.TheVariants.{Device, Multiplier}
-use Rattle.ata_reply.specs.Replies.{Shows}
-use Rattle.ata_reply.specs.declared.reply.Reply.{Reply}
+use Rattle.fan_out.specs.declared.fan_out.FanOut.{FanOut, TheVariants.{Device, Multiplier}}
+use Rattle.ata_reply.specs.{Replies.Shows, declared.reply.Reply.Reply}
 use Rattle.ata_reply.specs.declared.reply.Reply.TheVariants as replies
-use Rattle.sata_disk.specs.Sending.{IsFis}
-use Rattle.sata_disk.specs.State.{DiskState}
-use Rattle.sata_disk.specs.declared.out.Out.{Out}
+use Rattle.sata_disk.specs.{Sending.IsFis, State.DiskState, declared.out.Out.Out}
 use Rattle.sata_disk.specs.declared.out.Out.TheVariants as out
 use Rattle.sata_disk_laws.specs.Once.{Host, IsDue, IsOutDue}
-use Rattle.sata_disk_books.specs.InTurn.{sign_out, sign_reply}
-use Rattle.sata_disk_books.specs.Talks.{SetsUp, sign_of}
+use Rattle.sata_disk_books.specs.{InTurn.{sign_out, sign_reply}, Talks.{SetsUp, sign_of}}
 use Rattle.ahci_machine.specs.States.{MachineState}
 use Rattle.machine_laws.specs.Rising.{Frames, HaveRisen, IsSoundEnd, Sends, risen}
-use Rattle.machine_laws.proofs.RisRun.{crosses}
-use Rattle.machine_laws.proofs.RisStraight.{straight_through}
+use Rattle.machine_laws.proofs.{RisRun.crosses, RisStraight.straight_through}
 use Rattle.machine_theorem.proofs.Sent.{marked_type}
 
 -- ---- as the disk sends it

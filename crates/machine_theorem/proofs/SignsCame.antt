@@ -1,9 +1,8 @@
 -- What the FISes that came to the controller say of Data that are to go is a beginning of what the calls of the disk say.
 use Rattle.std.proofs.Common.{◌≡◌, ℕ, ◌-◌, Bool, true, false, List, [], ◌∷◌, ◌++◌, append_assoc, append-nil, length, refl, sym, ap, ◌∙◌}
-use Rattle.std.specs.Prelude.{◌==◌, if◌then◌else◌}
 use Rattle.std.proofs.lemmas.Bool.{false≢true}
-use Rattle.fis_view.specs.Frames.{Stamped}
-use Rattle.fis_view.specs.Seen.{seen}
+use Rattle.std.specs.Prelude.{◌==◌, if◌then◌else◌}
+use Rattle.fis_view.specs.{Frames.Stamped, Seen.seen}
 use Rattle.multiplier.specs.Passing.{of_conn}
 use Rattle.hba_fbs.specs.Taking.{port_of}
 use Rattle.ahci_controller.specs.declared.feeding.Fed.TheVariants as fed_answer
@@ -12,12 +11,8 @@ use Rattle.controller_laws.specs.Events.{Event}
 use Rattle.sata_disk_books.specs.Talks.{Down, Sign, Step, Up, sign_of}
 use Rattle.ahci_machine.specs.States.{MachineState}
 use Rattle.machine_laws.specs.Rising.{Frames, RisesInOrder, bytes_of, frames_of, is_over, on_way}
-use Rattle.machine_theorem.specs.Asking.{events_steps}
-use Rattle.machine_theorem.specs.Crossing.{ups}
-use Rattle.machine_theorem.specs.OwnSlots.{AreOne, NoneLost, is_of}
-use Rattle.machine_theorem.proofs.OwnPlace.{cancel}
-use Rattle.machine_theorem.proofs.RisenTold.{conn_both}
-use Rattle.machine_theorem.proofs.SignsSent.{sign_in, signs_in}
+use Rattle.machine_theorem.specs.{Asking.events_steps, Crossing.ups, OwnSlots.{AreOne, NoneLost, is_of}}
+use Rattle.machine_theorem.proofs.{OwnPlace.cancel, RisenTold.conn_both, SignsSent.{sign_in, signs_in}}
 
 -- ---- the calls of the controller
 

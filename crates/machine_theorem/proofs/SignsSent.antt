@@ -1,40 +1,22 @@
 -- What the calls of a disk say of Data that are to go to it, the FISes say that go up from its port.
 use Rattle.std.proofs.Common.{◌≡◌, ℕ, ◌<◌, Bool, true, false, List, [], ◌∷◌, ◌++◌, append_assoc, refl, sym, ap, subst, ◌∙◌, map}
+use Rattle.std.proofs.lemmas.{Bool.{eqb-true, eq-eqb, false≢true}, List.Elements.{Contains-push}}
 use Rattle.std.specs.Prelude.{◌==◌, if◌then◌else◌, Result, Ok, Err}
-use Rattle.std.proofs.lemmas.Bool.{eqb-true, eq-eqb, false≢true}
-use Rattle.std.proofs.lemmas.List.Elements.{Contains-push}
-use Rattle.fis_view.specs.Frames.{Stamped}
-use Rattle.fis_view.specs.Seen.{seen}
-use Rattle.fis_view.specs.declared.view.Fis.{Fis}
+use Rattle.fis_view.specs.{Frames.Stamped, Seen.seen, declared.view.{Fis.Fis, FisFault.FisFault}}
 use Rattle.fis_view.specs.declared.view.Fis.TheVariants as view
-use Rattle.fis_view.specs.declared.view.FisFault.{FisFault}
 use Rattle.multiplier.specs.Passing.{of_conn}
-use Rattle.sata_disk.specs.State.{DiskState}
-use Rattle.sata_disk.specs.Sending.{IsFis}
-use Rattle.sata_disk.specs.declared.out.Out.{Out}
-use Rattle.sata_disk_books.specs.InTurn.{call_steps, calls_steps, data_steps, sign_out}
-use Rattle.sata_disk_books.specs.Talks.{Sign, Step, sign_of}
+use Rattle.sata_disk.specs.{State.DiskState, Sending.IsFis, declared.out.Out.Out}
+use Rattle.sata_disk_books.specs.{InTurn.{call_steps, calls_steps, data_steps, sign_out}, Talks.{Sign, Step, sign_of}}
 use Rattle.sata_disk_laws.specs.Calls as disk_call
-use Rattle.sata_disk_laws.specs.Calls.{Call, Sends, after_calls}
-use Rattle.sata_disk_laws.specs.Once.{AreDue, Host, host_after}
-use Rattle.ahci_machine.specs.States.{MachineState, bay_at}
-use Rattle.ahci_machine.specs.declared.act.Act.{Act}
+use Rattle.sata_disk_laws.specs.{Calls.{Call, Sends, after_calls}, Once.{AreDue, Host, host_after}}
+use Rattle.ahci_machine.specs.{States.{MachineState, bay_at}, declared.{act.Act.Act, bay.Unit.TheVariants.Disk}}
 use Rattle.ahci_machine.specs.declared.act.Act.TheVariants as act
-use Rattle.ahci_machine.specs.declared.bay.Unit.TheVariants.{Disk}
-use Rattle.machine_laws.specs.ControllerLaws.{RunsRuled}
-use Rattle.machine_laws.specs.Deeds.{Deed, Does, FrameOffered, Moved}
-use Rattle.machine_laws.specs.Disks.{DisksGoOn, calls_at}
-use Rattle.machine_laws.specs.Rising.{Frames, GoesOnRising, HaveRisen, frames_after, risen, sent_by}
-use Rattle.machine_theorem.specs.Crossing.{ups}
-use Rattle.machine_theorem.specs.Identity.{calls_of}
-use Rattle.machine_theorem.specs.OwnSlots.{AllKeepLine, KeepsLine}
-use Rattle.machine_theorem.proofs.EndsFew.{disk_same, sent_of}
-use Rattle.machine_theorem.proofs.Fallen.{left_there}
-use Rattle.machine_theorem.proofs.Ordered.{first_ruled}
-use Rattle.machine_theorem.proofs.RisenTold.{conn_both}
-use Rattle.machine_theorem.proofs.SentFises.{SendsNone, deed_none, is_one, not_of, offers_none, sender_is, stamp_is}
-use Rattle.machine_theorem.proofs.Signs.{MarksLow, SignsWell, marks_low, risen_sign, signs_well}
-use Rattle.machine_theorem.proofs.Words.{ups_both}
+use Rattle.machine_laws.specs.{ControllerLaws.RunsRuled, Deeds.{Deed, Does, FrameOffered, Moved}, Disks.{DisksGoOn, calls_at}, Rising.Frames}
+use Rattle.machine_laws.specs.Rising.{GoesOnRising, HaveRisen, frames_after, risen, sent_by}
+use Rattle.machine_theorem.specs.{Crossing.ups, Identity.calls_of, OwnSlots.{AllKeepLine, KeepsLine}}
+use Rattle.machine_theorem.proofs.{EndsFew.{disk_same, sent_of}, Fallen.left_there, Ordered.first_ruled, RisenTold.conn_both, SentFises.SendsNone}
+use Rattle.machine_theorem.proofs.{SentFises.{deed_none, is_one, not_of, offers_none, sender_is, stamp_is}, Signs.{MarksLow, SignsWell, marks_low}}
+use Rattle.machine_theorem.proofs.{Signs.{risen_sign, signs_well}, Words.ups_both}
 
 -- ---- the calls of a disk
 

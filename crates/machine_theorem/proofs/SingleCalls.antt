@@ -1,55 +1,31 @@
 -- A command that is not queued and waits in its slot: the Data that go to its device are of this slot, from the byte behind those that went since it was
 -- sent.
-use Rattle.std.proofs.Common.{◌≡◌, ◌⊎◌, ℕ, ◌+◌, ◌<◌, ◌≤◌, ◌&&◌, Bool, true, false, not, List, [], ◌∷◌, ◌++◌, drop, length, refl, sym, ap, subst, ◌∙◌, inl, inr, arith, Option, Some, None}
-use Rattle.std.specs.Prelude.{◌==◌, ◌||◌, IfSome, MatchOption, is_some, if◌then◌else◌}
-use Rattle.std.specs.Option.{option_map}
-use Rattle.std.proofs.lemmas.Bool.{and_parts, eq-eqb, eqb-true, false≢true}
-use Rattle.std.proofs.lemmas.List.{length-drop}
+use Rattle.std.proofs.Common.{◌≡◌, ◌⊎◌, ℕ, ◌+◌, ◌<◌, ◌≤◌, ◌&&◌, Bool, true, false, not, List, [], ◌∷◌, ◌++◌, drop, length, refl, sym, ap, subst, ◌∙◌}
+use Rattle.std.proofs.{Common.{inl, inr, arith, Option, Some, None}, lemmas.{Bool.{and_parts, eq-eqb, eqb-true, false≢true}, List.{length-drop}}}
+use Rattle.std.specs.{Prelude.{◌==◌, ◌||◌, IfSome, MatchOption, is_some, if◌then◌else◌}, Option.option_map}
 use Rattle.fis_view.specs.Seen.{seen}
-use Rattle.slots.specs.Commands.{sent_issue}
-use Rattle.slots.specs.Data.{IsWriteOf, payload, payload_len}
-use Rattle.slots.specs.Slots.{Issue, Slots, context_of, holds, is_control, is_queued_issue, is_under_way, is_waiting, issue_at, match_some, own_issue, owned_by, slots_of, waiting}
-use Rattle.slots.specs.Table.{IsContext, IsContextOf, IsIssue, waits_for}
-use Rattle.slots.specs.Work.{is_dma, is_queued, is_read, needs_all}
-use Rattle.slots.specs.declared.table.Context.{Context}
-use Rattle.slots.specs.declared.work.Kind.{Kind}
-use Rattle.slots.specs.declared.work.Kind.TheVariants.{Control}
-use Rattle.slots.specs.declared.work.Work.{Work}
-use Rattle.hba_fbs.specs.Choosing.{MayChoose}
-use Rattle.hba_fbs.specs.Deciding.{decided}
-use Rattle.hba_fbs.specs.Taking.{admitted, ignores, port_of}
-use Rattle.hba_fbs.specs.Turning.{IsFed, feeds}
-use Rattle.hba_fbs.specs.Views.{DeviceView, view_of}
-use Rattle.hba_fbs.specs.declared.turn.Turn.TheVariants.{Feeds, Rests}
-use Rattle.hba_laws.specs.Agreement.{IsTold, SetupAgrees, is_for, work_of_issue, work_of_transfer}
-use Rattle.hba_laws.specs.Cores.{HasBytes}
-use Rattle.hba_laws.specs.Delivering.{begun_by, event_heard, is_control_issue}
+use Rattle.slots.specs.{Commands.sent_issue, Data.{IsWriteOf, payload, payload_len}, Slots.{Issue, Slots, context_of, holds, is_control}}
+use Rattle.slots.specs.Slots.{is_queued_issue, is_under_way, is_waiting, issue_at, match_some, own_issue, owned_by, slots_of, waiting}
+use Rattle.slots.specs.{Table.{IsContext, IsContextOf, IsIssue, waits_for}, Work.{is_dma, is_queued, is_read, needs_all}}
+use Rattle.slots.specs.declared.{table.Context.Context, work.{Kind.{Kind, TheVariants.Control}, Work.Work}}
+use Rattle.hba_fbs.specs.{Choosing.MayChoose, Deciding.decided, Taking.{admitted, ignores, port_of}, Turning.{IsFed, feeds}, Views.DeviceView}
+use Rattle.hba_fbs.specs.{Views.view_of, declared.turn.Turn.TheVariants.{Feeds, Rests}}
+use Rattle.hba_laws.specs.{Agreement.{IsTold, SetupAgrees, is_for, work_of_issue, work_of_transfer}, Cores.HasBytes, Delivering.begun_by}
+use Rattle.hba_laws.specs.{Delivering.{event_heard, is_control_issue}, History.{History, Setup, Transfer, bytes_of, carried, is_at, is_set_up}}
+use Rattle.hba_laws.specs.History.{issued, last_setup, next_number, waiting_in}
 use Rattle.hba_laws.specs.History as history
-use Rattle.hba_laws.specs.History.{History, Setup, Transfer, bytes_of, carried, is_at, is_set_up, issued, last_setup, next_number, waiting_in}
 use Rattle.hba_laws.proofs.Door.{is_own, none_waits, own_here}
-use Rattle.ahci_controller.specs.Next.{is_fed, turn_to}
-use Rattle.ahci_controller.specs.States.{ControllerState}
-use Rattle.ahci_controller.specs.Taking.{room_for}
+use Rattle.ahci_controller.specs.{Next.{is_fed, turn_to}, States.ControllerState, Taking.room_for, declared.latch.Edge.Edge}
 use Rattle.ahci_controller.specs.declared.feeding.Fed.TheVariants as fed_answer
-use Rattle.ahci_controller.specs.declared.latch.Edge.{Edge}
 use Rattle.ahci_controller.specs.declared.next.Next.TheVariants as next
-use Rattle.controller_laws.specs.CoreEvents.{AreCoreEvents, of_event}
+use Rattle.controller_laws.specs.{CoreEvents.{AreCoreEvents, of_event}, Events.{Does, Event, IsController}}
 use Rattle.controller_laws.specs.Events as call
-use Rattle.controller_laws.specs.Events.{Does, Event, IsController}
-use Rattle.machine_theorem.specs.Commands.{issues_in}
-use Rattle.machine_theorem.specs.SingleData.{GoesNext, HasNoQueued, went_by}
-use Rattle.machine_theorem.specs.Waits.{is_command_issue, is_commanded}
-use Rattle.machine_theorem.proofs.CallSteps.{Heard, Idly, IsStep, Ordered, Stepped, stepped}
-use Rattle.machine_theorem.proofs.CoreStems.{call_stems}
-use Rattle.machine_theorem.proofs.FedCalls.{Sends, sends}
-use Rattle.machine_theorem.proofs.FisAllowed.{IsAllowed, frame_allowed}
-use Rattle.machine_theorem.proofs.Ordered.{fed_some}
-use Rattle.machine_theorem.proofs.OrderedOnce.{IsOrderedOnce, ordered_once}
-use Rattle.machine_theorem.proofs.SetupCores.{context_is, match_is, way_of}
-use Rattle.machine_theorem.proofs.SetupFrames.{the_issue}
-use Rattle.machine_theorem.proofs.SingleHistory.{IsEven, IsSum, even_carried, even_fis, even_idle, even_order, none_carried, sum_control, sum_fis, sum_goes, sum_idle, sum_sent}
-use Rattle.machine_theorem.proofs.Stems.{Stem}
-use Rattle.machine_theorem.proofs.Waiting.{Laws, core_events}
+use Rattle.machine_theorem.specs.{Commands.issues_in, SingleData.{GoesNext, HasNoQueued, went_by}, Waits.{is_command_issue, is_commanded}}
+use Rattle.machine_theorem.proofs.{CallSteps.{Heard, Idly, IsStep, Ordered, Stepped, stepped}, CoreStems.call_stems, FedCalls.{Sends, sends}}
+use Rattle.machine_theorem.proofs.{FisAllowed.{IsAllowed, frame_allowed}, Ordered.fed_some, OrderedOnce.{IsOrderedOnce, ordered_once}}
+use Rattle.machine_theorem.proofs.{SetupCores.{context_is, match_is, way_of}, SetupFrames.the_issue, SingleHistory.{IsEven, IsSum, even_carried}}
+use Rattle.machine_theorem.proofs.SingleHistory.{even_fis, even_idle, even_order, none_carried, sum_control, sum_fis, sum_goes, sum_idle, sum_sent}
+use Rattle.machine_theorem.proofs.{Stems.Stem, Waiting.{Laws, core_events}}
 
 -- ---- a slot whose command was sent
 

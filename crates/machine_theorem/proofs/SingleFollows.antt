@@ -1,49 +1,29 @@
 -- The number of the first byte that a Data FIS brings for a READ DMA is that of the Data which came since its command went.
-use Rattle.std.proofs.Common.{◌≡◌, ◌⊎◌, ℕ, ◌+◌, ◌<◌, ◌&&◌, Bool, true, false, not, List, [], ◌∷◌, ◌++◌, append_assoc, drop, inl, inr, refl, sym, ap, subst}
-use Rattle.std.proofs.Common.{◌∙◌, Option, Some, None, arith}
+use Rattle.std.proofs.Common.{◌≡◌, ◌⊎◌, ℕ, ◌+◌, ◌<◌, ◌&&◌, Bool, true, false, not, List, [], ◌∷◌, ◌++◌, append_assoc, drop, inl, inr, refl, sym, ap}
+use Rattle.std.proofs.{Common.{subst, ◌∙◌, Option, Some, None, arith}, lemmas.{Bool.{false≢true, true≢false}, List.{length-drop}}}
 use Rattle.std.specs.Prelude.{◌==◌, if◌then◌else◌}
-use Rattle.std.proofs.lemmas.Bool.{false≢true, true≢false}
-use Rattle.std.proofs.lemmas.List.{length-drop}
 use Rattle.fis_view.specs.Seen.{seen}
 use Rattle.hba_commands.specs.declared.command.Command.{Command}
-use Rattle.slots.specs.Slots.{Issue, holds, is_control, issue_at, match_some}
-use Rattle.slots.specs.Work.{is_dma, is_read}
-use Rattle.slots.specs.declared.work.Kind.{Kind}
-use Rattle.slots.specs.declared.work.Kind.TheVariants.{DmaIn, Control}
-use Rattle.hba_fbs.specs.Registers.{falls}
-use Rattle.hba_fbs.specs.Taking.{port_of}
-use Rattle.hba_fbs.specs.Views.{Port, last_command, view_of}
-use Rattle.hba_fbs.specs.declared.error.WriteError.{WriteError}
-use Rattle.hba_fbs.specs.declared.report.Wrote.{Wrote}
-use Rattle.hba_fbs.specs.declared.turn.Turn.{Turn}
-use Rattle.hba_fbs.specs.declared.turn.Turn.TheVariants.{Feeds, Orders, Rests}
-use Rattle.hba_laws.specs.Agreement.{IsTold}
-use Rattle.hba_laws.specs.CoreHistories.{AreFramedBy, FillsFrom, turned_for}
+use Rattle.slots.specs.{Slots.{Issue, holds, is_control, issue_at, match_some}, Work.{is_dma, is_read}, declared.work.Kind.{Kind, TheVariants.DmaIn}}
+use Rattle.slots.specs.declared.work.Kind.TheVariants.{Control}
+use Rattle.hba_fbs.specs.{Registers.falls, Taking.port_of, Views.{Port, last_command, view_of}, declared.error.WriteError.WriteError}
+use Rattle.hba_fbs.specs.declared.{report.Wrote.Wrote, turn.Turn.{Turn, TheVariants.{Feeds, Orders, Rests}}}
+use Rattle.hba_laws.specs.{Agreement.IsTold, CoreHistories.{AreFramedBy, FillsFrom, turned_for, happened}, Cores.{AreCores, CoreEvent, IsCore}}
+use Rattle.hba_laws.specs.{Cores.RunsBy, Delivering.{begun_by, event_sent, is_control_issue}, History.{Carried, Event as HistoryEvent, History}}
 use Rattle.hba_laws.specs.Cores as core
-use Rattle.hba_laws.specs.Cores.{AreCores, CoreEvent, IsCore, RunsBy}
-use Rattle.hba_laws.specs.Delivering.{begun_by, event_sent, is_control_issue}
 use Rattle.hba_laws.specs.History as history
-use Rattle.hba_laws.specs.History.{Carried, Event as HistoryEvent, History}
-use Rattle.hba_laws.specs.CoreHistories.{happened}
-use Rattle.ahci_controller.specs.Next.{is_halted, next_write, written}
-use Rattle.ahci_controller.specs.States.{ControllerState}
-use Rattle.ahci_controller.specs.Taking.{is_overflow, part_of, payload_of}
+use Rattle.ahci_controller.specs.{Next.{is_halted, next_write, written}, States.ControllerState, Taking.{is_overflow, part_of, payload_of}}
+use Rattle.ahci_controller.specs.declared.{next.Next.Next, taking.Took.Took}
 use Rattle.ahci_controller.specs.declared.feeding.Fed.TheVariants as fed_answer
-use Rattle.ahci_controller.specs.declared.next.Next.{Next}
 use Rattle.ahci_controller.specs.declared.next.Next.TheVariants as next_step
-use Rattle.ahci_controller.specs.declared.taking.Took.{Took}
-use Rattle.controller_laws.specs.CoreEvents.{AreCoreEvents, of_event, of_next, of_turn}
+use Rattle.controller_laws.specs.{CoreEvents.{AreCoreEvents, of_event, of_next, of_turn}, Events.{Does, Event, IsController, Runs, Takes}}
 use Rattle.controller_laws.specs.Events as call
-use Rattle.controller_laws.specs.Events.{Does, Event, IsController, Runs, Takes}
 use Rattle.sata_disk_books.specs.Counted.{Counted, more_by}
-use Rattle.machine_theorem.specs.Following.{AllHeardWell, HearsWell, told_call, told_calls}
-use Rattle.machine_theorem.specs.Tags.{once_if}
-use Rattle.machine_theorem.specs.Waits.{HasPlain, commanded_in, is_command_issue, is_commanded, waits_in}
-use Rattle.machine_theorem.proofs.Ordered.{last_kept}
-use Rattle.machine_theorem.proofs.SetupHistory.{Follows, IsMild, NoneUp, carried_follows, mild_follows, nothing_up, set_up_follows}
-use Rattle.machine_theorem.proofs.SetupFrames.{has_up}
-use Rattle.machine_theorem.proofs.SetupCores.{Beside, first_core, told_next}
-use Rattle.machine_theorem.proofs.SetupCalls.{CarriesAt, Laws, core_events, first_kept, hears_case, none_taken, taken_beside, told_same, up_now}
+use Rattle.machine_theorem.specs.{Following.{AllHeardWell, HearsWell, told_call, told_calls}, Tags.once_if, Waits.{HasPlain, commanded_in}}
+use Rattle.machine_theorem.specs.Waits.{is_command_issue, is_commanded, waits_in}
+use Rattle.machine_theorem.proofs.{Ordered.last_kept, SetupHistory.{Follows, IsMild, NoneUp, carried_follows, mild_follows, nothing_up}}
+use Rattle.machine_theorem.proofs.{SetupHistory.set_up_follows, SetupFrames.has_up, SetupCores.{Beside, first_core, told_next}, SetupCalls.CarriesAt}
+use Rattle.machine_theorem.proofs.SetupCalls.{Laws, core_events, first_kept, hears_case, none_taken, taken_beside, told_same, up_now}
 use Rattle.machine_theorem.proofs.SingleWell.{set_up_waits}
 
 control_dma : (k : Kind) → is_control k ≡ true → is_dma k ≡ true → ⊥

@@ -1,24 +1,17 @@
 -- A command that is not queued, in the history of its device: its next byte has the number of those that were carried for it, and these are those that
 -- went behind it.
-use Rattle.std.proofs.Common.{◌≡◌, ◌⊎◌, ℕ, ◌+◌, Bool, true, false, cond, List, [], ◌∷◌, ◌++◌, length, refl, sym, ap, subst, ◌∙◌, inl, inr, arith, Option, Some, None, count_by}
+use Rattle.std.proofs.Common.{◌≡◌, ◌⊎◌, ℕ, ◌+◌, Bool, true, false, cond, List, [], ◌∷◌, ◌++◌, length, refl, sym, ap, subst, ◌∙◌, inl, inr, arith}
+use Rattle.std.proofs.{Common.{Option, Some, None, count_by}, lemmas.{Bool.{eqb-true, false≢true}, List.Sums.{sum_by-cons}}}
 use Rattle.std.specs.Prelude.{◌==◌, MatchOption, is_some, if◌then◌else◌}
-use Rattle.std.proofs.lemmas.Bool.{eqb-true, false≢true}
-use Rattle.std.proofs.lemmas.List.Sums.{sum_by-cons}
-use Rattle.slots.specs.Bytes.{bytes as all_bytes, came_of, is_over, none_over}
-use Rattle.slots.specs.Setup.{came}
-use Rattle.slots.specs.Slots.{Issue, is_queued_issue, match_some, own_issue}
-use Rattle.slots.specs.Work.{is_queued, is_read}
-use Rattle.slots.specs.declared.table.Context.{Context}
-use Rattle.slots.specs.declared.work.Work.{Work}
+use Rattle.slots.specs.{Bytes.{bytes as all_bytes, came_of, is_over, none_over}, Setup.came, Slots.{Issue, is_queued_issue, match_some, own_issue}}
+use Rattle.slots.specs.{Work.{is_queued, is_read}, declared.{table.Context.Context, work.Work.Work}}
 use Rattle.slots.proofs.Door.{over_none}
 use Rattle.hba_fbs.specs.Views.{DeviceView}
-use Rattle.hba_laws.specs.Agreement.{IsTold}
+use Rattle.hba_laws.specs.{Agreement.IsTold, History.{Event, History, Setup, Transfer, bytes_of, carried, is_at, is_set_up, issued, last_setup}}
+use Rattle.hba_laws.specs.History.{next_number, pio_setup, unless, waiting_in}
 use Rattle.hba_laws.specs.History as history
-use Rattle.hba_laws.specs.History.{Event, History, Setup, Transfer, bytes_of, carried, is_at, is_set_up, issued, last_setup, next_number, pio_setup, unless, waiting_in}
-use Rattle.machine_theorem.proofs.CallSteps.{AreIdle}
-use Rattle.machine_theorem.proofs.FisAllowed.{IsAllowed}
-use Rattle.machine_theorem.proofs.SetupFrames.{WayIs, none_way, the_issue}
-use Rattle.machine_theorem.proofs.SetupHistory.{up_some, was_issued}
+use Rattle.machine_theorem.proofs.{CallSteps.AreIdle, FisAllowed.IsAllowed, SetupFrames.{WayIs, none_way, the_issue}, SetupHistory.up_some}
+use Rattle.machine_theorem.proofs.SetupHistory.{was_issued}
 
 -- ---- the next byte
 

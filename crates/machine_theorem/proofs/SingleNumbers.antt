@@ -1,55 +1,36 @@
 -- The bytes that a disk sent of the command that is not queued are those that its FISes say since it answered last.
-use Rattle.std.proofs.Common.{◌≡◌, ℕ, zero, suc, ◌+◌, ◌-◌, ◌<◌, ◌≤◌, ◌&&◌, ◌||◌, Bool, true, false, not, List, [], ◌∷◌, ◌++◌, append_assoc, append-nil}
-use Rattle.std.proofs.Common.{length, Option, Some, None, refl, sym, ap, subst, ◌∙◌, inl, inr, arith}
+use Rattle.std.proofs.Common.{◌≡◌, ℕ, zero, suc, ◌+◌, ◌-◌, ◌<◌, ◌≤◌, ◌&&◌, ◌||◌, Bool, true, false, not, List, [], ◌∷◌, ◌++◌, append_assoc}
+use Rattle.std.proofs.{Common.{append-nil, length, Option, Some, None, refl, sym, ap, subst, ◌∙◌, inl, inr, arith}, lemmas.Bool.{eqb-true}}
+use Rattle.std.proofs.lemmas.Bool.{false≢true, true≢false}
 use Rattle.std.specs.Prelude.{◌==◌, ◌%◌, ◌/◌, nat_lt, if◌then◌else◌, Result, Ok, Err}
-use Rattle.std.proofs.lemmas.Bool.{eqb-true, false≢true, true≢false}
-use Rattle.fis_view.specs.Seen.{seen}
-use Rattle.fis_view.specs.Table.{H2d, Command as H2dCommand, Count, field}
-use Rattle.fis_view.specs.declared.view.Fis.{Fis}
+use Rattle.fis_view.specs.{Seen.seen, Table.{H2d, Command as H2dCommand, Count, field}, declared.view.{Fis.Fis, FisFault.FisFault}}
 use Rattle.fis_view.specs.declared.view.Fis.TheVariants as view
-use Rattle.fis_view.specs.declared.view.FisFault.{FisFault}
-use Rattle.block_command.specs.declared.command.Command.{Command}
-use Rattle.block_command.specs.Laws.{Goes}
-use Rattle.block_command.specs.Moments.{Moment}
-use Rattle.block_disk.specs.Laws.{Page}
-use Rattle.block_disk.specs.Requests.{Books, no_books}
-use Rattle.block_disk.specs.Table.{is_under_way}
+use Rattle.block_command.specs.{declared.command.Command.Command, Laws.Goes, Moments.Moment}
+use Rattle.block_disk.specs.{Laws.Page, Requests.{Books, no_books}, Table.is_under_way}
 use Rattle.block_queue.specs.Line.{command_at}
 use Rattle.block_engine.specs.Laws as engine
-use Rattle.ata_command.specs.Courses.{resets}
+use Rattle.ata_command.specs.{Courses.resets, declared.asked.Move.Move}
 use Rattle.ata_command.specs.declared.asked.Asked.TheVariants as ask
-use Rattle.ata_command.specs.declared.asked.Move.{Move}
-use Rattle.ata_reply.specs.Replies.{Carries, Shows}
-use Rattle.ata_reply.specs.declared.reply.Reply.{Reply}
+use Rattle.ata_reply.specs.{Replies.{Carries, Shows}, declared.reply.Reply.Reply}
 use Rattle.ata_reply.specs.declared.reply.Reply.TheVariants as replies
 use Rattle.disk_pages.specs.declared.profile.Profile.{Profile}
-use Rattle.sata_disk.specs.Hearing.{asked_of, fis_heard, is_command, register_unheard}
-use Rattle.sata_disk.specs.Sending.{IsFis, IsOut, out_at, part_at}
-use Rattle.sata_disk.specs.State.{DiskState, commands as line_of, new_disk}
-use Rattle.sata_disk.specs.declared.out.Out.{Out}
+use Rattle.sata_disk.specs.{Hearing.{asked_of, fis_heard, is_command, register_unheard}, Sending.{IsFis, IsOut, out_at, part_at}, State.DiskState}
+use Rattle.sata_disk.specs.{State.{commands as line_of, new_disk}, declared.{out.Out.Out, unheard.Unheard.{Unheard, TheVariants.{Busy, InReset}}}}
 use Rattle.sata_disk.specs.declared.out.Out.TheVariants as out
-use Rattle.sata_disk.specs.declared.unheard.Unheard.{Unheard}
-use Rattle.sata_disk.specs.declared.unheard.Unheard.TheVariants.{Busy, InReset}
-use Rattle.sata_disk_books.specs.Books.{books_after, page_in}
-use Rattle.sata_disk_books.specs.Fises.{AreFises}
+use Rattle.sata_disk_books.specs.{Books.{books_after, page_in}, Fises.AreFises}
 use Rattle.sata_disk_books.proofs.Door.{IsQuietCall, data_stage, loud_at, of_case}
-use Rattle.sata_disk_laws.specs.Calls.{Answers, AreCalls, Asks, Call, Hears, IsCall, Plugs, Sends, Starts, after_call, steps_of}
-use Rattle.sata_disk_laws.specs.Laws.{reached, seen_in}
-use Rattle.sata_disk_laws.specs.Once.{ForLast, ForNothing, ForSignature, Host, IsDataAt, IsDue, IsFilling, IsOutDue, OpenIsUnderWay, Wait, announced, command_given}
-use Rattle.sata_disk_laws.specs.Once.{control_given, data_got_by, fis_given, host_after, host_of, is_queued_code, new_host, none_open, out_got}
-use Rattle.sata_disk_laws.specs.Once.{place_in, reply_got, unheard_of, waits_for_nothing}
+use Rattle.sata_disk_laws.specs.{Calls.{Answers, AreCalls, Asks, Call, Hears, IsCall, Plugs, Sends, Starts, after_call, steps_of}, Laws.reached}
+use Rattle.sata_disk_laws.specs.{Laws.seen_in, Once.{ForLast, ForNothing, ForSignature, Host, IsDataAt, IsDue, IsFilling, IsOutDue, OpenIsUnderWay}}
+use Rattle.sata_disk_laws.specs.Once.{Wait, announced, command_given, control_given, data_got_by, fis_given, host_after, host_of, is_queued_code}
+use Rattle.sata_disk_laws.specs.Once.{new_host, none_open, out_got, place_in, reply_got, unheard_of, waits_for_nothing}
 use Rattle.machine_theorem.specs.InTurn.{AreKeptOn, IsKeptOn, answered_in, answers_one, heard_in, hears_one, is_answer, is_register}
-use Rattle.machine_theorem.specs.SingleNumbers.{AllHearSingle, IsClear, SingleDataAreCounted, asks_queued, since_after, since_by}
-use Rattle.machine_theorem.specs.Tags.{once_if}
+use Rattle.machine_theorem.specs.{SingleNumbers.{AllHearSingle, IsClear, SingleDataAreCounted, asks_queued, since_after, since_by}, Tags.once_if}
 use Rattle.machine_theorem.proofs.Answered as answered
-use Rattle.machine_theorem.proofs.Answered.{Counted, answered_both, asks_it, begins, data_held, disk, for_nothing, heard_both, host, host_more, no_data}
-use Rattle.machine_theorem.proofs.Answered.{none_under, one_more, out_over, waiting, walk}
-use Rattle.machine_theorem.proofs.SentSingle.{Behind, HasSent, data_sent, page_then, quiet_sent, takes_sent}
-use Rattle.machine_theorem.proofs.TagAsked.{Outcome, outcome}
-use Rattle.machine_theorem.proofs.TagAsked.Outcome.{Nothing, Taken}
-use Rattle.machine_theorem.proofs.TagCounts.{due_at, first_calls, held_of_taken}
-use Rattle.machine_theorem.proofs.TagKept.{IsNoFis, StepNone, call_held, call_takes, held_at, others_none}
-use Rattle.machine_theorem.proofs.Transferring.{IsTransferAsked, Works, call_so, hears_moves, owes_no_page, rest_calls}
+use Rattle.machine_theorem.proofs.Answered.{Counted, answered_both, asks_it, begins, data_held, disk, for_nothing, heard_both, host, host_more}
+use Rattle.machine_theorem.proofs.{Answered.{no_data, none_under, one_more, out_over, waiting, walk}, SentSingle.{Behind, HasSent, data_sent}}
+use Rattle.machine_theorem.proofs.{SentSingle.{page_then, quiet_sent, takes_sent}, TagAsked.{Outcome, outcome, Outcome.{Nothing, Taken}}}
+use Rattle.machine_theorem.proofs.{TagCounts.{due_at, first_calls, held_of_taken}, TagKept.{IsNoFis, StepNone, call_held, call_takes, held_at}}
+use Rattle.machine_theorem.proofs.{TagKept.others_none, Transferring.{IsTransferAsked, Works, call_so, hears_moves, owes_no_page, rest_calls}}
 
 pub record Laws : Type 0 where
   pub answered : answered.Laws

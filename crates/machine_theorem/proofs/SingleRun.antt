@@ -3,14 +3,10 @@ use Rattle.std.proofs.Common.{◌≡◌, ℕ, ◌+◌, ◌<◌, true, false, Lis
 use Rattle.std.specs.Prelude.{is_some}
 use Rattle.slots.specs.Slots.{Issue, issue_at}
 use Rattle.ahci_controller.specs.States.{ControllerState}
-use Rattle.controller_laws.specs.CoreEvents.{AreCoreEvents, of_event}
-use Rattle.controller_laws.specs.Events.{Does, Event, IsController, Runs}
-use Rattle.machine_theorem.specs.Commands.{AreNotIssued, issues_in}
-use Rattle.machine_theorem.specs.SingleData.{AllUnqueued, HasNoQueued, SingleDataGoInOrder, went_by, went_in}
-use Rattle.machine_theorem.proofs.CoreStems.{call_stems}
-use Rattle.machine_theorem.proofs.SingleCalls.{Going, begins, goes_next, goes_on}
-use Rattle.machine_theorem.proofs.Stems.{Stem}
-use Rattle.machine_theorem.proofs.Waiting.{Laws, core_events, first_kept}
+use Rattle.controller_laws.specs.{CoreEvents.{AreCoreEvents, of_event}, Events.{Does, Event, IsController, Runs}}
+use Rattle.machine_theorem.specs.{Commands.{AreNotIssued, issues_in}, SingleData.{AllUnqueued, HasNoQueued, SingleDataGoInOrder, went_by, went_in}}
+use Rattle.machine_theorem.proofs.{CoreStems.call_stems, SingleCalls.{Going, begins, goes_next, goes_on}, Stems.Stem, Waiting.{Laws, core_events}}
+use Rattle.machine_theorem.proofs.Waiting.{first_kept}
 
 pub the_some : (o : Option Issue) → is_some o ≡ true → (j : Issue) × (o ≡ Some j)
 the_some None e = absurd (cc)

@@ -1,28 +1,18 @@
 -- The Data that a controller took of a device since its last Register FIS: none where no slot of the device waits; and those that the device sent since.
 use Rattle.std.proofs.Common.{◌≡◌, ℕ, ◌+◌, ◌&&◌, Bool, true, false, List, [], ◌∷◌, ◌++◌, refl, sym, ap, subst, ◌∙◌, Option, Some, arith}
-use Rattle.std.specs.Prelude.{◌==◌, if◌then◌else◌, Result, Ok, Err}
 use Rattle.std.proofs.lemmas.Bool.{eqb-true, false≢true}
-use Rattle.fis_view.specs.Frames.{Stamped}
-use Rattle.fis_view.specs.Seen.{seen}
-use Rattle.fis_view.specs.declared.view.Fis.{Fis}
+use Rattle.std.specs.Prelude.{◌==◌, if◌then◌else◌, Result, Ok, Err}
+use Rattle.fis_view.specs.{Frames.Stamped, Seen.seen, declared.view.{Fis.Fis, FisFault.FisFault}}
 use Rattle.fis_view.specs.declared.view.Fis.TheVariants as view
-use Rattle.fis_view.specs.declared.view.FisFault.{FisFault}
 use Rattle.multiplier.specs.Passing.{of_conn}
-use Rattle.hba_fbs.specs.Hearing.{tag_of}
-use Rattle.hba_fbs.specs.Taking.{port_of}
-use Rattle.hba_fbs.specs.Views.{view_of}
-use Rattle.ahci_controller.specs.States.{ControllerState}
-use Rattle.ahci_controller.specs.declared.taking.Took.{Took}
+use Rattle.hba_fbs.specs.{Hearing.tag_of, Taking.port_of, Views.view_of}
+use Rattle.ahci_controller.specs.{States.ControllerState, declared.taking.Took.Took}
 use Rattle.controller_laws.specs.Events as call
 use Rattle.controller_laws.specs.Events.{Does, Event, IsController, Runs}
-use Rattle.sata_disk_books.specs.Counted.{Counted}
-use Rattle.sata_disk_books.specs.Fises.{told_by}
+use Rattle.sata_disk_books.specs.{Counted.Counted, Fises.told_by}
 use Rattle.machine_laws.specs.Rising.{bytes_of, frames_of}
-use Rattle.machine_theorem.specs.Following.{AllHeardWell, HearsWell, told_call, told_calls}
-use Rattle.machine_theorem.specs.InTurn.{answers, is_answering}
-use Rattle.machine_theorem.specs.OwnSlots.{AreOne, NoneLost, is_of}
-use Rattle.machine_theorem.specs.SingleNumbers.{since_after, since_by, since_call, since_calls}
-use Rattle.machine_theorem.specs.Tags.{once_if}
+use Rattle.machine_theorem.specs.{Following.{AllHeardWell, HearsWell, told_call, told_calls}, InTurn.{answers, is_answering}, OwnSlots.AreOne}
+use Rattle.machine_theorem.specs.{OwnSlots.{NoneLost, is_of}, SingleNumbers.{since_after, since_by, since_call, since_calls}, Tags.once_if}
 use Rattle.machine_theorem.specs.Waits.{AllKeepWaiting, AllPlain, HasPlain, KeepsWaiting, is_answered, taken_in, waits_in}
 use Rattle.machine_theorem.proofs.SingleWell.{Needs, none_queued, set_up_waits, well_needs}
 

@@ -1,42 +1,26 @@
 -- A Data FIS that is heard well finds a slot of its device that is set up; and a DMA Setup FIS a queued command.
-use Rattle.std.proofs.Common.{◌≡◌, ℕ, ◌-◌, Bool, true, false, List, length, refl, sym, ap, subst, ◌∙◌, Option, Some, None}
+use Rattle.std.proofs.{Common.{◌≡◌, ℕ, ◌-◌, Bool, true, false, List, length, refl, sym, ap, subst, ◌∙◌, Option, Some, None}, lemmas.Bool.and_parts}
+use Rattle.std.proofs.lemmas.Bool.{false≢true, true≢false}
 use Rattle.std.specs.Prelude.{◌==◌, if◌then◌else◌, Result, Ok}
-use Rattle.std.proofs.lemmas.Bool.{and_parts, false≢true, true≢false}
-use Rattle.fis_view.specs.Seen.{seen}
+use Rattle.fis_view.specs.{Seen.seen, Table.field, declared.view.{Fis.Fis, FisFault.FisFault}}
 use Rattle.fis_view.specs.Table as table
-use Rattle.fis_view.specs.Table.{field}
-use Rattle.fis_view.specs.declared.view.Fis.{Fis}
 use Rattle.fis_view.specs.declared.view.Fis.TheVariants as view
-use Rattle.fis_view.specs.declared.view.FisFault.{FisFault}
-use Rattle.slots.specs.Setup.{is_outstanding, setup_fault, transfer_fault}
-use Rattle.slots.specs.Slots.{Issue, context_of, is_queued_issue, is_waiting, issue_at, match_some, own_issue, slots_of}
-use Rattle.slots.specs.Table.{IsContext, IsContextOf}
-use Rattle.slots.specs.declared.answer.SetupError.{SetupError}
-use Rattle.slots.specs.declared.answer.SetupError.TheVariants.{NotOutstanding}
-use Rattle.slots.specs.declared.table.Context.{Context}
+use Rattle.slots.specs.{Setup.{is_outstanding, setup_fault, transfer_fault}, Slots.{Issue, context_of, is_queued_issue, is_waiting, issue_at}}
+use Rattle.slots.specs.{Slots.{match_some, own_issue, slots_of}, Table.{IsContext, IsContextOf}, declared.answer.SetupError.SetupError}
+use Rattle.slots.specs.declared.{answer.SetupError.TheVariants.NotOutstanding, table.Context.Context}
 use Rattle.port_errors.specs.declared.cause.DeviceCause.TheVariants as cause
-use Rattle.hba_fbs.specs.Deciding.{Decides, decided, heard_within, is_past}
-use Rattle.hba_fbs.specs.Hearing.{faulty, heard_data_of, heard_fis, is_admitted, overflowed, set_up, tag_of}
-use Rattle.hba_fbs.specs.Taking.{admitted, heard_report, ignores, port_of}
-use Rattle.hba_fbs.specs.Views.{DeviceView, Port, view_of}
-use Rattle.hba_fbs.specs.declared.hearing.Happening.{Happening}
-use Rattle.hba_fbs.specs.declared.report.TakeReport.{TakeReport}
-use Rattle.hba_fbs.specs.declared.room.Room.{Room}
-use Rattle.hba_fbs.specs.declared.room.Room.TheVariants.{Bytes, NoTable, Whole}
-use Rattle.hba_fbs.specs.declared.state.DeviceState.{DeviceState}
-use Rattle.hba_fbs.specs.declared.status.Block.{Block}
+use Rattle.hba_fbs.specs.{Deciding.{Decides, decided, heard_within, is_past}, Hearing.{faulty, heard_data_of, heard_fis, is_admitted, overflowed}}
+use Rattle.hba_fbs.specs.{Hearing.{set_up, tag_of}, Taking.{admitted, heard_report, ignores, port_of}, Views.{DeviceView, Port, view_of}}
+use Rattle.hba_fbs.specs.declared.{hearing.Happening.Happening, report.TakeReport.TakeReport, room.Room.{Room, TheVariants.{Bytes, NoTable, Whole}}}
+use Rattle.hba_fbs.specs.declared.{state.DeviceState.DeviceState, status.Block.Block}
 use Rattle.hba_laws.proofs.Door.{own_in}
-use Rattle.ahci_controller.specs.States.{ControllerState}
-use Rattle.ahci_controller.specs.Taking.{CoreHearsIf, room_for}
-use Rattle.ahci_controller.specs.declared.taking.Took.{Took}
+use Rattle.ahci_controller.specs.{States.ControllerState, Taking.{CoreHearsIf, room_for}, declared.taking.Took.Took}
 use Rattle.controller_laws.specs.Events as call
 use Rattle.controller_laws.specs.Events.{IsController}
-use Rattle.machine_theorem.specs.Following.{IsHeardWell}
-use Rattle.machine_theorem.specs.Waits.{HasPlain, waits_in}
+use Rattle.machine_theorem.specs.{Following.IsHeardWell, Waits.{HasPlain, waits_in}}
 use Rattle.slots.proofs.Door.{own_at}
-use Rattle.machine_theorem.proofs.SetupCores.{context_is, match_is, no_fault}
-use Rattle.machine_theorem.proofs.SinglesOwn.{issue_is, mine, sent_waits, set_up_sent}
-use Rattle.machine_theorem.proofs.Waiting.{owner, some_waits}
+use Rattle.machine_theorem.proofs.{SetupCores.{context_is, match_is, no_fault}, SinglesOwn.{issue_is, mine, sent_waits, set_up_sent}, Waiting.owner}
+use Rattle.machine_theorem.proofs.Waiting.{some_waits}
 
 -- ---- a FIS with which nothing is wrong
 

@@ -1,14 +1,10 @@
 -- What a disk takes for a write that is not queued is what the caller had supplied for the command of its own slot, from its first byte on, in order.
-use Rattle.std.proofs.Common.{◌≡◌, ℕ, ◌+◌, ◌≤◌, Bool, true, false, List, [], ◌∷◌, ◌++◌, append_assoc, length, map, Some, refl, sym, ap, subst, ◌∙◌, arith}
-use Rattle.std.specs.Prelude.{◌==◌, if◌then◌else◌, is_some}
-use Rattle.std.specs.List.{flat_map}
-use Rattle.std.proofs.lemmas.Bool.{false≢true}
-use Rattle.std.proofs.lemmas.Grind.{flat_map-append}
-use Rattle.std.proofs.lemmas.List.{length-append}
+use Rattle.std.proofs.Common.{◌≡◌, ℕ, ◌+◌, ◌≤◌, Bool, true, false, List, [], ◌∷◌, ◌++◌, append_assoc, length, map, Some, refl, sym, ap, subst, ◌∙◌}
+use Rattle.std.proofs.{Common.arith, lemmas.{Bool.{false≢true}, Grind.{flat_map-append}, List.{length-append}}}
+use Rattle.std.specs.{Prelude.{◌==◌, if◌then◌else◌, is_some}, List.flat_map}
 use Rattle.fis_view.specs.Frames.{Stamped, marked}
 use Rattle.multiplier.specs.Passing.{of_conn}
-use Rattle.slots.specs.Slots.{Issue, is_pio, is_queued_issue, is_waiting, issue_at}
-use Rattle.slots.specs.Work.{is_read}
+use Rattle.slots.specs.{Slots.{Issue, is_pio, is_queued_issue, is_waiting, issue_at}, Work.is_read}
 use Rattle.ahci_controller.specs.declared.feeding.Fed.TheVariants as fed_answer
 use Rattle.ahci_controller.specs.declared.next.Next.TheVariants as next
 use Rattle.controller_laws.specs.Events as call
@@ -16,62 +12,33 @@ use Rattle.controller_laws.specs.Events.{Event, IsController, Runs}
 use Rattle.block_disk.specs.Laws.{Page}
 use Rattle.ata_reply.specs.declared.reply.Reply.TheVariants as replies
 use Rattle.disk_pages.specs.declared.profile.Profile.{Profile}
-use Rattle.sata_disk.specs.Sending.{IsOut}
-use Rattle.sata_disk.specs.State.{new_disk}
-use Rattle.sata_disk.specs.declared.out.Out.{Out}
+use Rattle.sata_disk.specs.{Sending.IsOut, State.new_disk, declared.out.Out.Out}
 use Rattle.sata_disk.specs.declared.out.Out.TheVariants as out
 use Rattle.sata_disk_books.specs.Books.{IsAskedFor, page_in}
-use Rattle.sata_disk_laws.specs.Calls.{AreCalls, Call, Hears}
-use Rattle.sata_disk_laws.specs.Laws.{reached}
-use Rattle.sata_disk_laws.specs.Once.{host_of, new_host}
-use Rattle.ahci_machine.specs.Gathers.{host_stamp}
-use Rattle.ahci_machine.specs.States.{HasRules, MachineState}
+use Rattle.sata_disk_laws.specs.{Calls.{AreCalls, Call, Hears}, Laws.reached, Once.{host_of, new_host}}
+use Rattle.ahci_machine.specs.{Gathers.host_stamp, States.{HasRules, MachineState}}
 use Rattle.ahci_machine.specs.declared.act.Act.TheVariants as act
-use Rattle.machine_laws.specs.ControllerLaws.{OpensSo, RunsRuled, calls_in}
-use Rattle.machine_laws.specs.Controllers.{GathersDue}
-use Rattle.machine_laws.specs.Deeds.{Deed, Does, Moved}
-use Rattle.machine_laws.specs.Falling.{heard_by, sent_by as goes_by, sent_in}
-use Rattle.machine_laws.specs.Feeding.{IsReading, OrdersAreIssued, came_in}
-use Rattle.machine_laws.specs.Rising.{AreLinked, Frames, HaveRisen, frames_in, no_frames, sent_by}
-use Rattle.machine_theorem.specs.Commands.{AreNotIssued}
-use Rattle.machine_theorem.specs.Completed.{IsEndedInHistory}
-use Rattle.machine_theorem.specs.Crossing.{Within}
-use Rattle.machine_theorem.specs.DataCame.{AreOfHeard, DataComeBehind, IsWrittenBehind}
-use Rattle.machine_theorem.specs.Given.{IsWhole}
-use Rattle.machine_theorem.specs.Identity.{calls_of, heard_as, is_for, picks}
-use Rattle.machine_theorem.specs.InTurn.{AreKeptOn, IsIdle, IsUnanswered, answered_in, is_answering, is_asking}
-use Rattle.machine_theorem.specs.OwnSlots.{is_of}
-use Rattle.machine_theorem.specs.OwnWrites.{AreOwnData}
-use Rattle.machine_theorem.specs.SingleData.{HasNoQueued, went_in}
-use Rattle.machine_theorem.specs.SingleWrites.{AllKeepPlain, IsFedSince, IsFedWhole, IsSuppliedSingle, SingleWritesAreAsSupplied, went_to}
-use Rattle.machine_theorem.specs.Singles.{IsFromSlot}
-use Rattle.machine_theorem.specs.Waits.{HasPlain, PlainCommandsWait, is_commanded}
-use Rattle.machine_theorem.specs.Writes.{payloads}
-use Rattle.machine_theorem.proofs.AllWent.{all_went}
-use Rattle.machine_theorem.proofs.Answered.{answered_both}
-use Rattle.machine_theorem.proofs.AtMoments.{more}
-use Rattle.machine_theorem.proofs.Commanded.{asked}
-use Rattle.machine_theorem.proofs.DataDeeds.{all_plain}
-use Rattle.machine_theorem.proofs.DataDown.{ArePlain, as_heard, data_sent, data_within, is_data}
-use Rattle.machine_theorem.proofs.DataTail.{all_bytes, behind_within, data_heard, marked_payloads, tail_within}
-use Rattle.machine_theorem.proofs.EndsFew.{sent_of}
-use Rattle.machine_theorem.proofs.ErrorNone.{IsErrorFis}
-use Rattle.machine_theorem.proofs.Fallen.{heard_among, line_stays, map_both}
-use Rattle.machine_theorem.proofs.Falls.{Told, controller_runs, kept_of, told_now}
-use Rattle.machine_theorem.proofs.FedFor.{Good, opens_good, run_good}
+use Rattle.machine_laws.specs.{ControllerLaws.{OpensSo, RunsRuled, calls_in}, Controllers.GathersDue, Deeds.{Deed, Does, Moved}, Falling.heard_by}
+use Rattle.machine_laws.specs.{Falling.{sent_by as goes_by, sent_in}, Feeding.{IsReading, OrdersAreIssued, came_in}, Rising.{AreLinked, Frames}}
+use Rattle.machine_laws.specs.Rising.{HaveRisen, frames_in, no_frames, sent_by}
+use Rattle.machine_theorem.specs.{Commands.AreNotIssued, Completed.IsEndedInHistory, Crossing.Within, DataCame.{AreOfHeard, DataComeBehind}}
+use Rattle.machine_theorem.specs.{DataCame.IsWrittenBehind, Given.IsWhole, Identity.{calls_of, heard_as, is_for, picks}, InTurn.{AreKeptOn, IsIdle}}
+use Rattle.machine_theorem.specs.{InTurn.{IsUnanswered, answered_in, is_answering, is_asking}, OwnSlots.is_of, OwnWrites.AreOwnData}
+use Rattle.machine_theorem.specs.{SingleData.{HasNoQueued, went_in}, SingleWrites.{AllKeepPlain, IsFedSince, IsFedWhole, IsSuppliedSingle}}
+use Rattle.machine_theorem.specs.{SingleWrites.{SingleWritesAreAsSupplied, went_to}, Singles.IsFromSlot, Waits.{HasPlain, PlainCommandsWait}}
+use Rattle.machine_theorem.specs.{Waits.is_commanded, Writes.payloads}
+use Rattle.machine_theorem.proofs.{AllWent.all_went, Answered.answered_both, AtMoments.more, Commanded.asked, DataDeeds.all_plain, DataDown.ArePlain}
+use Rattle.machine_theorem.proofs.{DataDown.{as_heard, data_sent, data_within, is_data}, DataTail.{all_bytes, behind_within, data_heard}}
+use Rattle.machine_theorem.proofs.{DataTail.{marked_payloads, tail_within}, EndsFew.sent_of, ErrorNone.IsErrorFis, Fallen.{heard_among, line_stays}}
+use Rattle.machine_theorem.proofs.{Fallen.map_both, Falls.{Told, controller_runs, kept_of, told_now}, FedFor.{Good, opens_good, run_good}}
+use Rattle.machine_theorem.proofs.{FedSingles.{Along, fed_along, went_long}, Ordered.first_ruled, Own.last_ruled, OwnPlace.{Found, InOrder, find}}
+use Rattle.machine_theorem.proofs.{OwnPlace.{frames_are, in_order, linked, untaken_is}, PlainDeeds.{OrderCut, PlainRun, find_order, none_queued}}
+use Rattle.machine_theorem.proofs.{PlainDeeds.{plain_first, plain_run}, SingleCalls.{Going, begins}, SinglesOwn.{IsSpoken, IsThen, Stretch, WentFrom}}
+use Rattle.machine_theorem.proofs.SinglesOwn.{behind, came, completed_by, completed_waits, done_slots, earns, events, is_answers, is_last, is_then}
+use Rattle.machine_theorem.proofs.{SinglesOwn.{kept_first, last_heard, no_error, on_then, said_calls, same_issue, spoken, then'}, Stretch.whole_run}
+use Rattle.machine_theorem.proofs.{TagCounts.first_calls, Within.{first_within, picks_both, within_picks, within_then}}
 use Rattle.machine_theorem.proofs.FedSingles as fed_singles
-use Rattle.machine_theorem.proofs.FedSingles.{Along, fed_along, went_long}
-use Rattle.machine_theorem.proofs.Ordered.{first_ruled}
-use Rattle.machine_theorem.proofs.Own.{last_ruled}
-use Rattle.machine_theorem.proofs.OwnPlace.{Found, InOrder, find, frames_are, in_order, linked, untaken_is}
-use Rattle.machine_theorem.proofs.PlainDeeds.{OrderCut, PlainRun, find_order, none_queued, plain_first, plain_run}
-use Rattle.machine_theorem.proofs.SingleCalls.{Going, begins}
 use Rattle.machine_theorem.proofs.SinglesOwn as singles
-use Rattle.machine_theorem.proofs.SinglesOwn.{IsSpoken, IsThen, Stretch, WentFrom, behind, came, completed_by, completed_waits, done_slots, earns, events, is_answers, is_last, is_then, kept_first, last_heard, no_error}
-use Rattle.machine_theorem.proofs.SinglesOwn.{on_then, said_calls, same_issue, spoken, then'}
-use Rattle.machine_theorem.proofs.Stretch.{whole_run}
-use Rattle.machine_theorem.proofs.TagCounts.{first_calls}
-use Rattle.machine_theorem.proofs.Within.{first_within, picks_both, within_picks, within_then}
 
 pub record Laws : Type 0 where
   pub singles : singles.Laws

@@ -1,42 +1,25 @@
 -- Each byte of a read that is not queued, and that the guest sees completed, was brought at a moment of the machine's run, and written.
 use Rattle.std.proofs.Common.{◌≡◌, ◌⊎◌, ℕ, ◌<◌, ◌||◌, Bool, true, false, not, List, [], ◌∷◌, ◌++◌, inl, inr, refl, sym, ap, subst, ◌∙◌, arith, Option}
-use Rattle.std.proofs.Common.{Some, None}
-use Rattle.std.specs.Prelude.{MatchOption, is_some}
-use Rattle.std.specs.Option.{option_map}
-use Rattle.std.proofs.lemmas.Bool.{and_parts, false≢true}
-use Rattle.slots.specs.Bytes.{is_over}
-use Rattle.slots.specs.Slots.{Issue, holds, is_pio, is_queued_issue, issue_at, match_some, own_issue}
-use Rattle.slots.specs.Table.{IsIssue}
-use Rattle.slots.specs.Work.{is_queued, needs_all}
-use Rattle.slots.specs.declared.work.Kind.{Kind}
-use Rattle.slots.specs.declared.work.Kind.TheVariants.{DmaIn, PioIn}
+use Rattle.std.proofs.{Common.{Some, None}, lemmas.Bool.{and_parts, false≢true}}
+use Rattle.std.specs.{Prelude.{MatchOption, is_some}, Option.option_map}
+use Rattle.slots.specs.{Bytes.is_over, Slots.{Issue, holds, is_pio, is_queued_issue, issue_at, match_some, own_issue}, Table.IsIssue, Work.is_queued}
+use Rattle.slots.specs.{Work.needs_all, declared.work.Kind.{Kind, TheVariants.{DmaIn, PioIn}}}
 use Rattle.hba_fbs.specs.Views.{view_of}
 use Rattle.hba_laws.proofs.Door.{own_here}
-use Rattle.hba_laws.specs.Agreement.{IssueAgrees, IsTold, work_of_issue}
+use Rattle.hba_laws.specs.{Agreement.{IssueAgrees, IsTold, work_of_issue}, History.{Event, History, completes, filled, is_all_filled, issued}}
 use Rattle.hba_laws.specs.History as history
-use Rattle.hba_laws.specs.History.{Event, History, completes, filled, is_all_filled, issued}
 use Rattle.ahci_controller.specs.States.{ControllerState}
-use Rattle.controller_laws.specs.Ends.{IssuesFall}
+use Rattle.controller_laws.specs.{Ends.IssuesFall, Events.IsController}
 use Rattle.controller_laws.specs.Events as call
-use Rattle.controller_laws.specs.Events.{IsController}
 use Rattle.ahci_machine.specs.States.{HasRules, IsOpeningMachine, MachineState}
-use Rattle.machine_laws.specs.ControllerLaws.{ControllerRuns, RunsRuled, calls_in}
-use Rattle.machine_laws.specs.Deeds.{Deed}
-use Rattle.machine_theorem.specs.Completed.{IsEndedInHistory}
-use Rattle.machine_theorem.specs.SingleReads.{CameBefore, ComesLast, IsSingleDone, IsWrittenBefore, SingleIsBrought, SinglesAreBrought, SinglesAreBroughtSince}
-use Rattle.machine_theorem.specs.SingleReads.{SinglesAreWritten, is_sent_read, is_single_read}
+use Rattle.machine_laws.specs.{ControllerLaws.{ControllerRuns, RunsRuled, calls_in}, Deeds.Deed}
+use Rattle.machine_theorem.specs.{Completed.IsEndedInHistory, SingleReads.{CameBefore, ComesLast, IsSingleDone, IsWrittenBefore, SingleIsBrought}}
+use Rattle.machine_theorem.specs.SingleReads.{SinglesAreBrought, SinglesAreBroughtSince, SinglesAreWritten, is_sent_read, is_single_read}
 use Rattle.machine_theorem.proofs.BroughtAt as moments
-use Rattle.machine_theorem.proofs.BroughtAt.{Brought, all_at, came_since}
-use Rattle.machine_theorem.proofs.Completed.{ended_now, transfer_of}
-use Rattle.machine_theorem.proofs.Falls.{kept_of}
-use Rattle.machine_theorem.proofs.FilledCalls.{last_back, no_single_read, single_reads}
-use Rattle.machine_theorem.proofs.FilledFrames.{brings_not}
-use Rattle.machine_theorem.proofs.Ordered.{first_ruled}
-use Rattle.machine_theorem.proofs.Own.{last_ruled}
-use Rattle.machine_theorem.proofs.SentOnce.{none_told}
-use Rattle.machine_theorem.proofs.Stretch.{whole_run}
+use Rattle.machine_theorem.proofs.{BroughtAt.{Brought, all_at, came_since}, Completed.{ended_now, transfer_of}, Falls.kept_of, FilledCalls.last_back}
+use Rattle.machine_theorem.proofs.{FilledCalls.{no_single_read, single_reads}, FilledFrames.brings_not, Ordered.first_ruled, Own.last_ruled}
+use Rattle.machine_theorem.proofs.{SentOnce.none_told, Stretch.whole_run, WrittenBytes.{idle_opens, idle_run, started_of, table_is, written_then}}
 use Rattle.machine_theorem.proofs.WrittenBytes as written
-use Rattle.machine_theorem.proofs.WrittenBytes.{idle_opens, idle_run, started_of, table_is, written_then}
 
 pub record Laws : Type 0 where
   pub written : written.Laws

@@ -1,92 +1,56 @@
 -- The command that is not queued, and whose bit of PxCI falls, is the one that its disk ended: commands and answers are counted on both sides of the link.
-use Rattle.std.proofs.Common.{◌≡◌, ◌⊎◌, ℕ, suc, ◌+◌, ◌<◌, ◌≤◌, ◌&&◌, Bool, true, false, not, List, [], ◌∷◌, ◌++◌, append_assoc, length, Option, Some, None, refl, sym, ap, subst, ◌∙◌, inl, inr, arith}
-use Rattle.std.specs.Prelude.{◌==◌, ◌||◌, if◌then◌else◌, IfSome, MatchOption}
-use Rattle.std.specs.List.{flat_map}
-use Rattle.std.proofs.lemmas.Bool.{and_parts, eq-eqb, eqb-true, false≢true}
-use Rattle.std.proofs.lemmas.Grind.{flat_map-append}
-use Rattle.std.proofs.lemmas.List.{length-append}
+use Rattle.std.proofs.Common.{◌≡◌, ◌⊎◌, ℕ, suc, ◌+◌, ◌<◌, ◌≤◌, ◌&&◌, Bool, true, false, not, List, [], ◌∷◌, ◌++◌, append_assoc, length, Option, Some}
+use Rattle.std.proofs.{Common.{None, refl, sym, ap, subst, ◌∙◌, inl, inr, arith}, lemmas.Bool.{and_parts, eq-eqb, eqb-true, false≢true}}
+use Rattle.std.proofs.lemmas.{Grind.{flat_map-append}, List.{length-append}}
+use Rattle.std.specs.{Prelude.{◌==◌, ◌||◌, if◌then◌else◌, IfSome, MatchOption}, List.flat_map}
 use Rattle.fis_view.specs.Frames.{Stamped, marked}
 use Rattle.multiplier.specs.Passing.{of_conn}
 use Rattle.slots.specs.Slots.{Issue, context_of, holds, is_control, is_pio, is_queued_issue, is_waiting, issue_at, own_issue, slots_of}
-use Rattle.slots.specs.Table.{IsContext, IsContextOf, IsIssue}
-use Rattle.slots.specs.Work.{needs_all}
-use Rattle.slots.specs.declared.table.Context.{Context}
-use Rattle.slots.specs.declared.work.Work.{Work}
+use Rattle.slots.specs.{Table.{IsContext, IsContextOf, IsIssue}, Work.needs_all, declared.{table.Context.Context, work.Work.Work}}
 use Rattle.hba_commands.specs.declared.command.Command as core_command
-use Rattle.hba_fbs.specs.Views.{view_of}
-use Rattle.hba_fbs.specs.Taking.{port_of}
-use Rattle.hba_laws.specs.Agreement.{IsTold, is_for as is_for_slot}
-use Rattle.hba_laws.specs.History.{Answered, Carried, Event as HistoryEvent, History, completes, is_at, is_set_up, waiting_in}
+use Rattle.hba_fbs.specs.{Views.view_of, Taking.port_of}
+use Rattle.hba_laws.specs.{Agreement.{IsTold, is_for as is_for_slot}, History.{Answered, Carried, Event as HistoryEvent, History, completes, is_at}}
+use Rattle.hba_laws.specs.History.{is_set_up, waiting_in}
 use Rattle.hba_laws.proofs.Door.{own_here}
-use Rattle.ahci_controller.specs.States.{ControllerState}
-use Rattle.ahci_controller.specs.Taking.{room_for}
+use Rattle.ahci_controller.specs.{States.ControllerState, Taking.room_for, declared.taking.Took.Took}
 use Rattle.ahci_controller.specs.declared.next.Next.TheVariants as next
-use Rattle.ahci_controller.specs.declared.taking.Took.{Took}
 use Rattle.controller_laws.specs.Events as call
-use Rattle.controller_laws.specs.Events.{Event, IsController, Runs}
-use Rattle.controller_laws.specs.Sources.{IsIssuedFrom, command_of}
+use Rattle.controller_laws.specs.{Events.{Event, IsController, Runs}, Sources.{IsIssuedFrom, command_of}}
 use Rattle.block_command.specs.Laws.{IsEarned}
 use Rattle.block_disk.specs.Laws.{Page}
 use Rattle.ata_reply.specs.declared.reply.Reply.TheVariants as replies
 use Rattle.disk_pages.specs.declared.profile.Profile.{Profile}
-use Rattle.sata_disk.specs.Sending.{IsOut}
-use Rattle.sata_disk.specs.State.{DiskState, new_disk}
-use Rattle.sata_disk.specs.declared.out.Out.{Out}
+use Rattle.sata_disk.specs.{Sending.IsOut, State.{DiskState, new_disk}, declared.out.Out.Out}
 use Rattle.sata_disk.specs.declared.out.Out.TheVariants as out
-use Rattle.sata_disk_books.specs.Books.{page_in}
-use Rattle.sata_disk_books.specs.Ended.{HasEarned, SinglesAreOfPages}
-use Rattle.sata_disk_laws.specs.Calls.{AreCalls, Call, Hears, Sends, after_calls}
-use Rattle.sata_disk_laws.specs.Laws.{reached}
-use Rattle.sata_disk_laws.specs.Once.{AnswersAreSingle, host_of, new_host}
+use Rattle.sata_disk_books.specs.{Books.page_in, Ended.{HasEarned, SinglesAreOfPages}}
+use Rattle.sata_disk_laws.specs.{Calls.{AreCalls, Call, Hears, Sends, after_calls}, Laws.reached, Once.{AnswersAreSingle, host_of, new_host}}
 use Rattle.sata_disk_laws.proofs.Door.{calls_after, calls_both}
-use Rattle.ahci_machine.specs.Gathers.{host_stamp}
-use Rattle.ahci_machine.specs.States.{IsOpeningMachine, MachineState, bay_at}
+use Rattle.ahci_machine.specs.{Gathers.host_stamp, States.{IsOpeningMachine, MachineState, bay_at}}
 use Rattle.ahci_machine.specs.declared.act.Act.TheVariants as act
-use Rattle.machine_laws.specs.ControllerLaws.{ControllerRuns, OpensSo, RunsRuled, calls_in}
-use Rattle.machine_laws.specs.Controllers.{GathersDue}
-use Rattle.machine_laws.specs.Deeds.{Deed, Does, FrameOffered, Moved}
-use Rattle.machine_laws.specs.Disks.{DisksGoOn, calls_at}
-use Rattle.machine_laws.specs.Falling.{AllLast, HasLink, heard_by}
-use Rattle.machine_laws.specs.Feeding.{IsOrderOf, IsOrdered}
-use Rattle.machine_laws.specs.Rising.{AreLinked, Frames, FramesAreTaken, FramesRise, HaveRisen, bytes_of, frames_in, frames_of, no_frames, risen, sent_by}
-use Rattle.machine_theorem.specs.Completed.{CompletionsAreOfDevices, IsCompleted, IsEndedInHistory}
-use Rattle.machine_theorem.specs.FirstDeeds.{first_deeds, first_run, machine_at}
-use Rattle.machine_theorem.specs.Given.{IsWhole}
-use Rattle.machine_theorem.specs.Identity.{calls_of, is_for, picks}
-use Rattle.machine_theorem.specs.InTurn.{AreKeptOn, CommandsGoInTurn, IsIdle, IsInTurn, IsUnanswered, answered_in, heard_in, is_answer, is_answering, is_asking}
-use Rattle.machine_theorem.specs.OwnSlots.{AllKeepLine, KeepsLine, is_of}
-use Rattle.machine_theorem.specs.Singles.{AllOfDevice, BeginsIdle, IsDoneSingle, IsFromSlot, IsSlots, IsSlotsAnswer, PlainSinglesAreOfSlots, SinglesAreOfSlots, StartsWith}
-use Rattle.machine_theorem.specs.Tags.{once_if}
-use Rattle.machine_theorem.specs.Transfers.{TransfersEndSo, is_transferring}
-use Rattle.machine_theorem.specs.Waits.{AllKeepWaiting, CommandsAwaitAnswers, IsWaitingAlone, LastCommandsWait, PlainCommandsWait, commanded_in, is_command_issue, is_commanded, taken_in, waits_in}
-use Rattle.machine_theorem.proofs.Answered.{answered_both, heard_both}
-use Rattle.machine_theorem.proofs.AnswersHeard.{IsMild, fis_mild}
-use Rattle.machine_theorem.proofs.AsSupplied.{supplied_in}
+use Rattle.machine_laws.specs.{ControllerLaws.{ControllerRuns, OpensSo, RunsRuled, calls_in}, Controllers.GathersDue, Deeds.{Deed, Does}}
+use Rattle.machine_laws.specs.{Deeds.{FrameOffered, Moved}, Disks.{DisksGoOn, calls_at}, Falling.{AllLast, HasLink, heard_by}, Feeding.IsOrderOf}
+use Rattle.machine_laws.specs.{Feeding.IsOrdered, Rising.{AreLinked, Frames, FramesAreTaken, FramesRise, HaveRisen, bytes_of, frames_in, frames_of}}
+use Rattle.machine_laws.specs.Rising.{no_frames, risen, sent_by}
+use Rattle.machine_theorem.specs.{Completed.{CompletionsAreOfDevices, IsCompleted, IsEndedInHistory}, FirstDeeds.{first_deeds, first_run, machine_at}}
+use Rattle.machine_theorem.specs.{Given.IsWhole, Identity.{calls_of, is_for, picks}, InTurn.{AreKeptOn, CommandsGoInTurn, IsIdle, IsInTurn}}
+use Rattle.machine_theorem.specs.{InTurn.{IsUnanswered, answered_in, heard_in, is_answer, is_answering, is_asking}, OwnSlots.{AllKeepLine, KeepsLine}}
+use Rattle.machine_theorem.specs.{OwnSlots.is_of, Singles.{AllOfDevice, BeginsIdle, IsDoneSingle, IsFromSlot, IsSlots, IsSlotsAnswer}}
+use Rattle.machine_theorem.specs.{Singles.{PlainSinglesAreOfSlots, SinglesAreOfSlots, StartsWith}, Tags.once_if, Transfers.TransfersEndSo}
+use Rattle.machine_theorem.specs.{Transfers.is_transferring, Waits.{AllKeepWaiting, CommandsAwaitAnswers, IsWaitingAlone, LastCommandsWait}}
+use Rattle.machine_theorem.specs.{Waits.{PlainCommandsWait, commanded_in, is_command_issue, is_commanded, taken_in, waits_in}, Crossing.Within}
+use Rattle.machine_theorem.proofs.{Answered.{answered_both, heard_both}, AnswersHeard.{IsMild, fis_mild}, AsSupplied.supplied_in}
+use Rattle.machine_theorem.proofs.{Asking.all_none as data_none, Commanded.{AreNoCommands, LastAsked, all_none, asked, asked_both, asked_few}}
+use Rattle.machine_theorem.proofs.{Commanded.{heard_long, last_asked}, EndsFew.{disk_same, sent_of}, ErrorNone.{IsErrorFis, error_none, fails_with}}
+use Rattle.machine_theorem.proofs.{Fallen.{heard_among, line_stays}, Falls.{Told, kept_of, told_after, told_now}, FallsFew.came_of}
+use Rattle.machine_theorem.proofs.{FirstCalls.starts_with, FirstDeeds.{calls_to, lasts_to, line_to, linked_to}, OneConn.{ends_same, no_length}}
+use Rattle.machine_theorem.proofs.{Ordered.first_ruled, Own.last_ruled, OwnPlace.{Found, InOrder, came_one, find, frames_are, head_or, in_order}}
+use Rattle.machine_theorem.proofs.{OwnPlace.{linked, port_is, untaken_is}, RegistersSent.{answers_by, answers_few, says, taken_few}, SentFises.GoneOn}
+use Rattle.machine_theorem.proofs.{SentFises.{offers_none, sender_is, stretch_made}, Still.fis_of, Stretch.whole_run, TagCounts.{due_at, first_calls}}
+use Rattle.machine_theorem.proofs.{Waiting.low_slot, Within.{all_of, fewer, picks_both, within_picks}}
 use Rattle.machine_theorem.proofs.Asking as asking
-use Rattle.machine_theorem.proofs.Asking.{all_none as data_none}
-use Rattle.machine_theorem.proofs.Commanded.{AreNoCommands, LastAsked, all_none, asked, asked_both, asked_few, heard_long, last_asked}
-use Rattle.machine_theorem.proofs.EndsFew.{disk_same, sent_of}
-use Rattle.machine_theorem.proofs.ErrorNone.{IsErrorFis, error_none, fails_with}
 use Rattle.machine_theorem.proofs.Fallen as fallen
-use Rattle.machine_theorem.proofs.Fallen.{heard_among, line_stays}
 use Rattle.machine_theorem.proofs.Falls as falls
-use Rattle.machine_theorem.proofs.Falls.{Told, kept_of, told_after, told_now}
-use Rattle.machine_theorem.proofs.FallsFew.{came_of}
-use Rattle.machine_theorem.proofs.FirstCalls.{starts_with}
-use Rattle.machine_theorem.proofs.FirstDeeds.{calls_to, lasts_to, line_to, linked_to}
-use Rattle.machine_theorem.proofs.OneConn.{ends_same, no_length}
-use Rattle.machine_theorem.proofs.Ordered.{first_ruled}
-use Rattle.machine_theorem.proofs.Own.{last_ruled}
-use Rattle.machine_theorem.proofs.OwnPlace.{Found, InOrder, came_one, find, frames_are, head_or, in_order, linked, port_is, untaken_is}
-use Rattle.machine_theorem.proofs.RegistersSent.{answers_by, answers_few, says, taken_few}
-use Rattle.machine_theorem.proofs.SentFises.{GoneOn, offers_none, sender_is, stretch_made}
 use Rattle.machine_theorem.proofs.Still as still
-use Rattle.machine_theorem.proofs.Still.{fis_of}
-use Rattle.machine_theorem.proofs.Stretch.{whole_run}
-use Rattle.machine_theorem.proofs.TagCounts.{due_at, first_calls}
-use Rattle.machine_theorem.proofs.Waiting.{low_slot}
-use Rattle.machine_theorem.specs.Crossing.{Within}
-use Rattle.machine_theorem.proofs.Within.{all_of, fewer, picks_both, within_picks}
 
 pub record Laws : Type 0 where
   pub falls : falls.Laws

@@ -1,81 +1,43 @@
 -- Each byte of a READ DMA that the guest sees completed came by a FIS that the disk sent for the command of the slot, and it is the one of its number.
-use Rattle.std.proofs.Common.{◌≡◌, ℕ, suc, ◌+◌, ◌<◌, ◌≤◌, Bool, true, false, List, [], ◌∷◌, ◌++◌, append_assoc, drop, length, map, inl, inr, refl, sym, ap, subst, ◌∙◌, arith}
-use Rattle.std.proofs.Common.{Option, Some, None}
-use Rattle.std.specs.Prelude.{◌==◌, ◌&&◌, if◌then◌else◌}
-use Rattle.std.specs.List.{flat_map}
-use Rattle.std.proofs.lemmas.Bool.{and_parts, eq-eqb, eqb-true, false≢true}
-use Rattle.fis_view.specs.Frames.{Stamped}
-use Rattle.fis_view.specs.Seen.{seen}
+use Rattle.std.proofs.Common.{◌≡◌, ℕ, suc, ◌+◌, ◌<◌, ◌≤◌, Bool, true, false, List, [], ◌∷◌, ◌++◌, append_assoc, drop, length, map, inl, inr, refl}
+use Rattle.std.proofs.{Common.{sym, ap, subst, ◌∙◌, arith, Option, Some, None}, lemmas.Bool.{and_parts, eq-eqb, eqb-true, false≢true}}
+use Rattle.std.specs.{Prelude.{◌==◌, ◌&&◌, if◌then◌else◌}, List.flat_map}
+use Rattle.fis_view.specs.{Frames.Stamped, Seen.seen}
 use Rattle.multiplier.specs.Passing.{of_conn}
-use Rattle.slots.specs.Bytes.{is_over}
-use Rattle.slots.specs.Slots.{Issue, context_of, holds, is_pio, is_queued_issue, is_waiting, issue_at, match_some, own_issue, slots_of}
-use Rattle.slots.specs.Work.{is_queued}
-use Rattle.slots.specs.declared.work.Kind.{Kind}
-use Rattle.slots.specs.declared.work.Kind.TheVariants.{DmaIn, PioIn}
-use Rattle.hba_fbs.specs.Taking.{port_of}
-use Rattle.hba_fbs.specs.declared.report.Wrote.{Wrote}
+use Rattle.slots.specs.{Bytes.is_over, Slots.{Issue, context_of, holds, is_pio, is_queued_issue, is_waiting, issue_at, match_some, own_issue}}
+use Rattle.slots.specs.{Slots.slots_of, Work.is_queued, declared.work.Kind.{Kind, TheVariants.{DmaIn, PioIn}}}
+use Rattle.hba_fbs.specs.{Taking.port_of, declared.report.Wrote.Wrote}
 use Rattle.ahci_controller.specs.States.{ControllerState}
 use Rattle.ahci_controller.specs.declared.next.Next.TheVariants as next
 use Rattle.controller_laws.specs.Events as call
 use Rattle.controller_laws.specs.Events.{Event, IsController}
 use Rattle.block_queue.specs.Line.{command_at}
-use Rattle.sata_disk.specs.Sending.{part_at}
-use Rattle.sata_disk.specs.State.{DiskState, commands, new_disk}
-use Rattle.sata_disk.specs.declared.out.Out.{Out}
+use Rattle.sata_disk.specs.{Sending.part_at, State.{DiskState, commands, new_disk}, declared.out.Out.Out}
 use Rattle.sata_disk.specs.declared.out.Out.TheVariants as out
-use Rattle.sata_disk_books.specs.Books.{AreNext, DataAreGiven, page_in}
-use Rattle.sata_disk_books.specs.Counted.{Counted}
-use Rattle.sata_disk_books.specs.Fises.{AreFises, FisesTell}
-use Rattle.sata_disk_laws.specs.Calls.{Answers, AreCalls, Asks, Call, Hears, Plugs, Sends, Starts}
-use Rattle.sata_disk_laws.specs.Laws.{reached}
-use Rattle.sata_disk_laws.specs.Once.{host_of, new_host}
+use Rattle.sata_disk_books.specs.{Books.{AreNext, DataAreGiven, page_in}, Counted.Counted, Fises.{AreFises, FisesTell}}
+use Rattle.sata_disk_laws.specs.{Calls.{Answers, AreCalls, Asks, Call, Hears, Plugs, Sends, Starts}, Laws.reached, Once.{host_of, new_host}}
 use Rattle.ahci_machine.specs.States.{HasRules, IsOpeningMachine, MachineState, bay_at}
 use Rattle.ahci_machine.specs.declared.act.Act.TheVariants as act
-use Rattle.machine_laws.specs.ControllerLaws.{RunsRuled, calls_in}
-use Rattle.machine_laws.specs.Controllers.{GathersDue, deed_calls}
-use Rattle.machine_laws.specs.Deeds.{Deed, Does, Moved}
-use Rattle.machine_laws.specs.Falling.{AllLast, HasLink, heard_by}
-use Rattle.machine_laws.specs.Rising.{AreLinked, DataCarryParts, Frames, bytes_of, frames_of, no_frames, sent_by}
-use Rattle.machine_theorem.specs.Brought.{DiskStretch}
-use Rattle.machine_theorem.specs.Completed.{IsEndedInHistory}
-use Rattle.machine_theorem.specs.Crossing.{Within}
-use Rattle.machine_theorem.specs.Following.{AllHeardWell, told_calls}
-use Rattle.machine_theorem.specs.Given.{IsWhole}
-use Rattle.machine_theorem.specs.Identity.{calls_of, heard_as, is_for, picks}
-use Rattle.machine_theorem.specs.InTurn.{AreKeptOn, IsIdle, IsInTurn, answered_in, heard_in, is_asking}
-use Rattle.machine_theorem.specs.OwnSlots.{AllKeepLine, NoneLost, is_of}
-use Rattle.machine_theorem.specs.SingleBytes.{AllKeepPlain, IsSentFor, OfItsSectors, SingleDataGoInTurn, SingleIsSent, SinglesAreSent}
-use Rattle.machine_theorem.specs.SingleNumbers.{AllHearSingle, IsSingleByte, NoneQueued, OfSingleByte, SingleDataAreCounted, SingleIsRead, SinglesAreRead}
-use Rattle.machine_theorem.specs.SingleNumbers.{asks_queued, since_after, since_calls}
-use Rattle.machine_theorem.specs.SingleReads.{IsSingleDone, IsWrittenThen, is_sent_read, is_single_read}
-use Rattle.machine_theorem.specs.Singles.{BeginsIdle, IsFromSlot}
-use Rattle.machine_theorem.specs.Tags.{once_if}
-use Rattle.machine_theorem.specs.Waits.{PlainCommandsWait, waits_in}
-use Rattle.machine_theorem.proofs.AsSupplied.{supplied_in}
-use Rattle.machine_theorem.proofs.BroughtAt.{Brought}
-use Rattle.machine_theorem.proofs.BroughtRead.{byte_of, none_first}
-use Rattle.machine_theorem.proofs.EndsFew.{sent_of}
-use Rattle.machine_theorem.proofs.Fallen.{heard_among, line_stays}
-use Rattle.machine_theorem.proofs.Falls.{Told, kept_of, told_after, told_now}
-use Rattle.machine_theorem.proofs.FilledFrames.{brought_is, wrote_fits}
-use Rattle.machine_theorem.proofs.Answered.{heard_both}
-use Rattle.machine_theorem.proofs.Given.{HasNext, has_next}
-use Rattle.machine_theorem.proofs.Ordered.{first_ruled}
-use Rattle.machine_theorem.proofs.Own.{last_ruled}
-use Rattle.machine_theorem.proofs.OwnPlace.{Found, came_one, frames_are, linked as linked_by, part_of}
-use Rattle.machine_theorem.proofs.PlainRun.{PlainRun, good_run, plain_run}
-use Rattle.machine_theorem.proofs.SentFises.{GoneOn, stretch_made}
-use Rattle.machine_theorem.proofs.SingleFollows.{follows}
-use Rattle.machine_theorem.proofs.SingleSince.{call_first, calls_both, calls_since, own_since, since_free, since_own, since_told}
+use Rattle.machine_laws.specs.{ControllerLaws.{RunsRuled, calls_in}, Controllers.{GathersDue, deed_calls}, Deeds.{Deed, Does, Moved}, Falling.AllLast}
+use Rattle.machine_laws.specs.{Falling.{HasLink, heard_by}, Rising.{AreLinked, DataCarryParts, Frames, bytes_of, frames_of, no_frames, sent_by}}
+use Rattle.machine_theorem.specs.{Brought.DiskStretch, Completed.IsEndedInHistory, Crossing.Within, Following.{AllHeardWell, told_calls}}
+use Rattle.machine_theorem.specs.{Given.IsWhole, Identity.{calls_of, heard_as, is_for, picks}, InTurn.{AreKeptOn, IsIdle, IsInTurn, answered_in}}
+use Rattle.machine_theorem.specs.{InTurn.{heard_in, is_asking}, OwnSlots.{AllKeepLine, NoneLost, is_of}, SingleBytes.{AllKeepPlain, IsSentFor}}
+use Rattle.machine_theorem.specs.{SingleBytes.{OfItsSectors, SingleDataGoInTurn, SingleIsSent, SinglesAreSent}, SingleNumbers.AllHearSingle}
+use Rattle.machine_theorem.specs.SingleNumbers.{IsSingleByte, NoneQueued, OfSingleByte, SingleDataAreCounted, SingleIsRead, SinglesAreRead}
+use Rattle.machine_theorem.specs.{SingleNumbers.{asks_queued, since_after, since_calls}, SingleReads.{IsSingleDone, IsWrittenThen, is_sent_read}}
+use Rattle.machine_theorem.specs.{SingleReads.is_single_read, Singles.{BeginsIdle, IsFromSlot}, Tags.once_if, Waits.{PlainCommandsWait, waits_in}}
+use Rattle.machine_theorem.proofs.{AsSupplied.supplied_in, BroughtAt.Brought, BroughtRead.{byte_of, none_first}, EndsFew.sent_of, Fallen.heard_among}
+use Rattle.machine_theorem.proofs.{Fallen.line_stays, Falls.{Told, kept_of, told_after, told_now}, FilledFrames.{brought_is, wrote_fits}}
+use Rattle.machine_theorem.proofs.{Answered.heard_both, Given.{HasNext, has_next}, Ordered.first_ruled, Own.last_ruled, OwnPlace.{Found, came_one}}
+use Rattle.machine_theorem.proofs.{OwnPlace.{frames_are, linked as linked_by, part_of}, PlainRun.{PlainRun, good_run, plain_run}, SentFises.GoneOn}
+use Rattle.machine_theorem.proofs.{SentFises.stretch_made, SingleFollows.follows, SingleSince.{call_first, calls_both, calls_since, own_since}}
+use Rattle.machine_theorem.proofs.{SingleSince.{since_free, since_own, since_told}, SinglesBrought.{by_event, came, not_queued, single_is}}
+use Rattle.machine_theorem.proofs.SinglesOwn.{IsSpoken, IsThen, LastOf, Stretch, Waits, begins_free, completed_by, completed_waits, found_of, is_last}
+use Rattle.machine_theorem.proofs.SinglesOwn.{is_then, issue_is, kept_first, mine, no_error, on_then, sent_waits, set_up_sent, spoken, then'}
+use Rattle.machine_theorem.proofs.{StillStands.none_both, Stretch.whole_run, Waiting.some_waits, WrittenBytes.{table_is, written_then}}
 use Rattle.machine_theorem.proofs.SinglesBrought as brought
-use Rattle.machine_theorem.proofs.SinglesBrought.{by_event, came, not_queued, single_is}
 use Rattle.machine_theorem.proofs.SinglesOwn as own
-use Rattle.machine_theorem.proofs.SinglesOwn.{IsSpoken, IsThen, LastOf, Stretch, Waits, begins_free, completed_by, completed_waits, found_of, is_last, is_then, issue_is, kept_first}
-use Rattle.machine_theorem.proofs.SinglesOwn.{mine, no_error, on_then, sent_waits, set_up_sent, spoken, then'}
-use Rattle.machine_theorem.proofs.StillStands.{none_both}
-use Rattle.machine_theorem.proofs.Stretch.{whole_run}
-use Rattle.machine_theorem.proofs.Waiting.{some_waits}
-use Rattle.machine_theorem.proofs.WrittenBytes.{table_is, written_then}
 
 pub record Laws : Type 0 where
   pub brought : brought.Laws

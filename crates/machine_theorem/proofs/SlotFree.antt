@@ -5,18 +5,11 @@ use Rattle.slots.specs.Slots.{Issue, holds, is_queued_issue, issue_at}
 use Rattle.ahci_controller.specs.States.{ControllerState}
 use Rattle.controller_laws.specs.Events.{Event, Runs}
 use Rattle.ahci_machine.specs.States.{MachineState}
-use Rattle.machine_laws.specs.ControllerLaws.{OpensSo, RunsRuled, calls_in}
-use Rattle.machine_laws.specs.Controllers.{GathersDue, deed_calls}
-use Rattle.machine_laws.specs.Deeds.{Deed}
-use Rattle.machine_theorem.specs.FirstDeeds.{AtSome}
-use Rattle.machine_theorem.specs.Orders.{is_sent_of, standing_in}
-use Rattle.machine_theorem.specs.ReadBack.{AreIssuedIn, HiddenIsFree, IsFree, IssuedWasFree}
-use Rattle.machine_theorem.specs.Standing.{IssuesAreAlone}
-use Rattle.machine_theorem.specs.Tags.{once_if}
-use Rattle.machine_theorem.proofs.Completed.{not_queued}
+use Rattle.machine_laws.specs.{ControllerLaws.{OpensSo, RunsRuled, calls_in}, Controllers.{GathersDue, deed_calls}, Deeds.Deed}
+use Rattle.machine_theorem.specs.{FirstDeeds.AtSome, Orders.{is_sent_of, standing_in}, ReadBack.{AreIssuedIn, HiddenIsFree, IsFree, IssuedWasFree}}
+use Rattle.machine_theorem.specs.{Standing.IssuesAreAlone, Tags.once_if}
+use Rattle.machine_theorem.proofs.{Completed.not_queued, Few.{AreFew, are_few}, Ordered.first_ruled}
 use Rattle.machine_theorem.proofs.Falls as falls
-use Rattle.machine_theorem.proofs.Few.{AreFew, are_few}
-use Rattle.machine_theorem.proofs.Ordered.{first_ruled}
 use Rattle.machine_theorem.proofs.StillStands as standing
 
 -- ---- PxSACT does not show it

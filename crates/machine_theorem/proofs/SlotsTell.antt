@@ -2,16 +2,12 @@
 use Rattle.std.proofs.Common.{◌≡◌, ℕ, true, false, List, ◌++◌, sym, ap, subst, ◌∙◌}
 use Rattle.block_command.specs.declared.command.Command.{Command}
 use Rattle.sata_disk.specs.State.{DiskState, new_disk}
-use Rattle.sata_disk_laws.specs.Calls.{Call, after_calls}
-use Rattle.sata_disk_laws.specs.Laws.{reached}
+use Rattle.sata_disk_laws.specs.{Calls.{Call, after_calls}, Laws.reached}
 use Rattle.sata_disk_laws.proofs.Door.{calls_after}
 use Rattle.sata_disk_media.specs.Cells.{covers}
-use Rattle.ahci_machine.specs.States.{bay_at}
-use Rattle.ahci_machine.specs.declared.bay.Unit.TheVariants.{Disk}
+use Rattle.ahci_machine.specs.{States.bay_at, declared.bay.Unit.TheVariants.Disk}
 use Rattle.machine_laws.specs.Disks.{DisksGoOn}
-use Rattle.machine_theorem.specs.Given.{CommandsAreGiven}
-use Rattle.machine_theorem.specs.Identity.{calls_of}
-use Rattle.machine_theorem.specs.Unheard.{AsksNoWrite, Leaves, SlotsTellOfWrites}
+use Rattle.machine_theorem.specs.{Given.CommandsAreGiven, Identity.calls_of, Unheard.{AsksNoWrite, Leaves, SlotsTellOfWrites}}
 use Rattle.machine_theorem.proofs.TheSlots.{goes_on}
 
 pub slots_tell : DisksGoOn → CommandsAreGiven → SlotsTellOfWrites

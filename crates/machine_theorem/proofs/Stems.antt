@@ -1,24 +1,18 @@
 -- What is issued in a slot was issued there before an event of the core, unless the event places it; and once its command was sent it stays so.
-use Rattle.std.proofs.Common.{◌≡◌, ℕ, zero, suc, Bool, true, false, cond, List, [], ◌∷◌, length, get_or, set, refl, sym, ap, subst, ◌∙◌, inl, inr, Option, Some, None, replicate}
-use Rattle.std.specs.Prelude.{is_ok, is_some, nat_lt, if◌then◌else◌}
-use Rattle.std.specs.Option.{option_map}
-use Rattle.std.proofs.lemmas.Bool.{cases_lt}
-use Rattle.std.proofs.lemmas.List.{get_or-replicate, get_or_past, length-replicate}
+use Rattle.std.proofs.Common.{◌≡◌, ℕ, zero, suc, Bool, true, false, cond, List, [], ◌∷◌, length, get_or, set, refl, sym, ap, subst, ◌∙◌, inl, inr}
+use Rattle.std.proofs.{Common.{Option, Some, None, replicate}, lemmas.{Bool.cases_lt, List.{get_or-replicate, get_or_past, length-replicate}}}
 use Rattle.std.proofs.lemmas.Option.{same_Some}
+use Rattle.std.specs.{Prelude.{is_ok, is_some, nat_lt, if◌then◌else◌}, Option.option_map}
 use Rattle.hba_commands.specs.declared.command.Command.{Command}
-use Rattle.slots.specs.declared.answer.Answered.{Answered}
+use Rattle.slots.specs.{declared.{answer.Answered.Answered, table.Context.Context}, Commands.{after_pio_done, after_sent, answered_as}}
+use Rattle.slots.specs.{Commands.{answered_issue, is_done, is_slot, sent_issue, whole_pio, with_sent}, Data.{activated, after_arrive, after_payload}}
+use Rattle.slots.specs.{Data.{arrive_answer, gone_over, may_activate, moved_over, payload_len}, Setup.{after_setup_pio, begun, came, new_context}}
+use Rattle.slots.specs.{Setup.{pio_fault, pio_issue, whole_context, with_own_context}, Slots.{DeviceSlots, Issue, freed, holds, is_control}}
+use Rattle.slots.specs.{Slots.{issues_unless, match_some, no_own_slots, own_issue, sent_pio, with_own_issue}, Work.is_dma}
 use Rattle.slots.specs.declared.answer.Answered.TheVariants as answer
-use Rattle.slots.specs.declared.table.Context.{Context}
-use Rattle.slots.specs.Commands.{after_pio_done, after_sent, answered_as, answered_issue, is_done, is_slot, sent_issue, whole_pio, with_sent}
-use Rattle.slots.specs.Data.{activated, after_arrive, after_payload, arrive_answer, gone_over, may_activate, moved_over, payload_len}
-use Rattle.slots.specs.Setup.{after_setup_pio, begun, came, new_context, pio_fault, pio_issue, whole_context, with_own_context}
-use Rattle.slots.specs.Slots.{DeviceSlots, Issue, freed, holds, is_control, issues_unless, match_some, no_own_slots, own_issue, sent_pio, with_own_issue}
-use Rattle.slots.specs.Work.{is_dma}
 use Rattle.slots.proofs.Door.{get-unless, length-unless}
-use Rattle.hba_fbs.specs.declared.hearing.Happening.{Happening}
+use Rattle.hba_fbs.specs.{declared.hearing.Happening.Happening, Hearing.{block_ended, moved}, Issuing.{issue_with, issued_slots}}
 use Rattle.hba_fbs.specs.declared.hearing.Happening.TheVariants as happening
-use Rattle.hba_fbs.specs.Hearing.{block_ended, moved}
-use Rattle.hba_fbs.specs.Issuing.{issue_with, issued_slots}
 use Rattle.hba_laws.proofs.Door.{own_issued}
 
 -- the issue is there for the same work, and its command is sent if it was

@@ -1,21 +1,16 @@
 -- As long as nothing more is issued in a slot, the FIS that was sent from it is the one that is supplied for it.
 use Rattle.std.proofs.Common.{◌≡◌, ℕ, ◌<◌, Bool, true, false, List, [], ◌∷◌, ◌++◌, Option, Some, None, refl, sym, ap, ◌∙◌, subst}
-use Rattle.std.specs.Prelude.{◌==◌, ◌&&◌, if◌then◌else◌, MatchOption}
 use Rattle.std.proofs.lemmas.Bool.{false≢true}
+use Rattle.std.specs.Prelude.{◌==◌, ◌&&◌, if◌then◌else◌, MatchOption}
 use Rattle.slots.specs.Slots.{has_bit}
 use Rattle.guest_fetch.specs.Commands.{Fetched}
 use Rattle.hba_commands.specs.declared.command.Command as core_command
-use Rattle.ahci_controller.specs.Access.{fits}
-use Rattle.ahci_controller.specs.States.{ControllerState}
-use Rattle.ahci_controller.specs.Wide.{WritesFitting}
-use Rattle.ahci_controller.specs.declared.access.Width.{Width}
-use Rattle.ahci_controller.specs.declared.issuing.Supply.{Supply}
-use Rattle.ahci_controller.specs.declared.issuing.Supply.TheVariants.{Issued, More, NotTaken, OutOfMemory, Stale}
+use Rattle.ahci_controller.specs.{Access.fits, States.ControllerState, Wide.WritesFitting, declared.{access.Width.Width, issuing.Supply.Supply}}
+use Rattle.ahci_controller.specs.declared.{issuing.Supply.TheVariants.{Issued, More, NotTaken, OutOfMemory, Stale}, wide.WideWritten.WideWritten}
 use Rattle.ahci_controller.specs.declared.next.Next.TheVariants as next
-use Rattle.ahci_controller.specs.declared.wide.WideWritten.{WideWritten}
 use Rattle.controller_laws.specs.Events as call
-use Rattle.controller_laws.specs.Events.{Does, Event, IsController}
-use Rattle.controller_laws.specs.Sources.{AreSources, CommandsAreSupplied, CoreHasSupplied, IsIssuedFrom, Source, Sources, after_supply, after_wide, command_of, sources_after, sources_by, while_pending}
+use Rattle.controller_laws.specs.{Events.{Does, Event, IsController}, Sources.{AreSources, CommandsAreSupplied, CoreHasSupplied, IsIssuedFrom}}
+use Rattle.controller_laws.specs.Sources.{Source, Sources, after_supply, after_wide, command_of, sources_after, sources_by, while_pending}
 use Rattle.machine_laws.specs.Feeding.{IsFisOf, IsOrderOf, OrdersAreOfSlots}
 use Rattle.machine_theorem.specs.Commands.{AreNotIssued, is_issue, issues_in}
 

@@ -4,16 +4,11 @@ use Rattle.slots.specs.Slots.{holds, issue_at}
 use Rattle.ahci_controller.specs.States.{ControllerState}
 use Rattle.controller_laws.specs.Events.{Does as Calls, Event, IsController, Runs}
 use Rattle.ahci_machine.specs.States.{HasRules, IsOpeningMachine, MachineState}
-use Rattle.machine_laws.specs.ControllerLaws.{RunsRuled, calls_in}
-use Rattle.machine_laws.specs.Controllers.{ControllerGoesOn, GathersDue, StaysDue, deed_calls}
-use Rattle.machine_laws.specs.Deeds.{Deed, Does}
-use Rattle.machine_theorem.specs.Commands.{AreNotIssued, issues_in}
-use Rattle.machine_theorem.specs.Orders.{CommandsAreSentOnce, fallen_in, is_fallen, is_sent_of, standing_in}
-use Rattle.machine_theorem.specs.Standing.{IssuesAreAlone}
-use Rattle.machine_theorem.specs.Tags.{once_if}
-use Rattle.machine_theorem.proofs.AtMoments.{more}
-use Rattle.machine_theorem.proofs.Few.{AreFew, are_few}
-use Rattle.machine_theorem.proofs.Ordered.{first_ruled}
+use Rattle.machine_laws.specs.{ControllerLaws.{RunsRuled, calls_in}, Controllers.{ControllerGoesOn, GathersDue, StaysDue, deed_calls}, Deeds.Deed}
+use Rattle.machine_laws.specs.Deeds.{Does}
+use Rattle.machine_theorem.specs.{Commands.{AreNotIssued, issues_in}, Orders.{CommandsAreSentOnce, fallen_in, is_fallen, is_sent_of, standing_in}}
+use Rattle.machine_theorem.specs.{Standing.IssuesAreAlone, Tags.once_if}
+use Rattle.machine_theorem.proofs.{AtMoments.more, Few.{AreFew, are_few}, Ordered.first_ruled}
 
 pub record Laws : Type 0 where
   pub once : CommandsAreSentOnce

@@ -1,39 +1,27 @@
 -- While the bit of a slot stands, no other command is issued there, and what was sent from there since is the one that was supplied.
-use Rattle.std.proofs.Common.{◌≡◌, ℕ, suc, ◌<◌, ◌&&◌, ◌^◌, Bool, true, false, List, [], ◌∷◌, ◌++◌, length, refl, sym, ap, subst, ◌∙◌, inl, inr, arith, Option, Some, None}
+use Rattle.std.proofs.Common.{◌≡◌, ℕ, suc, ◌<◌, ◌&&◌, ◌^◌, Bool, true, false, List, [], ◌∷◌, ◌++◌, length, refl, sym, ap, subst, ◌∙◌, inl, inr, arith}
+use Rattle.std.proofs.{Common.{Option, Some, None}, lemmas.{Bool.{and_parts, eqb-true, false≢true}, List.{append_assoc, length-append}}}
 use Rattle.std.specs.Prelude.{◌==◌, MatchOption, if◌then◌else◌}
-use Rattle.std.proofs.lemmas.Bool.{and_parts, eqb-true, false≢true}
-use Rattle.std.proofs.lemmas.List.{append_assoc, length-append}
-use Rattle.slots.specs.Commands.{slots_where}
-use Rattle.slots.specs.Slots.{has_bit, holds, is_queued_issue, issue_at}
-use Rattle.ahci_registers.specs.declared.register.Register.{Register}
-use Rattle.ahci_registers.specs.declared.register.Register.TheVariants.{PxCi, PxSact}
-use Rattle.guest_fetch.specs.Commands.{Fetched}
-use Rattle.guest_fetch.specs.declared.fetch.Supplied.{Supplied}
+use Rattle.slots.specs.{Commands.slots_where, Slots.{has_bit, holds, is_queued_issue, issue_at}}
+use Rattle.ahci_registers.specs.declared.register.Register.{Register, TheVariants.{PxCi, PxSact}}
+use Rattle.guest_fetch.specs.{Commands.Fetched, declared.fetch.Supplied.Supplied}
 use Rattle.guest_fetch.specs.declared.fetch.Supplied.TheVariants as came_as
 use Rattle.hba_fbs.specs.declared.registers.Registers.{Registers}
-use Rattle.ahci_controller.specs.Fetching.{GoesOn, MissesIf, SuppliesIf, answered, fits, is_asked, without_fetch}
-use Rattle.ahci_controller.specs.Issuing.{PlacesSlot, RefusesSlot, not_issued}
-use Rattle.ahci_controller.specs.Reading.{shown}
-use Rattle.ahci_controller.specs.States.{ControllerState}
-use Rattle.ahci_controller.specs.declared.issuing.NotTaken.{NotTaken}
-use Rattle.ahci_controller.specs.declared.issuing.Supply.{Supply}
+use Rattle.ahci_controller.specs.{Fetching.{GoesOn, MissesIf, SuppliesIf, answered, fits, is_asked, without_fetch}, Issuing.{PlacesSlot, RefusesSlot}}
+use Rattle.ahci_controller.specs.{Issuing.not_issued, Reading.shown, States.ControllerState, declared.issuing.{NotTaken.NotTaken, Supply.Supply}}
 use Rattle.ahci_controller.specs.declared.issuing.Supply.TheVariants.{Issued, More, NotTaken as NotTakenFor, OutOfMemory, Stale}
 use Rattle.ahci_controller.specs.declared.next.Next.TheVariants as next
 use Rattle.ahci_controller.proofs.Door.{pow_same}
 use Rattle.controller_laws.specs.Events as call
-use Rattle.controller_laws.specs.Events.{Does as Calls, Event, IsController, Runs}
-use Rattle.controller_laws.specs.Sources.{Source, Sources, after_supply, no_sources, sources_after, sources_by}
+use Rattle.controller_laws.specs.{Events.{Does as Calls, Event, IsController, Runs}, Sources.{Source, Sources, after_supply, no_sources}}
+use Rattle.controller_laws.specs.Sources.{sources_after, sources_by}
 use Rattle.ahci_machine.specs.States.{HasRules, MachineState}
-use Rattle.machine_laws.specs.ControllerLaws.{ControllerRuns, RunsAreCalls, RunsRuled, calls_in}
-use Rattle.machine_laws.specs.Controllers.{ControllerGoesOn, GathersDue, OpensDue, StaysDue, deed_calls}
-use Rattle.machine_laws.specs.Deeds.{Deed, Does}
-use Rattle.machine_theorem.specs.Commands.{AreNotIssued, is_issue, issues_in}
-use Rattle.machine_theorem.specs.Standing.{CommandsStand, HasStood, IssuesAreAlone, IsShownOver, MayShow, NoneIsIssuedBeside, Stands}
-use Rattle.machine_theorem.proofs.Armed.{IsBare, IsQueuedAlone, queued_bit, stays_alone, there_of}
-use Rattle.machine_theorem.proofs.Few.{AreFew, are_few}
-use Rattle.machine_theorem.proofs.Still.{all_kept}
-use Rattle.machine_theorem.proofs.Unread.{IsNotRead, is_alone, is_held, none_issued, stays_unread, taken}
-use Rattle.machine_theorem.proofs.Unread.IsHeld.{Issues}
+use Rattle.machine_laws.specs.{ControllerLaws.{ControllerRuns, RunsAreCalls, RunsRuled, calls_in}, Controllers.{ControllerGoesOn, GathersDue}}
+use Rattle.machine_laws.specs.{Controllers.{OpensDue, StaysDue, deed_calls}, Deeds.{Deed, Does}}
+use Rattle.machine_theorem.specs.{Commands.{AreNotIssued, is_issue, issues_in}, Standing.{CommandsStand, HasStood, IssuesAreAlone, IsShownOver}}
+use Rattle.machine_theorem.specs.Standing.{MayShow, NoneIsIssuedBeside, Stands}
+use Rattle.machine_theorem.proofs.{Armed.{IsBare, IsQueuedAlone, queued_bit, stays_alone, there_of}, Few.{AreFew, are_few}, Still.all_kept}
+use Rattle.machine_theorem.proofs.Unread.{IsNotRead, is_alone, is_held, none_issued, stays_unread, taken, IsHeld.Issues}
 
 -- ---- one call
 

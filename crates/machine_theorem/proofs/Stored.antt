@@ -1,58 +1,35 @@
 -- What a disk asks its caller to store was supplied, and so is what a write stored that ends well.
-use Rattle.std.proofs.Common.{◌≡◌, ℕ, ◌*◌, length, zero, suc, Bool, true, List, [], ◌∷◌, ◌++◌, get_or, set, Option, Some, None, refl, sym, ap, ◌∙◌, subst}
-use Rattle.std.specs.Prelude.{◌==◌, MatchOption, if◌then◌else◌}
-use Rattle.std.specs.Option.{option_map}
-use Rattle.std.proofs.lemmas.Bool.{eq-eqb}
-use Rattle.block_command.specs.declared.command.Command.{Command}
-use Rattle.block_command.specs.declared.command.Stage.{Stage}
-use Rattle.block_command.specs.declared.command.Stage.TheVariants.{Store}
-use Rattle.block_command.specs.declared.command.Turn.{Turn}
+use Rattle.std.proofs.Common.{◌≡◌, ℕ, ◌*◌, length, zero, suc, Bool, true, List, [], ◌∷◌, ◌++◌, get_or, set, Option, Some, None, refl, sym, ap, ◌∙◌}
+use Rattle.std.proofs.{Common.subst, lemmas.Bool.{eq-eqb}}
+use Rattle.std.specs.{Prelude.{◌==◌, MatchOption, if◌then◌else◌}, Option.option_map}
+use Rattle.block_command.specs.{declared.command.{Command.Command, Stage.{Stage, TheVariants.Store}, Turn.Turn}, Laws.{AskedStore, Goes, after}}
+use Rattle.block_command.specs.{Laws.shown, Moments.{Moment, gone, part_count, part_lba, part_len, turn_of}}
 use Rattle.block_command.specs.declared.command.Turn.TheVariants as turn
-use Rattle.block_command.specs.Laws.{AskedStore, Goes, after, shown}
-use Rattle.block_command.specs.Moments.{Moment, gone, part_count, part_lba, part_len, turn_of}
-use Rattle.block_disk.specs.Laws.{At, Page, at_page, shown_at}
-use Rattle.block_disk.specs.Requests.{Asked, Books, Seen, entered_by, no_books}
-use Rattle.block_engine.specs.Engine.{EngineState, IsAskedOf, IsRequested, aside_what, line, place_asked, what_at, what_of}
+use Rattle.block_disk.specs.{Laws.{At, Page, at_page, shown_at}, Requests.{Asked, Books, Seen, entered_by, no_books}}
+use Rattle.block_engine.specs.{Engine.{EngineState, IsAskedOf, IsRequested, aside_what, line, place_asked, what_at, what_of}, Laws.{Step, all_moves}}
+use Rattle.block_engine.specs.declared.{aside.AsideKind.AsideKind, request.{Request.Request, What.What}}
 use Rattle.block_engine.specs.Laws as engine
-use Rattle.block_engine.specs.Laws.{Step, all_moves}
-use Rattle.block_engine.specs.declared.aside.AsideKind.{AsideKind}
 use Rattle.block_engine.specs.declared.aside.AsideKind.TheVariants as kinds
-use Rattle.block_engine.specs.declared.request.Request.{Request}
-use Rattle.block_engine.specs.declared.request.What.{What}
 use Rattle.block_engine.specs.declared.request.What.TheVariants as what
-use Rattle.block_queue.specs.Deeds.{seen_of}
-use Rattle.block_queue.specs.Line.{command_at}
+use Rattle.block_queue.specs.{Deeds.seen_of, Line.command_at}
 use Rattle.block_scheduler.specs.Laws.{all_deeds}
 use Rattle.disk_pages.specs.declared.profile.Profile.{Profile}
-use Rattle.sata_disk.specs.Sending.{IsOut}
-use Rattle.sata_disk.specs.State.{DiskState, commands, new_disk}
+use Rattle.sata_disk.specs.{Sending.IsOut, State.{DiskState, commands, new_disk}}
 use Rattle.sata_disk.specs.declared.out.Out.TheVariants as out
-use Rattle.sata_disk_books.specs.Books.{books_after, page_in}
-use Rattle.sata_disk_books.specs.Ended.{EndsAreOfPages, HasEarned}
+use Rattle.sata_disk_books.specs.{Books.{books_after, page_in}, Ended.{EndsAreOfPages, HasEarned}}
 use Rattle.sata_disk_books.proofs.Door.{shown_both, shown_from}
-use Rattle.sata_disk_laws.specs.Calls.{AreCalls, Asks, Call, after_calls, all_steps, ask_steps, asked_by}
-use Rattle.sata_disk_laws.specs.Laws.{reached, seen_in}
+use Rattle.sata_disk_laws.specs.{Calls.{AreCalls, Asks, Call, after_calls, all_steps, ask_steps, asked_by}, Laws.{reached, seen_in}}
 use Rattle.sata_disk_laws.specs.Stores.{AreStoresHeard, IsStoreHeard, PageHas, StoresAreHeard}
 use Rattle.sata_disk_laws.proofs.Door.{calls_both, engine_asked}
-use Rattle.ahci_machine.specs.Answers.{disk_in}
-use Rattle.ahci_machine.specs.Bays.{with_unit}
-use Rattle.ahci_machine.specs.States.{IsOpeningMachine, MachineState, bay_at}
-use Rattle.ahci_machine.specs.declared.act.Act.{Act}
+use Rattle.ahci_machine.specs.{Answers.disk_in, Bays.with_unit, States.{IsOpeningMachine, MachineState, bay_at}, declared.{act.Act.Act, bay.Bay.Bay}}
+use Rattle.ahci_machine.specs.declared.{bay.Unit.TheVariants.Disk, request.MediumId.MediumId}
 use Rattle.ahci_machine.specs.declared.act.Act.TheVariants as act
-use Rattle.ahci_machine.specs.declared.bay.Bay.{Bay}
-use Rattle.ahci_machine.specs.declared.bay.Unit.TheVariants.{Disk}
-use Rattle.ahci_machine.specs.declared.request.MediumId.{MediumId}
-use Rattle.machine_laws.specs.ControllerLaws.{RunsRuled}
-use Rattle.machine_laws.specs.Deeds.{Deed, Moved}
-use Rattle.machine_laws.specs.Heard.{DisksHaveLived, HasLived, life_in, no_life}
-use Rattle.machine_theorem.specs.Ends.{EndOrigin, EndsAreOfDevices, HasEarnedAt, IsEndBy, IsEnded}
-use Rattle.machine_theorem.specs.Moments.{Earns, Moment as RunMoment}
-use Rattle.machine_theorem.specs.Writes.{CompletionsAreSupplied, HasSupplied, IsSuppliedEnd, StoresAreOfGuests, StoresNext, SuppliedToNewDisk, WritesAreSupplied}
-use Rattle.machine_theorem.proofs.AtMoments.{ended_at}
-use Rattle.machine_theorem.proofs.Came.{one_call}
+use Rattle.machine_laws.specs.{ControllerLaws.RunsRuled, Deeds.{Deed, Moved}, Heard.{DisksHaveLived, HasLived, life_in, no_life}}
+use Rattle.machine_theorem.specs.{Ends.{EndOrigin, EndsAreOfDevices, HasEarnedAt, IsEndBy, IsEnded}, Moments.{Earns, Moment as RunMoment}}
+use Rattle.machine_theorem.specs.Writes.{CompletionsAreSupplied, HasSupplied, IsSuppliedEnd, StoresAreOfGuests, StoresNext, SuppliedToNewDisk}
+use Rattle.machine_theorem.specs.Writes.{WritesAreSupplied}
+use Rattle.machine_theorem.proofs.{AtMoments.ended_at, Came.one_call, Supplied.supplied, Whole.{AtStage, whole_at}}
 use Rattle.machine_theorem.proofs.Supplied as given
-use Rattle.machine_theorem.proofs.Supplied.{supplied}
-use Rattle.machine_theorem.proofs.Whole.{AtStage, whole_at}
 
 -- ---- a store that is next
 

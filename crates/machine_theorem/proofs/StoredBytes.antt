@@ -1,74 +1,42 @@
 -- Each byte that came for a queued write that the guest sees completed went of its slot, as it was supplied for it, behind the FIS of the command.
-use Rattle.std.proofs.Common.{◌≡◌, ◌⊎◌, ℕ, ◌+◌, ◌-◌, ◌<◌, ◌≤◌, Bool, true, false, List, [], ◌∷◌, ◌++◌, append_assoc, drop, length, Option, Some, None, refl, sym, ap, subst}
-use Rattle.std.proofs.Common.{◌∙◌, arith, inl, inr}
-use Rattle.std.specs.Prelude.{slice_get}
-use Rattle.std.specs.List.{flat_map}
+use Rattle.std.proofs.Common.{◌≡◌, ◌⊎◌, ℕ, ◌+◌, ◌-◌, ◌<◌, ◌≤◌, Bool, true, false, List, [], ◌∷◌, ◌++◌, append_assoc, drop, length, Option, Some, None}
+use Rattle.std.proofs.Common.{refl, sym, ap, subst, ◌∙◌, arith, inl, inr}
+use Rattle.std.specs.{Prelude.slice_get, List.flat_map}
 use Rattle.fis_view.specs.Seen.{seen}
 use Rattle.ahci_controller.specs.Next.{is_fed}
 use Rattle.ahci_controller.specs.declared.feeding.Fed.TheVariants as fed_answer
 use Rattle.ahci_controller.specs.declared.next.Next.TheVariants as next
 use Rattle.controller_laws.specs.Events as call
 use Rattle.controller_laws.specs.Events.{Event}
-use Rattle.block_command.specs.Laws.{Ledger, WriteIsEarned, IsEarned}
-use Rattle.block_command.specs.Moments.{Moment, turn_of}
-use Rattle.block_command.specs.declared.command.Command.{Command}
-use Rattle.block_command.specs.declared.command.Stage.{Stage}
+use Rattle.block_command.specs.{Laws.{Ledger, WriteIsEarned, IsEarned}, Moments.{Moment, turn_of}, declared.command.{Command.Command, Stage.Stage}}
 use Rattle.block_command.specs.declared.command.Stage.TheVariants.{Ended, Fail}
 use Rattle.block_disk.specs.Laws.{Page}
 use Rattle.block_queue.specs.Line.{command_at, has_bit}
-use Rattle.block_scheduler.specs.Schedule.{IsNextFis}
+use Rattle.block_scheduler.specs.{Schedule.IsNextFis, Sets.{is_end, turn_at}}
 use Rattle.block_scheduler.specs.declared.scheduler.NextFis.TheVariants as next_fis
-use Rattle.block_scheduler.specs.Sets.{is_end, turn_at}
-use Rattle.sata_disk.specs.Hearing.{receives}
-use Rattle.sata_disk.specs.Sending.{IsOut}
-use Rattle.sata_disk.specs.State.{DiskState, commands, new_disk}
+use Rattle.sata_disk.specs.{Hearing.receives, Sending.IsOut, State.{DiskState, commands, new_disk}}
 use Rattle.sata_disk.specs.declared.out.Out.TheVariants as out
-use Rattle.sata_disk_books.specs.Books.{page_in}
-use Rattle.sata_disk_books.specs.InTurn.{AreOfQueue}
-use Rattle.sata_disk_laws.specs.Calls.{AreCalls, Call, Hears, after_call}
-use Rattle.sata_disk_laws.specs.Laws.{reached}
-use Rattle.ahci_machine.specs.Gathers.{GatheringState, host_stamp}
-use Rattle.ahci_machine.specs.States.{IsOpeningMachine, MachineState, gathering_at}
+use Rattle.sata_disk_books.specs.{Books.page_in, InTurn.AreOfQueue}
+use Rattle.sata_disk_laws.specs.{Calls.{AreCalls, Call, Hears, after_call}, Laws.reached}
+use Rattle.ahci_machine.specs.{Gathers.{GatheringState, host_stamp}, States.{IsOpeningMachine, MachineState, gathering_at}}
 use Rattle.ahci_machine.specs.declared.act.Act.TheVariants as act
-use Rattle.machine_laws.specs.ControllerLaws.{OpensSo, RunsRuled, calls_in}
-use Rattle.machine_laws.specs.Controllers.{IsGathered, deed_calls, is_kept_for}
-use Rattle.machine_laws.specs.Deeds.{Deed, Moved}
-use Rattle.machine_laws.specs.Falling.{AllLast, HasLink, heard_by, sent_in}
-use Rattle.machine_laws.specs.Feeding.{came_in}
+use Rattle.machine_laws.specs.{ControllerLaws.{OpensSo, RunsRuled, calls_in}, Controllers.{IsGathered, deed_calls, is_kept_for}, Deeds.{Deed, Moved}}
+use Rattle.machine_laws.specs.{Falling.{AllLast, HasLink, heard_by, sent_in}, Feeding.came_in}
 use Rattle.machine_laws.proofs.Due.{there_is}
-use Rattle.machine_theorem.specs.Brought.{DiskStretch}
-use Rattle.machine_theorem.specs.Crossing.{IsForPlace}
-use Rattle.machine_theorem.specs.Identity.{AllKeep, IsAtRest, asked_of, asks_of, calls_of, picks}
-use Rattle.machine_theorem.specs.OwnSlots.{NoneLost}
-use Rattle.machine_theorem.specs.OwnWrites.{AreOwnData}
-use Rattle.machine_theorem.specs.QueuedWrites.{QueuedAloneIsServed}
-use Rattle.machine_theorem.specs.StoredWrites.{ByteIsStored, CompletedWritesAreStored, IsStoredWrite}
-use Rattle.machine_theorem.specs.Tags.{ended_with}
+use Rattle.machine_theorem.specs.{Brought.DiskStretch, Crossing.IsForPlace, Identity.{AllKeep, IsAtRest, asked_of, asks_of, calls_of, picks}}
+use Rattle.machine_theorem.specs.{OwnSlots.NoneLost, OwnWrites.AreOwnData, QueuedWrites.QueuedAloneIsServed, StoredWrites.ByteIsStored}
+use Rattle.machine_theorem.specs.{StoredWrites.{CompletedWritesAreStored, IsStoredWrite}, Tags.ended_with}
 use Rattle.machine_theorem.proofs.AsSupplied as supplied
-use Rattle.machine_theorem.proofs.AtEnd.{LastEnd, speaks}
-use Rattle.machine_theorem.proofs.AtOrder.{AtOrder, LastOrder, one_asks}
-use Rattle.machine_theorem.proofs.CallCut.{HearsAt, hears_at}
-use Rattle.machine_theorem.proofs.CameParts.{CameAt, IsGoing, came_parts, is_over}
-use Rattle.machine_theorem.proofs.Cut.{Cut}
-use Rattle.machine_theorem.proofs.EndsFew.{disk_same}
-use Rattle.machine_theorem.proofs.Fallen.{heard_is}
-use Rattle.machine_theorem.proofs.FedFor as for_slot
-use Rattle.machine_theorem.proofs.FedFor.{is_wanted_now, opens_good, run_good}
-use Rattle.machine_theorem.proofs.FedSince.{read_since}
-use Rattle.machine_theorem.proofs.LastSaid.{long_both}
-use Rattle.machine_theorem.proofs.OrderCut.{OrderAt, order_at}
-use Rattle.machine_theorem.proofs.Ordered.{fed_some, first_ruled}
-use Rattle.machine_theorem.proofs.Own.{last_ruled}
-use Rattle.machine_theorem.proofs.OwnData.{lost_first}
-use Rattle.machine_theorem.proofs.QueuedFed as fed_of
-use Rattle.machine_theorem.proofs.QueuedFed.{FedIt, Line, fed_it, stretch_of}
-use Rattle.machine_theorem.proofs.ReadsOwn.{one_page}
-use Rattle.machine_theorem.proofs.Stretch.{Fall, HasDisk, Stretch, calls, front, has_disk, was_free, whole_run}
-use Rattle.machine_theorem.proofs.TagCounts.{Counted, Since, all_heard, counted, ended_both, under_way_held}
-use Rattle.machine_theorem.proofs.TheirSlots.{at_it, ending, is_done, its_order, the_end, the_order}
-use Rattle.machine_theorem.proofs.Within.{fewer, within_picks}
-use Rattle.machine_theorem.proofs.WentBehind.{fell_in, own_parts}
+use Rattle.machine_theorem.proofs.{AtEnd.{LastEnd, speaks}, AtOrder.{AtOrder, LastOrder, one_asks}, CallCut.{HearsAt, hears_at}, CameParts.CameAt}
+use Rattle.machine_theorem.proofs.{CameParts.{IsGoing, came_parts, is_over}, Cut.Cut, EndsFew.disk_same, Fallen.heard_is, FedFor.is_wanted_now}
+use Rattle.machine_theorem.proofs.{FedFor.{opens_good, run_good}, FedSince.read_since, LastSaid.long_both, OrderCut.{OrderAt, order_at}}
+use Rattle.machine_theorem.proofs.{Ordered.{fed_some, first_ruled}, Own.last_ruled, OwnData.lost_first, QueuedFed.{FedIt, Line, fed_it, stretch_of}}
+use Rattle.machine_theorem.proofs.{ReadsOwn.one_page, Stretch.{Fall, HasDisk, Stretch, calls, front, has_disk, was_free, whole_run}}
+use Rattle.machine_theorem.proofs.{TagCounts.{Counted, Since, all_heard, counted, ended_both, under_way_held}, TheirSlots.{at_it, ending, is_done}}
+use Rattle.machine_theorem.proofs.{TheirSlots.{its_order, the_end, the_order}, Within.{fewer, within_picks}, WentBehind.{fell_in, own_parts}}
 use Rattle.machine_theorem.proofs.WritesOwn.{Awaits, awaits}
+use Rattle.machine_theorem.proofs.FedFor as for_slot
+use Rattle.machine_theorem.proofs.QueuedFed as fed_of
 
 pub record Laws : Type 0 where
   pub supplied : supplied.Laws

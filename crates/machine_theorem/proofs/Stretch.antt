@@ -1,47 +1,29 @@
 -- A stretch of a run that begins at rest and in which the guest keeps to the standard: what is counted over it, and where a bit falls behind it.
-use Rattle.std.proofs.Common.{◌≡◌, ℕ, ◌+◌, ◌<◌, ◌≤◌, ◌&&◌, Bool, true, false, not, List, [], ◌∷◌, ◌++◌, append_assoc, length, map, Some, refl, sym, ap}
-use Rattle.std.proofs.Common.{subst, ◌∙◌, arith}
-use Rattle.std.specs.Prelude.{if◌then◌else◌}
-use Rattle.std.specs.List.{flat_map}
-use Rattle.std.proofs.lemmas.List.{length-append}
+use Rattle.std.proofs.Common.{◌≡◌, ℕ, ◌+◌, ◌<◌, ◌≤◌, ◌&&◌, Bool, true, false, not, List, [], ◌∷◌, ◌++◌, append_assoc, length, map, Some, refl, sym}
+use Rattle.std.proofs.{Common.{ap, subst, ◌∙◌, arith}, lemmas.List.{length-append}}
+use Rattle.std.specs.{Prelude.{if◌then◌else◌}, List.flat_map}
 use Rattle.fis_view.specs.Frames.{Stamped}
 use Rattle.fan_out.specs.declared.fan_out.FanOut.{FanOut}
 use Rattle.slots.specs.Slots.{Issue, has_bit, holds, is_queued_issue, issue_at}
 use Rattle.ahci_registers.specs.declared.register.Register.TheVariants.{PxSact}
-use Rattle.ahci_controller.specs.Reading.{shown}
-use Rattle.ahci_controller.specs.declared.taking.Took.{Took}
+use Rattle.ahci_controller.specs.{Reading.shown, declared.taking.Took.Took}
 use Rattle.disk_pages.specs.declared.profile.Profile.{Profile}
 use Rattle.sata_disk.specs.State.{DiskState, commands, is_taken, new_disk}
-use Rattle.sata_disk_laws.specs.Calls.{AreCalls, Call, after_calls}
-use Rattle.sata_disk_laws.specs.Laws.{reached}
+use Rattle.sata_disk_laws.specs.{Calls.{AreCalls, Call, after_calls}, Laws.reached}
 use Rattle.sata_disk_laws.proofs.Door.{calls_after, calls_both}
 use Rattle.controller_laws.specs.Events.{Event}
-use Rattle.ahci_machine.specs.States.{HasRules, IsOpeningMachine, MachineState, bay_at}
+use Rattle.ahci_machine.specs.{States.{HasRules, IsOpeningMachine, MachineState, bay_at}, declared.bay.Unit.TheVariants.Disk}
 use Rattle.ahci_machine.specs.declared.act.Act.TheVariants as act
-use Rattle.ahci_machine.specs.declared.bay.Unit.TheVariants.{Disk}
-use Rattle.machine_laws.specs.ControllerLaws.{OpensSo, RunsRuled, calls_in}
-use Rattle.machine_laws.specs.Controllers.{GathersDue, deed_calls}
-use Rattle.machine_laws.specs.Deeds.{Deed, Does, Moved}
-use Rattle.machine_laws.specs.Falling.{AllLast, HasLink, heard_by, sent_in}
-use Rattle.machine_laws.specs.Rising.{Frames, HaveRisen, frames_in, is_multiplier, no_frames, untaken}
-use Rattle.machine_theorem.specs.Given.{IsWhole}
-use Rattle.machine_theorem.specs.Identity.{AllKeep, IsAtRest, IsThere, asked_of, asks_of, calls_of, heard_as, is_for, own_of, picks}
-use Rattle.machine_theorem.specs.Orders.{fallen_in, is_fallen, is_queued_of, is_sent_of, ordered_in, standing_in}
-use Rattle.machine_theorem.specs.Tags.{ended_with, heard_with}
-use Rattle.machine_theorem.proofs.Asking.{AllDataAskNone, all_none, asked_few}
-use Rattle.machine_theorem.proofs.Cut.{Cut}
-use Rattle.machine_theorem.proofs.EndsFew.{sent_few, sent_of}
-use Rattle.machine_theorem.proofs.Fallen.{heard_is, heard_within}
-use Rattle.machine_theorem.proofs.Falls.{named_by, told_now}
-use Rattle.machine_theorem.proofs.FallsFew.{came_of, falls_few, taken_names}
-use Rattle.machine_theorem.proofs.Ordered.{first_ruled}
-use Rattle.machine_theorem.proofs.Own.{last_ruled}
-use Rattle.machine_theorem.proofs.OwnPlace.{untaken_is}
-use Rattle.machine_theorem.proofs.Risen.{Begins, came_few, names_of, names_tag}
-use Rattle.machine_theorem.proofs.TagCounts.{Counted, counted}
-use Rattle.machine_theorem.proofs.TheSlots.{Laws, begins, falls_ended, goes_on, once_least}
+use Rattle.machine_laws.specs.{ControllerLaws.{OpensSo, RunsRuled, calls_in}, Controllers.{GathersDue, deed_calls}, Deeds.{Deed, Does, Moved}}
+use Rattle.machine_laws.specs.{Falling.{AllLast, HasLink, heard_by, sent_in}, Rising.{Frames, HaveRisen, frames_in, is_multiplier, no_frames}}
+use Rattle.machine_laws.specs.Rising.{untaken}
+use Rattle.machine_theorem.specs.{Given.IsWhole, Identity.{AllKeep, IsAtRest, IsThere, asked_of, asks_of, calls_of, heard_as, is_for, own_of, picks}}
+use Rattle.machine_theorem.specs.{Orders.{fallen_in, is_fallen, is_queued_of, is_sent_of, ordered_in, standing_in}, Tags.{ended_with, heard_with}}
 use Rattle.machine_theorem.specs.Crossing.{Within}
-use Rattle.machine_theorem.proofs.Within.{fewer, picks_both, within_picks}
+use Rattle.machine_theorem.proofs.{Asking.{AllDataAskNone, all_none, asked_few}, Cut.Cut, EndsFew.{sent_few, sent_of}, Fallen.heard_is}
+use Rattle.machine_theorem.proofs.{Fallen.heard_within, Falls.{named_by, told_now}, FallsFew.{came_of, falls_few, taken_names}, Ordered.first_ruled}
+use Rattle.machine_theorem.proofs.{Own.last_ruled, OwnPlace.untaken_is, Risen.{Begins, came_few, names_of, names_tag}, TagCounts.{Counted, counted}}
+use Rattle.machine_theorem.proofs.{TheSlots.{Laws, begins, falls_ended, goes_on, once_least}, Within.{fewer, picks_both, within_picks}}
 
 -- ---- what led to a stretch, and then it
 

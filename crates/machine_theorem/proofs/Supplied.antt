@@ -1,24 +1,18 @@
 -- Each Data FIS that a disk heard has what was supplied for it, and so has all that came for a command of a disk that was new.
-use Rattle.std.proofs.Common.{◌≡◌, ℕ, Bool, List, [], ◌∷◌, ◌++◌, sym, ap, ◌∙◌, subst, All}
+use Rattle.std.proofs.{Common.{◌≡◌, ℕ, Bool, List, [], ◌∷◌, ◌++◌, sym, ap, ◌∙◌, subst, All}, lemmas.List.Elements.{All-cons, All-nil}}
 use Rattle.std.specs.Prelude.{slice_index, Some}
-use Rattle.std.proofs.lemmas.List.Elements.{All-cons, All-nil}
 use Rattle.block_disk.specs.Laws.{Page}
 use Rattle.disk_pages.specs.declared.profile.Profile.{Profile}
 use Rattle.sata_disk_books.specs.Books.{IsAskedFor, page_in}
 use Rattle.sata_disk_laws.specs.Calls as disk_call
 use Rattle.sata_disk_laws.specs.Calls.{Call, Hears}
 use Rattle.ahci_machine.specs.States.{IsOpeningMachine, MachineState}
-use Rattle.machine_laws.specs.ControllerLaws.{RunsRuled, calls_in}
-use Rattle.machine_laws.specs.Deeds.{Deed}
-use Rattle.machine_laws.specs.Heard.{AllHeard, life_in, no_life}
-use Rattle.machine_theorem.specs.Guest.{HeardIsOfGuest, IsOfGuest, IsOrdered, IsSupplied}
-use Rattle.machine_theorem.specs.Writes.{AreHeard, AreSupplied, DataAreSupplied, HasSupplied, IsSuppliedData}
-use Rattle.machine_theorem.proofs.Came.{CameSince, Each, IsDataType, came_since}
+use Rattle.machine_laws.specs.{ControllerLaws.{RunsRuled, calls_in}, Deeds.Deed, Heard.{AllHeard, life_in, no_life}}
+use Rattle.machine_theorem.specs.{Guest.{HeardIsOfGuest, IsOfGuest, IsOrdered, IsSupplied}, Writes.{AreHeard, AreSupplied, DataAreSupplied}}
+use Rattle.machine_theorem.specs.Writes.{HasSupplied, IsSuppliedData}
+use Rattle.machine_theorem.proofs.{Came.{CameSince, Each, IsDataType, came_since}, FromHost.{OfAsked, of_asked}, OfGuest.weaker}
+use Rattle.machine_theorem.proofs.{Registered.order_is_no_data, Sent.marked_type}
 use Rattle.machine_theorem.proofs.FromHost as from_host
-use Rattle.machine_theorem.proofs.FromHost.{OfAsked, of_asked}
-use Rattle.machine_theorem.proofs.OfGuest.{weaker}
-use Rattle.machine_theorem.proofs.Registered.{order_is_no_data}
-use Rattle.machine_theorem.proofs.Sent.{marked_type}
 
 -- ---- Data that are heard
 

@@ -1,45 +1,29 @@
 -- What a FIS that is heard has a disk take: the command that it asks for, at the place that it names; or nothing.
 use Rattle.std.proofs.Common.{◌≡◌, ℕ, ◌%◌, ◌/◌, ◌+◌, true, false, List, [], ◌∷◌, drop, Some, None, refl, sym, ap, ◌∙◌, subst}
-use Rattle.std.specs.Prelude.{Option, Bool, ◌==◌, ◌&&◌, ◌||◌, nat_le, nat_lt, if◌then◌else◌, Result, Ok}
 use Rattle.std.proofs.lemmas.Bool.{eqb-true}
-use Rattle.fis_view.specs.Table.{H2d, Command, Count, Features, Lba, field}
-use Rattle.fis_view.specs.declared.view.Fis.{Fis}
+use Rattle.std.specs.Prelude.{Option, Bool, ◌==◌, ◌&&◌, ◌||◌, nat_le, nat_lt, if◌then◌else◌, Result, Ok}
+use Rattle.fis_view.specs.{Table.{H2d, Command, Count, Features, Lba, field}, declared.view.{Fis.Fis, FisFault.FisFault}}
 use Rattle.fis_view.specs.declared.view.Fis.TheVariants as view
-use Rattle.fis_view.specs.declared.view.FisFault.{FisFault}
 use Rattle.block_command.specs.declared.command.Command as block
 use Rattle.block_engine.specs.Laws as engine
-use Rattle.ata_command.specs.Asks.{DiskFacts, aborted, asked, asked_by, block_in, does_smart, moved, queued, sets, sets_multiple, setting_of, smart_task, transferred_by}
-use Rattle.ata_command.specs.Courses.{course, resets}
-use Rattle.ata_command.specs.Modes.{multiple_of}
-use Rattle.ata_command.specs.Opcodes.{opcode_of, or_other, transfer_of}
-use Rattle.ata_command.specs.declared.asked.Asked.{Asked as Ask}
+use Rattle.ata_command.specs.Asks.{DiskFacts, aborted, asked, asked_by, block_in, does_smart, moved, queued, sets, sets_multiple, setting_of}
+use Rattle.ata_command.specs.{Asks.{smart_task, transferred_by}, Courses.{course, resets}, Modes.multiple_of, Opcodes.{opcode_of, or_other}}
+use Rattle.ata_command.specs.{Opcodes.transfer_of, declared.asked.{Asked.Asked as Ask, LogPage.LogPage, Move.Move, PowerTask.PowerTask}}
+use Rattle.ata_command.specs.declared.{asked.{Refusal.Refusal, SmartTask.SmartTask}, control.Course.{Course, TheVariants.{Drop, Refuse, AbortAll}}}
+use Rattle.ata_command.specs.declared.{control.Course.TheVariants.Take, opcode.Opcode.Opcode, settings.{Multiple.Multiple, Setting.Setting}}
+use Rattle.ata_command.specs.declared.settings.Settings.{Settings}
 use Rattle.ata_command.specs.declared.asked.Asked.TheVariants as ask
-use Rattle.ata_command.specs.declared.asked.LogPage.{LogPage}
-use Rattle.ata_command.specs.declared.asked.Move.{Move}
-use Rattle.ata_command.specs.declared.asked.PowerTask.{PowerTask}
 use Rattle.ata_command.specs.declared.asked.PowerTask.TheVariants as power
-use Rattle.ata_command.specs.declared.asked.Refusal.{Refusal}
-use Rattle.ata_command.specs.declared.asked.SmartTask.{SmartTask}
-use Rattle.ata_command.specs.declared.control.Course.{Course}
-use Rattle.ata_command.specs.declared.control.Course.TheVariants.{Drop, Refuse, AbortAll, Take}
-use Rattle.ata_command.specs.declared.opcode.Opcode.{Opcode}
 use Rattle.ata_command.specs.declared.opcode.Opcode.TheVariants as code
 use Rattle.ata_command.specs.declared.opcode.Transfer as moves
-use Rattle.ata_command.specs.declared.settings.Multiple.{Multiple}
-use Rattle.ata_command.specs.declared.settings.Setting.{Setting}
 use Rattle.ata_command.specs.declared.settings.Setting.TheVariants as setting
-use Rattle.ata_command.specs.declared.settings.Settings.{Settings}
 use Rattle.ata_front.specs.Fronts.{commanded_by, controlled, heard_data, refused_by, set_by, standing, taken, taken_flush, taken_power}
-use Rattle.ata_front.specs.declared.front.Heard.{Heard}
-use Rattle.ata_front.specs.declared.task.Act.{Act}
+use Rattle.ata_front.specs.declared.{front.Heard.Heard, task.Act.Act}
 use Rattle.ata_front.specs.declared.task.Act.TheVariants as act
 use Rattle.ata_front.specs.declared.task.Purpose.TheVariants as purpose
-use Rattle.disk_pages.specs.Logs.{reads_log}
-use Rattle.disk_pages.specs.Profiles.{facts_of}
-use Rattle.sata_disk.specs.Hearing.{asked_of, command_told, is_command, ranges_of, register_told, with_logs}
-use Rattle.sata_disk.specs.State.{DiskState, commands, tags_of}
-use Rattle.sata_disk_laws.specs.Calls.{act_steps, data_steps, fis_steps}
-use Rattle.sata_disk_laws.specs.Once.{place_in}
+use Rattle.disk_pages.specs.{Logs.reads_log, Profiles.facts_of}
+use Rattle.sata_disk.specs.{Hearing.{asked_of, command_told, is_command, ranges_of, register_told, with_logs}, State.{DiskState, commands, tags_of}}
+use Rattle.sata_disk_laws.specs.{Calls.{act_steps, data_steps, fis_steps}, Once.place_in}
 use Rattle.machine_theorem.proofs.TagKept.{StepNone, range_none}
 
 -- ---- the command of a FIS

@@ -1,12 +1,10 @@
 -- Of each tag: no more ended well than were heard, and what is under way was asked for behind all that ended.
-use Rattle.std.proofs.Common.{◌≡◌, ℕ, ◌+◌, ◌<◌, ◌≤◌, ◌&&◌, true, false, not, List, [], ◌∷◌, ◌++◌, Some, None, refl, sym, ap, ◌∙◌, subst, arith, inl, inr, append_assoc}
+use Rattle.std.proofs.Common.{◌≡◌, ℕ, ◌+◌, ◌<◌, ◌≤◌, ◌&&◌, true, false, not, List, [], ◌∷◌, ◌++◌, Some, None, refl, sym, ap, ◌∙◌, subst, arith, inl}
+use Rattle.std.proofs.{Common.{inr, append_assoc}, lemmas.{Bool.{eq-eqb, false≢true, lt-ltb}, List.{append-nil}}}
 use Rattle.std.specs.Prelude.{Option, Bool, ◌==◌, nat_lt, Ok}
-use Rattle.std.proofs.lemmas.Bool.{eq-eqb, false≢true, lt-ltb}
-use Rattle.std.proofs.lemmas.List.{append-nil}
 use Rattle.fis_view.specs.Seen.{seen}
 use Rattle.fis_view.specs.declared.view.Fis.TheVariants as view
-use Rattle.block_command.specs.declared.command.Command.{Command}
-use Rattle.block_command.specs.Moments.{Moment, is_ended}
+use Rattle.block_command.specs.{declared.command.Command.Command, Moments.{Moment, is_ended}}
 use Rattle.block_disk.specs.Table.{is_under_way}
 use Rattle.block_disk.proofs.Door.{each_is}
 use Rattle.block_engine.specs.Laws as engine
@@ -14,20 +12,16 @@ use Rattle.block_queue.specs.Line.{Line, command_at, has_bit}
 use Rattle.ata_command.specs.declared.asked.Asked.TheVariants as ask
 use Rattle.ata_command.specs.declared.asked.Move.{Move}
 use Rattle.disk_pages.specs.declared.profile.Profile.{Profile}
-use Rattle.sata_disk.specs.Hearing.{asked_of, is_command}
-use Rattle.sata_disk.specs.State.{DiskState, commands, is_taken, new_disk}
+use Rattle.sata_disk.specs.{Hearing.{asked_of, is_command}, State.{DiskState, commands, is_taken, new_disk}}
 use Rattle.sata_disk.specs.declared.out.Out.TheVariants as out
 use Rattle.sata_disk_books.specs.Books.{IsAskedFor}
-use Rattle.sata_disk_laws.specs.Calls.{AreCalls, Call, Plugs, Hears, Starts, Asks, Answers, Sends, after_call, after_calls, steps_of}
-use Rattle.sata_disk_laws.specs.Laws.{reached}
+use Rattle.sata_disk_laws.specs.{Calls.{AreCalls, Call, Plugs, Hears, Starts, Asks, Answers, Sends, after_call, after_calls, steps_of}, Laws.reached}
 use Rattle.sata_disk_laws.specs.Once.{AnswersAreSingle, AreDue, Host, IsCallDue, OpenIsUnderWay, host_after, host_of, new_host, place_in}
 use Rattle.sata_disk_laws.proofs.Door.{calls_after}
 use Rattle.machine_laws.specs.Heard.{life_in, no_life}
 use Rattle.machine_theorem.specs.Tags.{IsBehindEnds, IsCounted, TagsAreCounted, TagsOfNewDisks, asks_with, ended_with, ends_with, heard_with, once_if}
-use Rattle.machine_theorem.proofs.TagKept.{StepNone, call_held, call_takes, held_at, held_is, held_of, held_parts, others_none}
-use Rattle.machine_theorem.proofs.TagAsked.{Outcome, outcome}
-use Rattle.machine_theorem.proofs.TagAsked.Outcome.{Nothing, Taken}
-use Rattle.machine_theorem.proofs.TagPages.{page_same}
+use Rattle.machine_theorem.proofs.{TagKept.{StepNone, call_held, call_takes, held_at, held_is, held_of, held_parts, others_none}, TagAsked.Outcome}
+use Rattle.machine_theorem.proofs.{TagAsked.{outcome, Outcome.{Nothing, Taken}}, TagPages.page_same}
 
 -- ---- lists of calls
 

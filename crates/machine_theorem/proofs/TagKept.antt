@@ -1,33 +1,24 @@
 -- A command that is under way at a place of a disk was under way there before a call, unless the call takes it.
 use Rattle.std.proofs.Common.{◌≡◌, ℕ, zero, suc, true, false, List, [], ◌∷◌, ◌++◌, get_or, set, Some, None, refl, sym, ap, ◌∙◌, ◌⊎◌, inl, inr}
-use Rattle.std.specs.Prelude.{Option, Bool, ◌&&◌, if◌then◌else◌}
-use Rattle.std.specs.Option.{option_map}
 use Rattle.std.proofs.lemmas.Option.{same_Some}
-use Rattle.block_command.specs.declared.command.Command.{Command}
-use Rattle.block_command.specs.declared.command.Stage.{Stage}
-use Rattle.block_command.specs.declared.command.Stage.TheVariants.{Ended}
-use Rattle.block_command.specs.Moments.{Moment, after_came, after_failed, after_flushed, after_loaded, after_stored, gone, is_ended, opening}
-use Rattle.block_command.specs.Laws.{Input, Goes, Comes, Loads, Stores, Flushes, Fails, after}
+use Rattle.std.specs.{Prelude.{Option, Bool, ◌&&◌, if◌then◌else◌}, Option.option_map}
+use Rattle.block_command.specs.{declared.command.{Command.Command, Stage.{Stage, TheVariants.Ended}}, Moments.{Moment, after_came, after_failed}}
+use Rattle.block_command.specs.{Moments.{after_flushed, after_loaded, after_stored, gone, is_ended, opening}, Laws.{Input, Goes, Comes, Loads}}
+use Rattle.block_command.specs.Laws.{Stores, Flushes, Fails, after}
 use Rattle.block_command.proofs.Door.{same_command}
-use Rattle.block_disk.specs.Requests.{Queue, is_out, with_table}
-use Rattle.block_disk.specs.Table.{Table, is_under_way, with_command, with_input, with_taken}
+use Rattle.block_disk.specs.{Requests.{Queue, is_out, with_table}, Table.{Table, is_under_way, with_command, with_input, with_taken}}
 use Rattle.block_disk.proofs.Door.{each_is}
 use Rattle.block_queue.specs.Deeds as deed
-use Rattle.block_queue.specs.Deeds.{Deed, after_deed}
-use Rattle.block_queue.specs.Line.{Line, command_at, may_send, moved_back}
-use Rattle.block_scheduler.specs.Sets.{ends_at}
-use Rattle.block_scheduler.specs.Schedule.{Schedule, ends_all, ends_sent}
+use Rattle.block_queue.specs.{Deeds.{Deed, after_deed}, Line.{Line, command_at, may_send, moved_back}}
+use Rattle.block_scheduler.specs.{Sets.ends_at, Schedule.{Schedule, ends_all, ends_sent}, Laws.{Move, after_move, after_moves, deeds_of, end_deeds}}
+use Rattle.block_scheduler.specs.Laws.{ends_deeds}
 use Rattle.block_scheduler.specs.Laws as move
-use Rattle.block_scheduler.specs.Laws.{Move, after_move, after_moves, deeds_of, end_deeds, ends_deeds}
-use Rattle.block_engine.specs.declared.request.Answer.{Answer}
+use Rattle.block_engine.specs.{declared.request.{Answer.Answer, Range.Range}, Engine.{EngineState, line, place_of}, Laws.{Step, after_step}}
+use Rattle.block_engine.specs.Laws.{after_steps, answer_moves, moves_of}
 use Rattle.block_engine.specs.declared.request.Answer.TheVariants as answers
-use Rattle.block_engine.specs.declared.request.Range.{Range}
-use Rattle.block_engine.specs.Engine.{EngineState, line, place_of}
 use Rattle.block_engine.specs.Laws as engine
-use Rattle.block_engine.specs.Laws.{Step, after_step, after_steps, answer_moves, moves_of}
 use Rattle.block_engine.proofs.Runs as engine_runs
-use Rattle.sata_disk.specs.State.{DiskState, commands}
-use Rattle.sata_disk.specs.declared.out.Out.{Out}
+use Rattle.sata_disk.specs.{State.{DiskState, commands}, declared.out.Out.Out}
 use Rattle.sata_disk.specs.declared.out.Out.TheVariants as out
 use Rattle.sata_disk_laws.specs.Calls as call
 use Rattle.sata_disk_laws.specs.Calls.{Call, after_call, ask_steps, out_steps, range_steps, start_steps, steps_of}

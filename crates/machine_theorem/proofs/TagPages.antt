@@ -1,26 +1,19 @@
 -- The command that is under way at a place is the one that the books have there.
 use Rattle.std.proofs.Common.{◌≡◌, ℕ, zero, suc, true, false, List, [], ◌∷◌, get_or, set, Some, None, refl, sym, ap, ◌∙◌, ◌⊎◌, inl, inr, subst}
-use Rattle.std.specs.Prelude.{Option, Bool, if◌then◌else◌, replicate}
-use Rattle.std.specs.Option.{option_map}
-use Rattle.std.proofs.lemmas.Bool.{cases_eq}
-use Rattle.std.proofs.lemmas.List.{get_or-set_other}
-use Rattle.std.proofs.lemmas.Option.{same_Some}
-use Rattle.block_command.specs.declared.command.Command.{Command}
-use Rattle.block_command.specs.Moments.{Moment, opening}
-use Rattle.block_command.specs.Laws.{Comes, Goes, Happening, Input, after, blank, happening}
-use Rattle.block_disk.specs.Laws.{At, Page, Refused, Took, at_page, entered_in, page_entered, shown_at}
-use Rattle.block_disk.specs.Requests.{Books, Queue, entered_by, is_out, no_books, seen, told}
-use Rattle.block_disk.specs.Table.{is_under_way, with_command, with_input}
+use Rattle.std.proofs.lemmas.{Bool.cases_eq, List.{get_or-set_other}, Option.same_Some}
+use Rattle.std.specs.{Prelude.{Option, Bool, if◌then◌else◌, replicate}, Option.option_map}
+use Rattle.block_command.specs.{declared.command.Command.Command, Moments.{Moment, opening}, Laws.{Comes, Goes, Happening, Input, after, blank}}
+use Rattle.block_command.specs.Laws.{happening}
+use Rattle.block_disk.specs.{Laws.{At, Page, Refused, Took, at_page, entered_in, page_entered, shown_at}, Requests.{Books, Queue, entered_by, is_out}}
+use Rattle.block_disk.specs.{Requests.{no_books, seen, told}, Table.{is_under_way, with_command, with_input}}
 use Rattle.block_disk.proofs.Door.{each_is}
 use Rattle.block_queue.specs.Deeds as deed
-use Rattle.block_queue.specs.Deeds.{Deed, act_of, after_deed, seen_of}
-use Rattle.block_queue.specs.Line.{Line, command_at}
+use Rattle.block_queue.specs.{Deeds.{Deed, act_of, after_deed, seen_of}, Line.{Line, command_at}}
 use Rattle.block_scheduler.specs.Laws.{all_deeds}
 use Rattle.block_engine.specs.Laws.{all_moves}
 use Rattle.disk_pages.specs.declared.profile.Profile.{Profile}
 use Rattle.sata_disk.specs.State.{commands, new_disk}
-use Rattle.sata_disk_laws.specs.Calls.{Call, all_steps}
-use Rattle.sata_disk_laws.specs.Laws.{reached}
+use Rattle.sata_disk_laws.specs.{Calls.{Call, all_steps}, Laws.reached}
 use Rattle.sata_disk_books.specs.Books.{books_after, page_in}
 use Rattle.sata_disk_books.proofs.Door.{after_deeds, line_then}
 use Rattle.machine_theorem.proofs.TagKept.{held_map, held_of, held_parts}

@@ -1,29 +1,19 @@
 -- The frame that was taken last is one that was sent.
-use Rattle.std.proofs.Common.{◌≡◌, ℕ, Bool, true, false, List, [], ◌∷◌, ◌++◌, Option, Some, None, Result, Ok, Err, refl, sym, subst, inl, inr, All, Contains}
-use Rattle.std.specs.Prelude.{MatchOption, slice_index}
-use Rattle.std.specs.Bool.{MatchBool}
-use Rattle.std.specs.declared.alloc.AllocError.{AllocError}
-use Rattle.std.proofs.lemmas.List.Elements.{All-append, All-contains, All-nil, Contains-append_right, Contains-push}
+use Rattle.std.proofs.Common.{◌≡◌, ℕ, Bool, true, false, List, [], ◌∷◌, ◌++◌, Option, Some, None, Result, Ok, Err, refl, sym, subst, inl, inr, All}
+use Rattle.std.proofs.{Common.Contains, lemmas.List.Elements.{All-append, All-contains, All-nil, Contains-append_right, Contains-push}}
+use Rattle.std.specs.{Prelude.{MatchOption, slice_index}, Bool.MatchBool, declared.alloc.AllocError.AllocError}
 use Rattle.fis_view.specs.Frames.{Stamped}
-use Rattle.ahci_controller.specs.declared.taking.Hindrance.{Hindrance}
-use Rattle.ahci_controller.specs.declared.taking.Took.{Took}
+use Rattle.ahci_controller.specs.declared.taking.{Hindrance.Hindrance, Took.Took}
 use Rattle.ahci_machine.specs.Acts as acts
-use Rattle.ahci_machine.specs.Answers.{IsStale, MissesFor, MissesMachine, SuppliesMachine}
-use Rattle.ahci_machine.specs.Gathers.{GatheringState}
-use Rattle.ahci_machine.specs.States.{HasRules, MachineState, gathering_at}
-use Rattle.ahci_machine.specs.Answers.{is_wanted}
-use Rattle.ahci_machine.specs.declared.act.Act.{Act}
-use Rattle.ahci_machine.specs.declared.act.Act.TheVariants as act
-use Rattle.ahci_machine.specs.declared.answers.Told.{Told}
-use Rattle.ahci_machine.specs.declared.request.Wanted.{Wanted}
+use Rattle.ahci_machine.specs.{Answers.{IsStale, MissesFor, MissesMachine, SuppliesMachine, is_wanted}, Gathers.GatheringState, States.HasRules}
+use Rattle.ahci_machine.specs.{States.{MachineState, gathering_at}, declared.{act.Act.Act, answers.Told.Told, request.Wanted.Wanted}}
 use Rattle.ahci_machine.specs.declared.request.Wanted.TheVariants.{Command, Data}
+use Rattle.ahci_machine.specs.declared.act.Act.TheVariants as act
 use Rattle.controller_laws.specs.Events as call
 use Rattle.controller_laws.specs.Events.{Event}
-use Rattle.machine_laws.specs.ControllerLaws.{RunsRuled, calls_in}
-use Rattle.machine_laws.specs.Controllers.{data_calls, deed_calls, lost_calls, miss_calls, rest_calls, supply_calls}
-use Rattle.machine_laws.specs.Deeds.{Deed, Does, Moved, Wrote, Supplied, Missed}
-use Rattle.machine_laws.specs.Lent.{last_taken}
-use Rattle.machine_laws.specs.Rising.{DataAreSent, Frames, GoesOnRising, HaveRisen, came_by, frames_after, is_reset, more_frames, sent_by}
+use Rattle.machine_laws.specs.{ControllerLaws.{RunsRuled, calls_in}, Controllers.{data_calls, deed_calls, lost_calls, miss_calls, rest_calls}}
+use Rattle.machine_laws.specs.{Controllers.supply_calls, Deeds.{Deed, Does, Moved, Wrote, Supplied, Missed}, Lent.last_taken, Rising.DataAreSent}
+use Rattle.machine_laws.specs.Rising.{Frames, GoesOnRising, HaveRisen, came_by, frames_after, is_reset, more_frames, sent_by}
 use Rattle.machine_theorem.proofs.Sent.{AllSent}
 
 -- these bytes are those of a frame of which this holds, if it is a Data FIS

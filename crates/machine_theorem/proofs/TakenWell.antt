@@ -5,14 +5,10 @@ use Rattle.controller_laws.specs.Events as call
 use Rattle.controller_laws.specs.Events.{Event, Runs}
 use Rattle.ahci_machine.specs.States.{MachineState}
 use Rattle.ahci_machine.specs.declared.act.Act.TheVariants as act
-use Rattle.machine_laws.specs.ControllerLaws.{ControllerRuns, RunsRuled, calls_in}
-use Rattle.machine_laws.specs.Controllers.{ControllerGoesOn, GathersDue, StaysDue, deed_calls}
+use Rattle.machine_laws.specs.{ControllerLaws.{ControllerRuns, RunsRuled, calls_in}, Controllers.{ControllerGoesOn, GathersDue, StaysDue, deed_calls}}
 use Rattle.machine_laws.specs.Deeds.{Deed, Does, Moved}
-use Rattle.machine_theorem.specs.Brought.{AllTakenWell, TakesWell}
-use Rattle.machine_theorem.specs.Following.{AllHeardWell}
-use Rattle.machine_theorem.specs.ReadsWritten.{NoneTaken}
-use Rattle.machine_theorem.proofs.Ordered.{first_ruled}
-use Rattle.machine_theorem.proofs.WasTaken.{deed_none}
+use Rattle.machine_theorem.specs.{Brought.{AllTakenWell, TakesWell}, Following.AllHeardWell, ReadsWritten.NoneTaken}
+use Rattle.machine_theorem.proofs.{Ordered.first_ruled, WasTaken.deed_none}
 
 -- ---- calls
 

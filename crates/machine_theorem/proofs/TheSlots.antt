@@ -1,46 +1,31 @@
 -- The command that a disk has under a tag is the one that stands in the slot of this number: the FISes with the tag, and its ends, are counted on both
 -- sides of the link.
-use Rattle.std.proofs.Common.{◌≡◌, ℕ, ◌+◌, ◌<◌, ◌≤◌, Bool, true, false, List, [], ◌∷◌, ◌++◌, length, map, refl, sym, ap, subst, ◌∙◌, arith, append_assoc}
-use Rattle.std.specs.Prelude.{if◌then◌else◌}
-use Rattle.std.specs.List.{flat_map}
-use Rattle.std.proofs.lemmas.Grind.{flat_map-append}
-use Rattle.std.proofs.lemmas.List.{append-nil, append_cancel_left}
+use Rattle.std.proofs.Common.{◌≡◌, ℕ, ◌+◌, ◌<◌, ◌≤◌, Bool, true, false, List, [], ◌∷◌, ◌++◌, length, map, refl, sym, ap, subst, ◌∙◌, arith}
+use Rattle.std.proofs.{Common.append_assoc, lemmas.{Grind.{flat_map-append}, List.{append-nil, append_cancel_left}}}
+use Rattle.std.specs.{Prelude.{if◌then◌else◌}, List.flat_map}
 use Rattle.fis_view.specs.Frames.{Stamped}
 use Rattle.disk_pages.specs.declared.profile.Profile.{Profile}
 use Rattle.sata_disk.specs.State.{DiskState, commands, is_taken, new_disk}
 use Rattle.sata_disk_books.specs.Ended.{OnlyEndsEnd}
-use Rattle.sata_disk_laws.specs.Calls.{AreCalls, Call, Hears, after_calls}
-use Rattle.sata_disk_laws.specs.Laws.{reached}
+use Rattle.sata_disk_laws.specs.{Calls.{AreCalls, Call, Hears, after_calls}, Laws.reached}
 use Rattle.sata_disk_laws.proofs.Door.{calls_after, calls_both}
 use Rattle.multiplier.specs.Passing.{of_conn}
 use Rattle.slots.specs.Slots.{holds, issue_at}
-use Rattle.ahci_machine.specs.States.{IsOpeningMachine, MachineState, bay_at}
-use Rattle.ahci_machine.specs.declared.bay.Unit.{Unit as Inside}
-use Rattle.ahci_machine.specs.declared.bay.Unit.TheVariants.{Disk}
-use Rattle.machine_laws.specs.ControllerLaws.{OpensSo, RunsRuled, calls_in}
-use Rattle.machine_laws.specs.Controllers.{GathersDue}
-use Rattle.machine_laws.specs.Deeds.{Deed, Powered, Wrote}
-use Rattle.machine_laws.specs.Disks.{DisksGoOn, calls_at}
-use Rattle.machine_laws.specs.Falling.{HasLink, heard_by, resets, sent_in}
-use Rattle.machine_laws.specs.Rising.{AreLinked, Frames, FramesAreOver, FramesRise, HaveRisen, RisesInOrder, came_by, frames_in, held_at as held_on}
-use Rattle.machine_laws.specs.Rising.{is_over, is_reset, more_frames, no_frames, on_way, sent_by, untaken}
+use Rattle.ahci_machine.specs.{States.{IsOpeningMachine, MachineState, bay_at}, declared.bay.Unit.{Unit as Inside, TheVariants.Disk}}
+use Rattle.machine_laws.specs.{ControllerLaws.{OpensSo, RunsRuled, calls_in}, Controllers.GathersDue, Deeds.{Deed, Powered, Wrote}, Disks.DisksGoOn}
+use Rattle.machine_laws.specs.{Disks.calls_at, Falling.{HasLink, heard_by, resets, sent_in}, Rising.{AreLinked, Frames, FramesAreOver, FramesRise}}
+use Rattle.machine_laws.specs.Rising.{HaveRisen, RisesInOrder, came_by, frames_in, held_at as held_on, is_over, is_reset, more_frames, no_frames}
+use Rattle.machine_laws.specs.Rising.{on_way, sent_by, untaken}
 use Rattle.machine_theorem.specs.Identity.{AllKeep, CommandsAreTheSlots, NoneNamed, asked_of, asks_of, calls_of, heard_as, is_for, own_of, picks}
-use Rattle.machine_theorem.specs.Orders.{CommandsAreSentOnce, fallen_in, is_sent_of, ordered_in, standing_in}
-use Rattle.machine_theorem.specs.Tags.{ended_with, heard_with, once_if}
+use Rattle.machine_theorem.specs.{Orders.{CommandsAreSentOnce, fallen_in, is_sent_of, ordered_in, standing_in}, Tags.{ended_with, heard_with}}
+use Rattle.machine_theorem.specs.{Tags.once_if, Crossing.Within}
 use Rattle.machine_theorem.proofs.Asking as asking
-use Rattle.machine_theorem.proofs.Asking.{all_none, asked_few}
-use Rattle.machine_theorem.proofs.EndsFew.{disk_same, sent_few, sent_of}
-use Rattle.machine_theorem.proofs.Fallen as fallen
-use Rattle.machine_theorem.proofs.Fallen.{heard_is, heard_within, left_there}
-use Rattle.machine_theorem.proofs.FallsFew.{Facts, came_of, falls_few}
-use Rattle.machine_theorem.proofs.Ordered.{first_ruled}
-use Rattle.machine_theorem.proofs.Risen.{Begins, came_few, names_tag}
-use Rattle.machine_theorem.proofs.RisenTold.{conn_both}
-use Rattle.machine_theorem.proofs.TagCounts as counts
-use Rattle.machine_theorem.proofs.TagCounts.{Counted, Since, all_heard, counted, under_way_held}
-use Rattle.machine_theorem.proofs.TagKept.{held_at}
-use Rattle.machine_theorem.specs.Crossing.{Within}
+use Rattle.machine_theorem.proofs.{Asking.{all_none, asked_few}, EndsFew.{disk_same, sent_few, sent_of}, Fallen.{heard_is, heard_within, left_there}}
+use Rattle.machine_theorem.proofs.{FallsFew.{Facts, came_of, falls_few}, Ordered.first_ruled, Risen.{Begins, came_few, names_tag}}
+use Rattle.machine_theorem.proofs.{RisenTold.conn_both, TagCounts.{Counted, Since, all_heard, counted, under_way_held}, TagKept.held_at}
 use Rattle.machine_theorem.proofs.Within.{all_of, fewer, picks_both, within_picks}
+use Rattle.machine_theorem.proofs.Fallen as fallen
+use Rattle.machine_theorem.proofs.TagCounts as counts
 
 pub record Laws : Type 0 where
   pub tags : counts.Laws

@@ -1,7 +1,6 @@
 -- The queued command whose bit falls is the one that the guest had supplied for the slot, and its disk ended it.
-use Rattle.std.proofs.Common.{◌≡◌, ℕ, ◌≤◌, Bool, List, [], ◌∷◌, ◌++◌, append_assoc, append-nil, refl, sym, ap, ◌∙◌, arith}
+use Rattle.std.proofs.{Common.{◌≡◌, ℕ, ◌≤◌, Bool, List, [], ◌∷◌, ◌++◌, append_assoc, append-nil, refl, sym, ap, ◌∙◌, arith}, lemmas.Bool.{eq-eqb}}
 use Rattle.std.specs.Prelude.{if◌then◌else◌}
-use Rattle.std.proofs.lemmas.Bool.{eq-eqb}
 use Rattle.fis_view.specs.Frames.{Stamped}
 use Rattle.ahci_controller.specs.declared.next.Next.TheVariants as next
 use Rattle.controller_laws.specs.Events as call
@@ -9,22 +8,11 @@ use Rattle.controller_laws.specs.Events.{Event}
 use Rattle.block_queue.specs.Line.{has_bit}
 use Rattle.sata_disk.specs.declared.out.Out.TheVariants as out
 use Rattle.sata_disk_laws.specs.Calls.{Call, Sends}
-use Rattle.machine_laws.specs.ControllerLaws.{calls_in}
-use Rattle.machine_laws.specs.Disks.{calls_at}
-use Rattle.machine_laws.specs.Falling.{AllLast, HasLink, sent_in}
-use Rattle.machine_theorem.specs.Commands.{AreNotIssued}
-use Rattle.machine_theorem.specs.Completions.{CompletionsAreOfSlots, IsDone}
-use Rattle.machine_theorem.specs.Given.{IsWhole}
-use Rattle.machine_theorem.specs.Identity.{AllKeep, asked_of, calls_of}
-use Rattle.machine_theorem.specs.Orders.{ordered_in}
-use Rattle.machine_theorem.specs.Tags.{ended_with, once_if}
-use Rattle.machine_theorem.proofs.AsSupplied.{Laws, supplied_at}
-use Rattle.machine_theorem.proofs.AtEnd.{AtEnd, LastEnd, at_end, last_end, speaks}
-use Rattle.machine_theorem.proofs.AtOrder.{AtOrder, LastOrder, at_order, last_order}
-use Rattle.machine_theorem.proofs.Cut.{Cut}
-use Rattle.machine_theorem.proofs.LastSaid.{all_ends, sent_both}
-use Rattle.machine_theorem.proofs.SameFis.{same_fis}
-use Rattle.machine_theorem.proofs.StillStands.{none_both}
+use Rattle.machine_laws.specs.{ControllerLaws.calls_in, Disks.calls_at, Falling.{AllLast, HasLink, sent_in}}
+use Rattle.machine_theorem.specs.{Commands.AreNotIssued, Completions.{CompletionsAreOfSlots, IsDone}, Given.IsWhole, Identity.{AllKeep, asked_of}}
+use Rattle.machine_theorem.specs.{Identity.calls_of, Orders.ordered_in, Tags.{ended_with, once_if}}
+use Rattle.machine_theorem.proofs.{AsSupplied.{Laws, supplied_at}, AtEnd.{AtEnd, LastEnd, at_end, last_end, speaks}, AtOrder.{AtOrder, LastOrder}}
+use Rattle.machine_theorem.proofs.{AtOrder.{at_order, last_order}, Cut.Cut, LastSaid.{all_ends, sent_both}, SameFis.same_fis, StillStands.none_both}
 use Rattle.machine_theorem.proofs.Stretch.{AllEnded, Fall, Falls, Stretch, all_ended, asked, calls, fall_is, falls, front, whole_run}
 use Rattle.machine_theorem.proofs.TagCounts.{ended_both}
 

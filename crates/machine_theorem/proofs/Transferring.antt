@@ -1,56 +1,37 @@
 -- From the command on until it is answered a disk moves its sectors, or owes its error.
-use Rattle.std.proofs.Common.{◌≡◌, ◌⊎◌, ℕ, ◌+◌, ◌&&◌, Bool, true, false, not, List, [], ◌∷◌, ◌++◌, Option, Some, None, refl, sym, ap, subst, ◌∙◌, inl, inr, arith}
+use Rattle.std.proofs.Common.{◌≡◌, ◌⊎◌, ℕ, ◌+◌, ◌&&◌, Bool, true, false, not, List, [], ◌∷◌, ◌++◌, Option, Some, None, refl, sym, ap, subst, ◌∙◌, inl}
+use Rattle.std.proofs.{Common.{inr, arith}, lemmas.Bool.{and_parts, false≢true}}
 use Rattle.std.specs.Prelude.{◌==◌, ◌/◌, ◌||◌, is_none, nat_le, nat_lt, if◌then◌else◌, Result, Ok}
-use Rattle.std.proofs.lemmas.Bool.{and_parts, false≢true}
-use Rattle.fis_view.specs.Seen.{seen}
-use Rattle.fis_view.specs.Table.{H2d, Command, field}
-use Rattle.fis_view.specs.declared.view.Fis.{Fis}
+use Rattle.fis_view.specs.{Seen.seen, Table.{H2d, Command, field}, declared.view.{Fis.Fis, FisFault.FisFault}}
 use Rattle.fis_view.specs.declared.view.Fis.TheVariants as view
-use Rattle.fis_view.specs.declared.view.FisFault.{FisFault}
 use Rattle.block_command.specs.declared.command.Command as block
-use Rattle.block_engine.specs.declared.aside.AsideStage.{AsideStage}
+use Rattle.block_engine.specs.{declared.aside.AsideStage.AsideStage, Aside.is_over, Engine.{EngineState, aside_due, line}}
 use Rattle.block_engine.specs.declared.aside.AsideStage.TheVariants as stages
-use Rattle.block_engine.specs.Aside.{is_over}
-use Rattle.block_engine.specs.Engine.{EngineState, aside_due, line}
 use Rattle.ata_command.specs.Asks.{DiskFacts, asked, asked_by, count_of, first_missing, lba_of, moved, protocol_of, tag_of_place, transferred_by}
-use Rattle.ata_command.specs.Courses.{course, is_error_log, resets, stands_beside}
-use Rattle.ata_command.specs.Opcodes.{opcode_of}
-use Rattle.ata_command.specs.declared.asked.Asked.{Asked}
+use Rattle.ata_command.specs.{Courses.{course, is_error_log, resets, stands_beside}, Opcodes.opcode_of, declared.asked.{Asked.Asked, Move.Move}}
+use Rattle.ata_command.specs.declared.{asked.Refusal.Refusal, control.Course.{Course, TheVariants.{Drop, Refuse, AbortAll, Take}}}
+use Rattle.ata_command.specs.declared.{control.Standing.Standing, opcode.Opcode.Opcode, settings.Settings.Settings}
 use Rattle.ata_command.specs.declared.asked.Asked.TheVariants as ask
-use Rattle.ata_command.specs.declared.asked.Move.{Move}
-use Rattle.ata_command.specs.declared.asked.Refusal.{Refusal}
-use Rattle.ata_command.specs.declared.control.Course.{Course}
-use Rattle.ata_command.specs.declared.control.Course.TheVariants.{Drop, Refuse, AbortAll, Take}
-use Rattle.ata_command.specs.declared.control.Standing.{Standing}
 use Rattle.ata_command.specs.declared.control.Standing.TheVariants as stand
-use Rattle.ata_command.specs.declared.opcode.Opcode.{Opcode}
 use Rattle.ata_command.specs.declared.opcode.Opcode.TheVariants as code
 use Rattle.ata_command.specs.declared.opcode.Transfer as moves
-use Rattle.ata_command.specs.declared.settings.Settings.{Settings}
 use Rattle.ata_front.specs.Fronts.{commanded_by, controlled, heard_data, moves_task, over, owed, refused_by, standing, taken, task_less}
-use Rattle.ata_front.specs.declared.front.Front.{Front}
+use Rattle.ata_front.specs.declared.{front.Front.Front, task.{Task.Task, Trouble.Trouble}}
 use Rattle.ata_front.specs.declared.task.Owed.TheVariants as owe
-use Rattle.ata_front.specs.declared.task.Task.{Task}
 use Rattle.ata_front.specs.declared.task.Task.TheVariants as tasks
-use Rattle.ata_front.specs.declared.task.Trouble.{Trouble}
-use Rattle.ata_reply.specs.declared.reply.AtaError.TheVariants.{NotFound}
-use Rattle.ata_reply.specs.declared.reply.Reply.{Reply}
+use Rattle.ata_reply.specs.declared.reply.{AtaError.TheVariants.NotFound, Reply.Reply}
 use Rattle.ata_reply.specs.declared.reply.Reply.TheVariants as replies
 use Rattle.disk_pages.specs.Profiles.{facts_of}
-use Rattle.sata_disk.specs.Hearing.{asked_of, command_told, command_unheard, data_by, fis_heard, is_command, register_heard, register_unheard, with_logs}
-use Rattle.sata_disk.specs.Sending.{IsOut, after_sent, front_sent, is_done, single_front, trouble_at}
-use Rattle.sata_disk.specs.State.{DiskState, IsBeside, commands, new_disk, tags_of}
-use Rattle.sata_disk.specs.declared.out.Out.{Out}
+use Rattle.sata_disk.specs.Hearing.{asked_of, command_told, command_unheard, data_by, fis_heard, is_command, register_heard, register_unheard}
+use Rattle.sata_disk.specs.{Hearing.with_logs, Sending.{IsOut, after_sent, front_sent, is_done, single_front, trouble_at}, State.DiskState}
+use Rattle.sata_disk.specs.{State.{IsBeside, commands, new_disk, tags_of}, declared.{out.Out.Out, unheard.Unheard.TheVariants.{Busy, InReset}}}
 use Rattle.sata_disk.specs.declared.out.Out.TheVariants as out
-use Rattle.sata_disk.specs.declared.unheard.Unheard.TheVariants.{Busy, InReset}
-use Rattle.sata_disk_laws.specs.Awaited.{AsidesAreAwaited}
-use Rattle.sata_disk_laws.specs.Calls.{Answers, AreCalls, Asks, Call, Hears, IsCall, Plugs, Sends, Starts, after_call, after_calls}
-use Rattle.sata_disk_laws.specs.Laws.{reached}
-use Rattle.sata_disk_laws.specs.Once.{AnswersAreSingle, Host, IsOutDue, OpenIsUnderWay, Wait, host_of, new_host, unheard_of, waits_for_nothing}
+use Rattle.sata_disk_laws.specs.{Awaited.AsidesAreAwaited, Calls.{Answers, AreCalls, Asks, Call, Hears, IsCall, Plugs, Sends, Starts, after_call}}
+use Rattle.sata_disk_laws.specs.{Calls.after_calls, Laws.reached, Once.{AnswersAreSingle, Host, IsOutDue, OpenIsUnderWay, Wait, host_of, new_host}}
+use Rattle.sata_disk_laws.specs.Once.{unheard_of, waits_for_nothing}
 use Rattle.sata_disk_laws.proofs.Door.{calls_after, calls_both}
-use Rattle.machine_theorem.specs.InTurn.{AreKeptOn, IsKeptOn, answered_in, answers_one, commands as asks_one, heard_in, hears_one, is_answer, is_register, sets_reset}
-use Rattle.machine_theorem.specs.Tags.{once_if}
-use Rattle.machine_theorem.specs.Transfers.{TransfersEndSo, fails, fails_by, is_transfer, transfers}
+use Rattle.machine_theorem.specs.InTurn.{AreKeptOn, IsKeptOn, answered_in, answers_one, commands as asks_one, heard_in, hears_one, is_answer}
+use Rattle.machine_theorem.specs.{InTurn.{is_register, sets_reset}, Tags.once_if, Transfers.{TransfersEndSo, fails, fails_by, is_transfer, transfers}}
 use Rattle.machine_theorem.proofs.TagCounts.{due_at, first_calls}
 
 pub record Laws : Type 0 where

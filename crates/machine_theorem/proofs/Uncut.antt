@@ -1,36 +1,23 @@
 -- While a command stands in a slot no write stops the port: so what is to be written of the Data FIS that was taken last is not cut.
-use Rattle.std.proofs.Common.{◌≡◌, ℕ, ◌+◌, ◌*◌, ◌/◌, ◌||◌, Bool, true, false, not, List, [], ◌∷◌, ◌++◌, append-nil, refl, sym, ap}
-use Rattle.std.proofs.Common.{◌∙◌, arith, Option, Some, None}
+use Rattle.std.proofs.Common.{◌≡◌, ℕ, ◌+◌, ◌*◌, ◌/◌, ◌||◌, Bool, true, false, not, List, [], ◌∷◌, ◌++◌, append-nil, refl, sym, ap, ◌∙◌, arith, Option}
+use Rattle.std.proofs.{Common.{Some, None}, lemmas.Bool.{eqb-true, false≢true}}
 use Rattle.std.specs.Prelude.{◌==◌, ◌%◌, MatchOption, if◌then◌else◌}
-use Rattle.std.proofs.lemmas.Bool.{eqb-true, false≢true}
 use Rattle.ahci_registers.specs.Bits as line_bits
-use Rattle.ahci_registers.specs.Offsets.{register_at}
-use Rattle.ahci_registers.specs.declared.link.Effect.{Effect}
+use Rattle.ahci_registers.specs.{Offsets.register_at, declared.{link.Effect.Effect, register.Register.Register}}
 use Rattle.ahci_registers.specs.declared.link.Effect.TheVariants as effect
-use Rattle.ahci_registers.specs.declared.register.Register.{Register}
 use Rattle.ahci_registers.specs.declared.register.Register.TheVariants as ahci
-use Rattle.hba_fbs.specs.Offering.{AcceptsBy}
-use Rattle.hba_fbs.specs.declared.error.WriteError.{WriteError}
+use Rattle.hba_fbs.specs.{Offering.AcceptsBy, declared.{error.WriteError.WriteError, registers.Registers.Registers}}
 use Rattle.hba_fbs.specs.declared.register.Register as port_register
 use Rattle.hba_fbs.specs.declared.register.Register.TheVariants as on_port
-use Rattle.hba_fbs.specs.declared.registers.Registers.{Registers}
 use Rattle.guest_fetch.specs.declared.moves.Move.{Move}
-use Rattle.ahci_controller.specs.Access.{fits, high_of, merged, ones_of, spread_of}
-use Rattle.ahci_controller.specs.Offers.{offer_in, offers_nothing}
-use Rattle.ahci_controller.specs.Reading.{shown}
-use Rattle.ahci_controller.specs.States.{ControllerState}
-use Rattle.ahci_controller.specs.Wide.{WritesFitting, WritesIf, WritesNothing}
-use Rattle.ahci_controller.specs.Writing.{Leaves, ResetsBy, WritesGlobal, WritesRegister, armed_by, link_effect, link_moved, plain, switched_by}
-use Rattle.ahci_controller.specs.Writing.{told_refusal}
-use Rattle.ahci_controller.specs.declared.access.Width.{Width}
-use Rattle.ahci_controller.specs.declared.wide.WideWritten.{WideWritten}
-use Rattle.ahci_controller.specs.declared.writing.Written.{Written}
-use Rattle.controller_laws.specs.Carrying.{Carrying, carrying_after_call, cut_if, cut_wide, moves_in, moves_said, said_more}
+use Rattle.ahci_controller.specs.{Access.{fits, high_of, merged, ones_of, spread_of}, Offers.{offer_in, offers_nothing}, Reading.shown}
+use Rattle.ahci_controller.specs.{States.ControllerState, Wide.{WritesFitting, WritesIf, WritesNothing}, Writing.{Leaves, ResetsBy, WritesGlobal}}
+use Rattle.ahci_controller.specs.Writing.{WritesRegister, armed_by, link_effect, link_moved, plain, switched_by, told_refusal}
+use Rattle.ahci_controller.specs.declared.{access.Width.Width, wide.WideWritten.WideWritten, writing.Written.Written}
+use Rattle.controller_laws.specs.{Carrying.{Carrying, carrying_after_call, cut_if, cut_wide, moves_in, moves_said, said_more}, Events.{Does, Event}}
 use Rattle.controller_laws.specs.Events as call
-use Rattle.controller_laws.specs.Events.{Does, Event}
 use Rattle.machine_theorem.specs.ReadsWritten.{NoneTaken, moves_of}
-use Rattle.machine_theorem.proofs.CoreStems.{IsWritten}
-use Rattle.machine_theorem.proofs.Idle.{written_start}
+use Rattle.machine_theorem.proofs.{CoreStems.IsWritten, Idle.written_start}
 
 -- ---- the higher dword of a write
 

@@ -1,47 +1,30 @@
 -- Where nothing of a sector is under way at a disk, and no command that is heard is a write of it or DATA SET MANAGEMENT, nothing of it comes to be under way.
 use Rattle.std.proofs.Common.{◌≡◌, ℕ, true, false, List, [], ◌∷◌, ◌++◌, drop, Option, Some, None, refl, sym, ap, subst, ◌∙◌, inl, inr}
-use Rattle.std.specs.Prelude.{◌/◌, Bool, not, nat_lt, if◌then◌else◌, Result, Ok}
 use Rattle.std.proofs.lemmas.Bool.{false≢true}
-use Rattle.fis_view.specs.Seen.{seen}
-use Rattle.fis_view.specs.declared.view.Fis.{Fis}
+use Rattle.std.specs.Prelude.{◌/◌, Bool, not, nat_lt, if◌then◌else◌, Result, Ok}
+use Rattle.fis_view.specs.{Seen.seen, declared.view.{Fis.Fis, FisFault.FisFault}}
 use Rattle.fis_view.specs.declared.view.Fis.TheVariants as view
-use Rattle.fis_view.specs.declared.view.FisFault.{FisFault}
-use Rattle.block_command.specs.declared.command.Command.{Command}
-use Rattle.block_command.specs.Moments.{Moment}
-use Rattle.block_disk.specs.Laws.{Page}
-use Rattle.block_disk.specs.Table.{is_under_way}
+use Rattle.block_command.specs.{declared.command.Command.Command, Moments.Moment}
+use Rattle.block_disk.specs.{Laws.Page, Table.is_under_way}
 use Rattle.block_queue.specs.Line.{command_at}
 use Rattle.block_engine.specs.declared.aside.AsideKind.TheVariants as kinds
-use Rattle.block_engine.specs.declared.request.Answer.{Answer}
+use Rattle.block_engine.specs.{declared.request.Answer.Answer, Aside.{asks_for, is_waiting, settled}, Engine.{EngineState, answered, done_at}}
+use Rattle.block_engine.specs.{Engine.{failed_by, is_discard, loaded_at, place_of}, Laws.{Step, after_step, after_steps}}
 use Rattle.block_engine.specs.declared.request.Answer.TheVariants as answers
-use Rattle.block_engine.specs.Aside.{asks_for, is_waiting, settled}
-use Rattle.block_engine.specs.Engine.{EngineState, answered, done_at, failed_by, is_discard, loaded_at, place_of}
 use Rattle.block_engine.specs.Laws as engine
-use Rattle.block_engine.specs.Laws.{Step, after_step, after_steps}
-use Rattle.ata_command.specs.Courses.{course, resets}
-use Rattle.ata_command.specs.declared.asked.Asked.{Asked}
+use Rattle.ata_command.specs.{Courses.{course, resets}, declared.asked.{Asked.Asked, PowerTask.PowerTask, Refusal.Refusal, SmartTask.SmartTask}}
+use Rattle.ata_command.specs.declared.{control.Course.{Course, TheVariants.{Drop, Refuse, AbortAll, Take}}, settings.Setting.Setting}
 use Rattle.ata_command.specs.declared.asked.Asked.TheVariants as ask
-use Rattle.ata_command.specs.declared.asked.PowerTask.{PowerTask}
 use Rattle.ata_command.specs.declared.asked.PowerTask.TheVariants as power
-use Rattle.ata_command.specs.declared.asked.Refusal.{Refusal}
-use Rattle.ata_command.specs.declared.asked.SmartTask.{SmartTask}
 use Rattle.ata_command.specs.declared.asked.SmartTask.TheVariants as smart
-use Rattle.ata_command.specs.declared.control.Course.{Course}
-use Rattle.ata_command.specs.declared.control.Course.TheVariants.{Drop, Refuse, AbortAll, Take}
-use Rattle.ata_command.specs.declared.settings.Setting.{Setting}
 use Rattle.ata_command.specs.declared.settings.Setting.TheVariants as setting
-use Rattle.ata_front.specs.Fronts.{commanded_by, controlled, heard_data, refused_by, said_by, set_by, standing, task_less, task_of_smart, taken, taken_power}
-use Rattle.ata_front.specs.declared.front.Front.{Front}
-use Rattle.ata_front.specs.declared.front.Heard.{Heard}
-use Rattle.ata_front.specs.declared.task.Act.{Act}
+use Rattle.ata_front.specs.Fronts.{commanded_by, controlled, heard_data, refused_by, said_by, set_by, standing, task_less, task_of_smart, taken}
+use Rattle.ata_front.specs.{Fronts.taken_power, declared.{front.{Front.Front, Heard.Heard}, task.{Act.Act, Task.Task}}}
 use Rattle.ata_front.specs.declared.task.Act.TheVariants as act
-use Rattle.ata_front.specs.declared.task.Task.{Task}
 use Rattle.ata_front.specs.declared.task.Task.TheVariants as tasks
 use Rattle.disk_pages.specs.declared.profile.Profile.{Profile}
-use Rattle.sata_disk.specs.Hearing.{asked_of, command_told, data_by, fis_heard, is_command, register_told}
-use Rattle.sata_disk.specs.Sending.{front_sent, single_front}
-use Rattle.sata_disk.specs.State.{DiskState, commands, is_taken, new_disk, tags_of}
-use Rattle.sata_disk.specs.declared.out.Out.{Out}
+use Rattle.sata_disk.specs.{Hearing.{asked_of, command_told, data_by, fis_heard, is_command, register_told}, Sending.{front_sent, single_front}}
+use Rattle.sata_disk.specs.{State.{DiskState, commands, is_taken, new_disk, tags_of}, declared.out.Out.Out}
 use Rattle.sata_disk.specs.declared.out.Out.TheVariants as out
 use Rattle.sata_disk_books.specs.Books.{page_in}
 use Rattle.sata_disk_books.proofs.Door.{call_after}
@@ -49,14 +32,10 @@ use Rattle.sata_disk_laws.specs.Calls as call
 use Rattle.sata_disk_laws.specs.Calls.{Call, act_steps, after_call, after_calls, ask_steps, data_steps, fis_steps, out_steps, start_steps, steps_of}
 use Rattle.sata_disk_laws.specs.Laws.{reached}
 use Rattle.sata_disk_laws.proofs.Door.{calls_after}
-use Rattle.sata_disk_media.specs.Cells.{covers}
-use Rattle.sata_disk_media.specs.Laws.{IsUndisturbed, UndisturbedIsSpared}
+use Rattle.sata_disk_media.specs.{Cells.covers, Laws.{IsUndisturbed, UndisturbedIsSpared}}
 use Rattle.machine_theorem.specs.Unheard.{AllHearNone, HearsNone, IsQuiet, Leaves, UnheardIsSpared, is_trimming}
-use Rattle.machine_theorem.proofs.TagAsked.{Outcome, outcome}
-use Rattle.machine_theorem.proofs.TagAsked.Outcome.{Nothing, Taken}
-use Rattle.machine_theorem.proofs.TagCounts.{held_of_taken}
-use Rattle.machine_theorem.proofs.TagKept.{call_held, call_takes, held_at, held_of, held_parts, others_none}
-use Rattle.machine_theorem.proofs.TagPages.{page_same}
+use Rattle.machine_theorem.proofs.{TagAsked.{Outcome, outcome, Outcome.{Nothing, Taken}}, TagCounts.held_of_taken, TagKept.{call_held, call_takes}}
+use Rattle.machine_theorem.proofs.{TagKept.{held_at, held_of, held_parts, others_none}, TagPages.page_same}
 
 -- ---- writes
 

@@ -1,60 +1,37 @@
 -- A command that is not queued waits in its slot until its device answers or sends Data that end it, if the guest spares it.
-use Rattle.std.proofs.Common.{◌≡◌, ℕ, zero, suc, ◌<◌, ◌^◌, ◌&&◌, Bool, true, false, not, List, [], ◌∷◌, ◌++◌, drop, refl, sym, ap, subst, ◌∙◌, arith, Option, Some, None}
-use Rattle.std.specs.Prelude.{◌==◌, IfSome, MatchOption, if◌then◌else◌}
-use Rattle.std.specs.Option.{option_map}
-use Rattle.std.proofs.lemmas.Bool.{eq-eqb, eqb-true, false≢true}
+use Rattle.std.proofs.Common.{◌≡◌, ℕ, zero, suc, ◌<◌, ◌^◌, ◌&&◌, Bool, true, false, not, List, [], ◌∷◌, ◌++◌, drop, refl, sym, ap, subst, ◌∙◌, arith}
+use Rattle.std.proofs.{Common.{Option, Some, None}, lemmas.Bool.{eq-eqb, eqb-true, false≢true}}
+use Rattle.std.specs.{Prelude.{◌==◌, IfSome, MatchOption, if◌then◌else◌}, Option.option_map}
 use Rattle.fis_view.specs.Seen.{seen}
 use Rattle.host_memory.specs.declared.table.Prd.{Prd}
 use Rattle.hba_commands.specs.declared.command.Command.{Command}
 use Rattle.guest_fetch.specs.Commands.{Fetched}
-use Rattle.slots.specs.Data.{payload, payload_len}
-use Rattle.slots.specs.Slots.{Issue, context_of, has_bit, holds, is_pio, issue_at, match_some, own_issue, slots_of}
-use Rattle.slots.specs.Table.{IsContext, IsContextOf}
-use Rattle.slots.specs.Work.{is_dma, is_queued, is_read}
-use Rattle.slots.specs.declared.table.Context.{Context}
-use Rattle.slots.specs.declared.work.Kind.{Kind}
-use Rattle.slots.specs.declared.work.Kind.TheVariants.{PioIn}
-use Rattle.slots.specs.declared.work.Work.{Work}
+use Rattle.slots.specs.{Data.{payload, payload_len}, Slots.{Issue, context_of, has_bit, holds, is_pio, issue_at, match_some, own_issue, slots_of}}
+use Rattle.slots.specs.{Table.{IsContext, IsContextOf}, Work.{is_dma, is_queued, is_read}, declared.{table.Context.Context, work.Kind.Kind}}
+use Rattle.slots.specs.declared.work.{Kind.TheVariants.PioIn, Work.Work}
 use Rattle.slots.proofs.Door.{own_at}
-use Rattle.hba_fbs.specs.Offering.{asked_by}
-use Rattle.hba_fbs.specs.Registers.{falls}
-use Rattle.hba_fbs.specs.Taking.{port_of}
-use Rattle.hba_fbs.specs.Turning.{feeds}
-use Rattle.hba_fbs.specs.Views.{Port, last_command, view_of}
-use Rattle.hba_fbs.specs.declared.error.WriteError.{WriteError}
-use Rattle.hba_fbs.specs.declared.report.TakeReport.{TakeReport}
-use Rattle.hba_fbs.specs.declared.turn.Turn.{Turn}
-use Rattle.hba_fbs.specs.declared.turn.Turn.TheVariants.{Feeds, Orders, Rests}
-use Rattle.hba_laws.specs.Agreement.{IsTold, is_for, work_of_issue}
-use Rattle.hba_laws.specs.Alike.{told_issue, told_issued}
-use Rattle.hba_laws.specs.CoreHistories.{event_by, happened, history_through, turned_for}
+use Rattle.hba_fbs.specs.{Offering.asked_by, Registers.falls, Taking.port_of, Turning.feeds, Views.{Port, last_command, view_of}}
+use Rattle.hba_fbs.specs.declared.{error.WriteError.WriteError, report.TakeReport.TakeReport, turn.Turn.{Turn, TheVariants.{Feeds, Orders, Rests}}}
+use Rattle.hba_laws.specs.{Agreement.{IsTold, is_for, work_of_issue}, Alike.{told_issue, told_issued}, CoreHistories.{event_by, happened}}
+use Rattle.hba_laws.specs.{CoreHistories.{history_through, turned_for}, Cores.{CoreEvent, RunsBy}, Delivering.{begun_by, event_sent}}
+use Rattle.hba_laws.specs.{Delivering.is_control_issue, History.{Event, History, Transfer, completes, is_at, is_set_up, issued, unless, waiting_in}}
 use Rattle.hba_laws.specs.Cores as core
-use Rattle.hba_laws.specs.Cores.{CoreEvent, RunsBy}
-use Rattle.hba_laws.specs.Delivering.{begun_by, event_sent, is_control_issue}
 use Rattle.hba_laws.specs.History as history
-use Rattle.hba_laws.specs.History.{Event, History, Transfer, completes, is_at, is_set_up, issued, unless, waiting_in}
 use Rattle.hba_laws.proofs.Door.{own_in}
-use Rattle.ahci_controller.specs.Issuing.{device_of, offered_command}
-use Rattle.ahci_controller.specs.Next.{is_halted, next_write, written}
-use Rattle.ahci_controller.specs.Offers.{offer_in}
-use Rattle.ahci_controller.specs.States.{ControllerState, kept}
-use Rattle.ahci_controller.specs.declared.feeding.Fed.{Fed}
+use Rattle.ahci_controller.specs.{Issuing.{device_of, offered_command}, Next.{is_halted, next_write, written}, Offers.offer_in}
+use Rattle.ahci_controller.specs.{States.{ControllerState, kept}, declared.{feeding.Fed.Fed, next.Next.Next, issuing.Supply.Supply}}
 use Rattle.ahci_controller.specs.declared.feeding.Fed.TheVariants as fed_answer
-use Rattle.ahci_controller.specs.declared.next.Next.{Next}
 use Rattle.ahci_controller.specs.declared.next.Next.TheVariants as next_step
-use Rattle.ahci_controller.specs.declared.issuing.Supply.{Supply}
 use Rattle.ahci_controller.specs.declared.issuing.Supply.TheVariants as supply_answer
-use Rattle.controller_laws.specs.CoreEvents.{no_tables, of_event, of_fed, of_frame, of_next, of_turn, of_supply}
+use Rattle.controller_laws.specs.{CoreEvents.{no_tables, of_event, of_fed, of_frame, of_next, of_turn, of_supply}, Events.{Does, Event as Call}}
+use Rattle.controller_laws.specs.Events.{IsController, Runs}
 use Rattle.controller_laws.specs.Events as call
-use Rattle.controller_laws.specs.Events.{Does, Event as Call, IsController, Runs}
 use Rattle.machine_theorem.specs.Ending.{AllKeepEnding, AllUnqueued, HasNoQueued, KeepsEnding, UnqueuedCommandsWait, carries, is_data_of}
 use Rattle.machine_theorem.specs.Waits.{SparesWaiting, is_answered, is_commanded, waits_in}
-use Rattle.machine_theorem.proofs.CallEvents.{AllOf}
-use Rattle.machine_theorem.proofs.FisEvents.{IsNoData, fis_plain}
-use Rattle.machine_theorem.proofs.PlainWaits.{AllLeave, AllQuiet, IsNoWrite, IsQuiet, IsSentThere, Leaves, at_some, call_quiet, event_leaves, if_other, kept_some, named_none, of_issue, sent_if, still_waits}
-use Rattle.machine_theorem.proofs.SetupFrames.{the_issue}
-use Rattle.machine_theorem.proofs.Shutting.{OneWaits, one_waits as one_waiting, then', told_then}
-use Rattle.machine_theorem.proofs.Waiting.{Laws, commanded_free, core_events, first_kept, owner, some_waits}
+use Rattle.machine_theorem.proofs.{CallEvents.AllOf, FisEvents.{IsNoData, fis_plain}, PlainWaits.{AllLeave, AllQuiet, IsNoWrite, IsQuiet}}
+use Rattle.machine_theorem.proofs.PlainWaits.{IsSentThere, Leaves, at_some, call_quiet, event_leaves, if_other, kept_some, named_none, of_issue}
+use Rattle.machine_theorem.proofs.{PlainWaits.{sent_if, still_waits}, SetupFrames.the_issue, Shutting.{OneWaits, one_waits as one_waiting, then'}}
+use Rattle.machine_theorem.proofs.{Shutting.told_then, Waiting.{Laws, commanded_free, core_events, first_kept, owner, some_waits}}
 
 -- ---- histories
 

@@ -1,56 +1,33 @@
 -- No command is read for a slot while one is issued in it, or while it is a bad one; so none is issued there.
-use Rattle.std.proofs.Common.{◌≡◌, ℕ, ◌+◌, ◌-◌, ◌<◌, ◌^◌, ◌&&◌, Bool, true, false, List, refl, sym, ap, subst, ◌∙◌, inl, inr, arith, w32, Option, Some, None, bit_or}
-use Rattle.std.specs.Prelude.{◌==◌, MatchOption, is_some, nat_lt, if◌then◌else◌}
-use Rattle.std.specs.Int.{bit_at}
-use Rattle.std.proofs.lemmas.Bool.{and_parts, cases_Bool, eqb-true, false≢true, ltb-false, ltb-true}
+use Rattle.std.proofs.Common.{◌≡◌, ℕ, ◌+◌, ◌-◌, ◌<◌, ◌^◌, ◌&&◌, Bool, true, false, List, refl, sym, ap, subst, ◌∙◌, inl, inr, arith, w32, Option}
+use Rattle.std.proofs.{Common.{Some, None, bit_or}, lemmas.Bool.{and_parts, cases_Bool, eqb-true, false≢true, ltb-false, ltb-true}}
 use Rattle.std.proofs.lemmas.Nat.Bits.{bit_at-lt, bit_at-zero, bit_at_and, bit_at_not}
-use Rattle.slots.specs.Commands.{is_unanswered, slots_where}
-use Rattle.slots.specs.Slots.{Issue, has_bit, holds, issue_at, mask_of, match_some}
+use Rattle.std.specs.{Prelude.{◌==◌, MatchOption, is_some, nat_lt, if◌then◌else◌}, Int.bit_at}
+use Rattle.slots.specs.{Commands.{is_unanswered, slots_where}, Slots.{Issue, has_bit, holds, issue_at, mask_of, match_some}}
 use Rattle.slots.proofs.Door.{has_bit_mask}
 use Rattle.ahci_registers.specs.Bits as line_bits
-use Rattle.ahci_registers.specs.Offsets.{register_at}
-use Rattle.ahci_registers.specs.declared.link.Effect.{Effect}
+use Rattle.ahci_registers.specs.{Offsets.register_at, declared.{link.Effect.Effect, register.Register.Register}}
 use Rattle.ahci_registers.specs.declared.link.Effect.TheVariants as effect
-use Rattle.ahci_registers.specs.declared.register.Register.{Register}
 use Rattle.ahci_registers.specs.declared.register.Register.TheVariants as ahci
-use Rattle.guest_fetch.specs.Commands.{Fetched}
-use Rattle.guest_fetch.specs.declared.fetch.Supplied.{Supplied}
+use Rattle.guest_fetch.specs.{Commands.Fetched, declared.fetch.Supplied.Supplied}
 use Rattle.guest_fetch.specs.declared.fetch.Supplied.TheVariants as came_as
-use Rattle.hba_fbs.specs.Bits.{without}
-use Rattle.hba_fbs.specs.Choosing.{may_feed}
-use Rattle.hba_fbs.specs.Issuing.{is_busy}
-use Rattle.hba_fbs.specs.Reading.{value_of}
-use Rattle.hba_fbs.specs.declared.error.WriteError.{WriteError}
-use Rattle.hba_fbs.specs.declared.register.Register as port_register
-use Rattle.hba_fbs.specs.declared.turn.Turn.{Turn}
+use Rattle.hba_fbs.specs.{Bits.without, Choosing.may_feed, Issuing.is_busy, Reading.value_of, declared.{error.WriteError.WriteError, turn.Turn.Turn}}
 use Rattle.hba_fbs.specs.declared.turn.Turn.TheVariants.{Feeds}
-use Rattle.ahci_controller.specs.Access.{fits as fits_width, merged}
-use Rattle.ahci_controller.specs.Feeding.{GathersIf, Loses, LosesIf, MissesIf as MissesDataIf, SendsIf, without_feeding}
-use Rattle.ahci_controller.specs.Fetching.{GoesOn, MissesIf, SuppliesIf, answered, fits, is_asked, without_fetch}
-use Rattle.ahci_controller.specs.Issuing.{PlacesSlot, RefusesSlot, not_issued}
-use Rattle.ahci_controller.specs.Next.{Frames, FramesFor, GoesIf, Reads, RestsNow, TurnsIf, is_fed, is_halted, next_device, next_read, next_slot, next_write, turn_to, written}
+use Rattle.hba_fbs.specs.declared.register.Register as port_register
+use Rattle.ahci_controller.specs.{Access.{fits as fits_width, merged}, Feeding.{GathersIf, Loses, LosesIf, MissesIf as MissesDataIf, SendsIf}}
+use Rattle.ahci_controller.specs.{Feeding.without_feeding, Fetching.{GoesOn, MissesIf, SuppliesIf, answered, fits, is_asked, without_fetch}}
+use Rattle.ahci_controller.specs.{Issuing.{PlacesSlot, RefusesSlot, not_issued}, Next.{Frames, FramesFor, GoesIf, Reads, RestsNow, TurnsIf, is_fed}}
+use Rattle.ahci_controller.specs.{Next.{is_halted, next_device, next_read, next_slot, next_write, turn_to, written}, Own.commanded, Reading.is_idle}
+use Rattle.ahci_controller.specs.{Reading.shown, States.ControllerState, Wants.dropped, Wide.{WritesFitting, WritesIf, block_of}, Writing.Commands}
+use Rattle.ahci_controller.specs.Writing.{Leaves, ResetsBy, Restarts, Tells, WritesGlobal, WritesRegister, asked_state, fresh_slots, idle_for}
+use Rattle.ahci_controller.specs.{Writing.{link_effect, link_moved, plain}, declared.{access.Width.Width, feeding.Fed.Fed, issuing.NotTaken.NotTaken}}
+use Rattle.ahci_controller.specs.declared.{issuing.Supply.Supply, latch.Latch.Latch, next.Next.Next, own.OwnRegisters.OwnRegisters, wants.Wants.Wants}
+use Rattle.ahci_controller.specs.declared.{wide.WideWritten.WideWritten, writing.Written.Written}
 use Rattle.ahci_controller.specs.Own as own_words
-use Rattle.ahci_controller.specs.Own.{commanded}
-use Rattle.ahci_controller.specs.Reading.{is_idle, shown}
-use Rattle.ahci_controller.specs.States.{ControllerState}
-use Rattle.ahci_controller.specs.Wants.{dropped}
-use Rattle.ahci_controller.specs.Wide.{WritesFitting, WritesIf, block_of}
-use Rattle.ahci_controller.specs.Writing.{Commands, Leaves, ResetsBy, Restarts, Tells, WritesGlobal, WritesRegister, asked_state, fresh_slots, idle_for, link_effect, link_moved, plain}
-use Rattle.ahci_controller.specs.declared.access.Width.{Width}
-use Rattle.ahci_controller.specs.declared.feeding.Fed.{Fed}
-use Rattle.ahci_controller.specs.declared.issuing.NotTaken.{NotTaken}
-use Rattle.ahci_controller.specs.declared.issuing.Supply.{Supply}
-use Rattle.ahci_controller.specs.declared.latch.Latch.{Latch}
-use Rattle.ahci_controller.specs.declared.next.Next.{Next}
-use Rattle.ahci_controller.specs.declared.own.OwnRegisters.{OwnRegisters}
-use Rattle.ahci_controller.specs.declared.wants.Wants.{Wants}
-use Rattle.ahci_controller.specs.declared.wide.WideWritten.{WideWritten}
-use Rattle.ahci_controller.specs.declared.writing.Written.{Written}
 use Rattle.ahci_controller.proofs.Door.{or_left, or_none, or_right}
 use Rattle.controller_laws.specs.Events as call
 use Rattle.controller_laws.specs.Events.{Does, Event, IsController}
-use Rattle.machine_theorem.specs.Commands.{is_issue, issues_in}
-use Rattle.machine_theorem.specs.Standing.{IsAlone}
+use Rattle.machine_theorem.specs.{Commands.{is_issue, issues_in}, Standing.IsAlone}
 
 -- ---- bits
 

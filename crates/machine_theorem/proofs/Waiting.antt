@@ -1,29 +1,20 @@
 -- The command that was sent last to a device waits in its slot until the device answers.
-use Rattle.std.proofs.Common.{◌≡◌, ℕ, ◌+◌, ◌<◌, ◌≤◌, Bool, true, false, not, List, [], ◌∷◌, append-nil, refl, sym, ap, subst, ◌∙◌, arith, Option, Some, None}
+use Rattle.std.proofs.Common.{◌≡◌, ℕ, ◌+◌, ◌<◌, ◌≤◌, Bool, true, false, not, List, [], ◌∷◌, append-nil, refl, sym, ap, subst, ◌∙◌, arith, Option}
+use Rattle.std.proofs.{Common.{Some, None}, lemmas.Bool.{and_parts, eqb-true, false≢true}}
 use Rattle.std.specs.Prelude.{◌==◌, if◌then◌else◌, is_some, length, MatchOption}
-use Rattle.std.proofs.lemmas.Bool.{and_parts, eqb-true, false≢true}
-use Rattle.slots.specs.Commands.{sent_issue}
-use Rattle.slots.specs.Slots.{Issue, holds, is_control, is_waiting, issue_at, match_some, own_issue, owned_by, slots_of, waiting}
+use Rattle.slots.specs.{Commands.sent_issue, Slots.{Issue, holds, is_control, is_waiting, issue_at, match_some, own_issue, owned_by, slots_of}}
+use Rattle.slots.specs.{Slots.waiting, Table.IsIssue}
 use Rattle.slots.proofs.Door.{lowest_is, own_at}
-use Rattle.slots.specs.Table.{IsIssue}
 use Rattle.hba_fbs.specs.Views.{view_of}
-use Rattle.hba_laws.specs.Agreement.{IsTold}
-use Rattle.hba_laws.specs.CoreHistories.{CoreViewsAreTold, history_through}
-use Rattle.hba_laws.specs.Cores.{CoreEvent}
-use Rattle.hba_laws.specs.History.{History, is_at, waiting_in}
+use Rattle.hba_laws.specs.{Agreement.IsTold, CoreHistories.{CoreViewsAreTold, history_through}, Cores.CoreEvent, History.{History, is_at, waiting_in}}
 use Rattle.hba_laws.proofs.Door.{held, is_own, none_waits, own_here, own_in}
 use Rattle.ahci_controller.specs.States.{ControllerState}
 use Rattle.ahci_controller.specs.declared.next.Next.TheVariants as next
-use Rattle.controller_laws.specs.CoreEvents.{AreCoreEvents, EventsAreCoreEvents, of_event}
+use Rattle.controller_laws.specs.{CoreEvents.{AreCoreEvents, EventsAreCoreEvents, of_event}, Events.{Does, Event, IsController, Runs}}
 use Rattle.controller_laws.specs.Events as call
-use Rattle.controller_laws.specs.Events.{Does, Event, IsController, Runs}
-use Rattle.machine_theorem.specs.Commands.{AreNotIssued, issues_in}
-use Rattle.machine_theorem.specs.Tags.{once_if}
-use Rattle.machine_theorem.specs.Waits.{AllKeepWaiting, CommandsAwaitAnswers, KeepsWaiting, LastCommandsWait, commanded_in, is_answered, is_command_issue, is_commanded, taken_in, waits_in}
-use Rattle.machine_theorem.proofs.Calm.{call_back}
-use Rattle.machine_theorem.proofs.OrderedOnce.{IsOrderedOnce, ordered_once}
-use Rattle.machine_theorem.proofs.Ordered.{last_kept, low_slot as low}
-use Rattle.machine_theorem.proofs.Unread.{is_alone}
+use Rattle.machine_theorem.specs.{Commands.{AreNotIssued, issues_in}, Tags.once_if, Waits.{AllKeepWaiting, CommandsAwaitAnswers, KeepsWaiting}}
+use Rattle.machine_theorem.specs.Waits.{LastCommandsWait, commanded_in, is_answered, is_command_issue, is_commanded, taken_in, waits_in}
+use Rattle.machine_theorem.proofs.{Calm.call_back, OrderedOnce.{IsOrderedOnce, ordered_once}, Ordered.{last_kept, low_slot as low}, Unread.is_alone}
 
 pub record Laws : Type 0 where
   pub events : EventsAreCoreEvents

@@ -1,36 +1,24 @@
 -- The Data FIS of which payload is written was taken at a moment of the run.
-use Rattle.std.proofs.Common.{◌≡◌, ◌⊎◌, ℕ, Bool, true, false, List, [], ◌∷◌, ◌++◌, refl, sym, ap, subst, inl, inr, Option, Some, None, Result, Ok, Err}
-use Rattle.std.specs.Prelude.{MatchOption}
-use Rattle.std.specs.Bool.{MatchBool}
-use Rattle.std.specs.declared.alloc.AllocError.{AllocError}
+use Rattle.std.proofs.Common.{◌≡◌, ◌⊎◌, ℕ, Bool, true, false, List, [], ◌∷◌, ◌++◌, refl, sym, ap, subst, inl, inr, Option, Some, None, Result, Ok}
+use Rattle.std.proofs.Common.{Err}
+use Rattle.std.specs.{Prelude.MatchOption, Bool.MatchBool, declared.alloc.AllocError.AllocError}
 use Rattle.fis_view.specs.Frames.{Stamped}
 use Rattle.slots.specs.Slots.{match_some}
-use Rattle.guest_fetch.specs.Commands.{Fetched}
-use Rattle.guest_fetch.specs.declared.moves.Move.{Move}
+use Rattle.guest_fetch.specs.{Commands.Fetched, declared.moves.Move.Move}
 use Rattle.hba_fbs.specs.declared.report.Wrote.{Wrote}
-use Rattle.ahci_controller.specs.Access.{fits}
-use Rattle.ahci_controller.specs.States.{ControllerState, kept}
-use Rattle.ahci_controller.specs.Wide.{WritesFitting}
-use Rattle.ahci_controller.specs.declared.access.Width.{Width}
-use Rattle.ahci_controller.specs.declared.taking.Hindrance.{Hindrance}
-use Rattle.ahci_controller.specs.declared.wide.WideWritten.{WideWritten}
-use Rattle.controller_laws.specs.Carrying.{Carrying, carrying_after, carrying_after_call, carrying_by, carrying_of, cut_behind, cut_if, cut_wide, moves_in, moves_said, said_more}
+use Rattle.ahci_controller.specs.{Access.fits, States.{ControllerState, kept}, Wide.WritesFitting, declared.access.Width.Width}
+use Rattle.ahci_controller.specs.declared.{taking.Hindrance.Hindrance, wide.WideWritten.WideWritten}
+use Rattle.controller_laws.specs.Carrying.{Carrying, carrying_after, carrying_after_call, carrying_by, carrying_of, cut_behind, cut_if, cut_wide}
+use Rattle.controller_laws.specs.{Carrying.{moves_in, moves_said, said_more}, Events.{Does as Calls, Event, Runs}}
 use Rattle.controller_laws.specs.Events as call
-use Rattle.controller_laws.specs.Events.{Does as Calls, Event, Runs}
 use Rattle.ahci_machine.specs.Acts as acts
-use Rattle.ahci_machine.specs.Answers.{IsStale, MissesFor, MissesMachine, SuppliesMachine, is_wanted}
-use Rattle.ahci_machine.specs.Gathers.{GatheringState}
-use Rattle.ahci_machine.specs.States.{HasRules, MachineState, gathering_at}
-use Rattle.ahci_machine.specs.declared.act.Act.{Act}
-use Rattle.ahci_machine.specs.declared.act.Act.TheVariants as act
-use Rattle.ahci_machine.specs.declared.answers.Told.{Told}
-use Rattle.ahci_machine.specs.declared.request.Wanted.{Wanted}
+use Rattle.ahci_machine.specs.{Answers.{IsStale, MissesFor, MissesMachine, SuppliesMachine, is_wanted}, Gathers.GatheringState, States.HasRules}
+use Rattle.ahci_machine.specs.{States.{MachineState, gathering_at}, declared.{act.Act.Act, answers.Told.Told, request.Wanted.Wanted}}
 use Rattle.ahci_machine.specs.declared.request.Wanted.TheVariants.{Command, Data}
-use Rattle.machine_laws.specs.ControllerLaws.{RunsRuled, calls_in}
-use Rattle.machine_laws.specs.Controllers.{data_calls, deed_calls, lost_calls, miss_calls, move_calls, rest_calls, supply_calls}
-use Rattle.machine_laws.specs.Deeds.{Deed, Does, Missed, Moved, Supplied, Wrote as WroteDeed}
-use Rattle.machine_theorem.specs.ReadsWritten.{NoneTaken}
-use Rattle.machine_theorem.specs.OwnSlots.{CarriedWereTaken, WasTaken}
+use Rattle.ahci_machine.specs.declared.act.Act.TheVariants as act
+use Rattle.machine_laws.specs.{ControllerLaws.{RunsRuled, calls_in}, Controllers.{data_calls, deed_calls, lost_calls, miss_calls, move_calls}}
+use Rattle.machine_laws.specs.{Controllers.{rest_calls, supply_calls}, Deeds.{Deed, Does, Missed, Moved, Supplied, Wrote as WroteDeed}}
+use Rattle.machine_theorem.specs.{ReadsWritten.NoneTaken, OwnSlots.{CarriedWereTaken, WasTaken}}
 
 -- ---- over calls
 

@@ -1,58 +1,35 @@
 -- The Data that a disk is to hear next went behind all that it heard: each of those FISes went before, in order.
 use Rattle.std.proofs.Common.{◌≡◌, ◌⊎◌, ℕ, ◌<◌, Bool, true, false, List, [], ◌∷◌, ◌++◌, map, refl, sym, ap, subst, ◌∙◌, Ok, Some, inl, inr}
-use Rattle.std.specs.Prelude.{◌==◌, if◌then◌else◌}
-use Rattle.std.specs.List.{flat_map}
-use Rattle.std.proofs.lemmas.Bool.{eqb-true, false≢true}
-use Rattle.std.proofs.lemmas.Grind.{flat_map-append}
-use Rattle.fis_view.specs.Frames.{Stamped, marked}
-use Rattle.fis_view.specs.Seen.{seen}
+use Rattle.std.proofs.lemmas.{Bool.{eqb-true, false≢true}, Grind.{flat_map-append}}
+use Rattle.std.specs.{Prelude.{◌==◌, if◌then◌else◌}, List.flat_map}
+use Rattle.fis_view.specs.{Frames.{Stamped, marked}, Seen.seen}
 use Rattle.fis_view.specs.declared.view.Fis.TheVariants as view
 use Rattle.multiplier.specs.Passing.{of_conn}
-use Rattle.ahci_controller.specs.declared.feeding.Fed.{Fed}
+use Rattle.ahci_controller.specs.declared.{feeding.Fed.Fed, latch.Edge.Edge, next.Next.Next}
 use Rattle.ahci_controller.specs.declared.feeding.Fed.TheVariants as fed_answer
-use Rattle.ahci_controller.specs.declared.latch.Edge.{Edge}
-use Rattle.ahci_controller.specs.declared.next.Next.{Next}
 use Rattle.ahci_controller.specs.declared.next.Next.TheVariants as next
 use Rattle.controller_laws.specs.Events as call
 use Rattle.controller_laws.specs.Events.{Event, Runs}
 use Rattle.disk_pages.specs.declared.profile.Profile.{Profile}
 use Rattle.block_queue.specs.Line.{command_at}
-use Rattle.sata_disk.specs.Hearing.{receives}
-use Rattle.sata_disk.specs.State.{DiskState, commands, new_disk}
+use Rattle.sata_disk.specs.{Hearing.receives, State.{DiskState, commands, new_disk}}
 use Rattle.sata_disk_books.specs.InTurn.{AreOfQueue, AwaitsNone, calls_steps}
-use Rattle.sata_disk_laws.specs.Calls.{AreCalls, Call}
-use Rattle.sata_disk_laws.specs.Laws.{reached}
-use Rattle.sata_disk_laws.specs.Once.{new_host}
+use Rattle.sata_disk_laws.specs.{Calls.{AreCalls, Call}, Laws.reached, Once.new_host}
 use Rattle.sata_disk_laws.proofs.Door.{calls_both}
-use Rattle.ahci_machine.specs.Gathers.{host_stamp}
-use Rattle.ahci_machine.specs.States.{IsOpeningMachine, MachineState, bay_at}
+use Rattle.ahci_machine.specs.{Gathers.host_stamp, States.{IsOpeningMachine, MachineState, bay_at}}
 use Rattle.ahci_machine.specs.declared.act.Act.TheVariants as act
-use Rattle.machine_laws.specs.ControllerLaws.{ControllerRuns, RunsRuled, calls_in}
-use Rattle.machine_laws.specs.Controllers.{deed_calls, lost_calls, miss_calls, rest_calls, supply_calls}
-use Rattle.machine_laws.specs.Deeds.{Deed, Missed, Moved, Supplied}
-use Rattle.machine_laws.specs.Falling.{AllLast, HasLink, heard_by, leaving, sent_by, sent_in, way_to}
+use Rattle.machine_laws.specs.{ControllerLaws.{ControllerRuns, RunsRuled, calls_in}, Controllers.{deed_calls, lost_calls, miss_calls, rest_calls}}
+use Rattle.machine_laws.specs.{Controllers.supply_calls, Deeds.{Deed, Missed, Moved, Supplied}, Falling.{AllLast, HasLink, heard_by, leaving}}
+use Rattle.machine_laws.specs.{Falling.{sent_by, sent_in, way_to}, Rising.{no_frames, frames_in}}
 use Rattle.machine_laws.specs.Rising as rising
-use Rattle.machine_laws.specs.Rising.{no_frames, frames_in}
-use Rattle.machine_theorem.specs.Asking.{events_steps}
-use Rattle.machine_theorem.specs.Brought.{AllTakenWell}
-use Rattle.machine_theorem.specs.Crossing.{GoToPlace, Within, downs, ups}
-use Rattle.machine_theorem.specs.Identity.{calls_of, heard_as, is_for, picks}
-use Rattle.machine_theorem.specs.OwnSlots.{AllKeepLine, BeginsClear, NoneLost}
-use Rattle.machine_theorem.specs.OwnWrites.{AreOwnData}
-use Rattle.machine_theorem.proofs.Cut.{Cut, cut_here, cut_more}
-use Rattle.machine_theorem.proofs.DataDeeds.{all_plain, head_or, no_cons}
-use Rattle.machine_theorem.proofs.DataDown.{ArePlain, as_heard, data_sent, data_within, heard_data, heard_down, is_data, sent_down}
-use Rattle.machine_theorem.proofs.EndsFew.{sent_of}
-use Rattle.machine_theorem.proofs.Fallen.{given_within, line_stays, map_both}
-use Rattle.machine_theorem.proofs.Falls.{Told, controller_runs, told_now}
-use Rattle.machine_theorem.proofs.Few.{AreFew, are_few}
-use Rattle.machine_theorem.proofs.Ordered.{first_ruled, loses, misses, rests, supplies}
-use Rattle.machine_theorem.proofs.Own.{last_ruled}
-use Rattle.machine_theorem.proofs.OwnData.{Extra, Laws, lost_first, payload_is, size_within, up_first}
-use Rattle.machine_theorem.proofs.SentFises.{GoneOn, stretch_made}
-use Rattle.machine_theorem.proofs.SignsSent.{all_well, signs_in, stretch_up, up_in, well_both}
-use Rattle.machine_theorem.proofs.TakenWell.{WellRun, well_run}
-use Rattle.machine_theorem.proofs.Within.{picks_both, past, within_picks, within_then}
+use Rattle.machine_theorem.specs.{Asking.events_steps, Brought.AllTakenWell, Crossing.{GoToPlace, Within, downs, ups}, Identity.{calls_of, heard_as}}
+use Rattle.machine_theorem.specs.{Identity.{is_for, picks}, OwnSlots.{AllKeepLine, BeginsClear, NoneLost}, OwnWrites.AreOwnData}
+use Rattle.machine_theorem.proofs.{Cut.{Cut, cut_here, cut_more}, DataDeeds.{all_plain, head_or, no_cons}, DataDown.{ArePlain, as_heard, data_sent}}
+use Rattle.machine_theorem.proofs.{DataDown.{data_within, heard_data, heard_down, is_data, sent_down}, EndsFew.sent_of, Fallen.given_within}
+use Rattle.machine_theorem.proofs.{Fallen.{line_stays, map_both}, Falls.{Told, controller_runs, told_now}, Few.{AreFew, are_few}, Ordered.first_ruled}
+use Rattle.machine_theorem.proofs.{Ordered.{loses, misses, rests, supplies}, Own.last_ruled, OwnData.{Extra, Laws, lost_first, payload_is}}
+use Rattle.machine_theorem.proofs.{OwnData.{size_within, up_first}, SentFises.{GoneOn, stretch_made}, SignsSent.{all_well, signs_in, stretch_up}}
+use Rattle.machine_theorem.proofs.{SignsSent.{up_in, well_both}, TakenWell.{WellRun, well_run}, Within.{picks_both, past, within_picks, within_then}}
 
 -- ---- the FISes for the port, as they are heard
 

@@ -1,29 +1,23 @@
 -- A store has the bytes of all its sectors.
-use Rattle.std.proofs.Common.{◌≡◌, ℕ, ◌+◌, ◌-◌, ◌≤◌, Bool, true, false, List, [], ◌∷◌, ◌++◌, length, get_or, set, Option, Some, None, refl, sym, subst, arith, length-append}
-use Rattle.std.specs.Prelude.{◌==◌, ◌&&◌, if◌then◌else◌, nat_lt, replicate}
-use Rattle.std.specs.Option.{option_map}
-use Rattle.std.proofs.lemmas.Bool.{eqb-true, ltb-false}
-use Rattle.block_command.specs.declared.command.Command.{Command}
-use Rattle.block_command.specs.declared.command.Protocol.{Protocol}
+use Rattle.std.proofs.Common.{◌≡◌, ℕ, ◌+◌, ◌-◌, ◌≤◌, Bool, true, false, List, [], ◌∷◌, ◌++◌, length, get_or, set, Option, Some, None, refl, sym}
+use Rattle.std.proofs.{Common.{subst, arith, length-append}, lemmas.Bool.{eqb-true, ltb-false}}
+use Rattle.std.specs.{Prelude.{◌==◌, ◌&&◌, if◌then◌else◌, nat_lt, replicate}, Option.option_map}
+use Rattle.block_command.specs.{declared.command.{Command.Command, Protocol.Protocol, Stage.Stage}, Laws.{Comes, Fails, Flushes, Goes, Input, Loads}}
+use Rattle.block_command.specs.{Laws.{Stores, after}, Moments.{Moment, after_came, after_failed, after_flushed, after_loaded, after_stored, chunk}}
+use Rattle.block_command.specs.Moments.{data_stage, gone, is_queued, is_verify, opening, part_count, part_len, read_end, read_on, write_on}
 use Rattle.block_command.specs.declared.command.Protocol.TheVariants as protocol
-use Rattle.block_command.specs.declared.command.Stage.{Stage}
 use Rattle.block_command.specs.declared.command.Stage.TheVariants as stage
-use Rattle.block_command.specs.Laws.{Comes, Fails, Flushes, Goes, Input, Loads, Stores, after}
-use Rattle.block_command.specs.Moments.{Moment, after_came, after_failed, after_flushed, after_loaded, after_stored, chunk, data_stage, gone, is_queued, is_verify, opening, part_count, part_len, read_end, read_on, write_on}
 use Rattle.block_command.proofs.Door.{at}
 use Rattle.block_disk.specs.Table as table
-use Rattle.block_disk.specs.Table.{is_under_way}
-use Rattle.block_disk.specs.Requests.{Queue, is_out, with_table}
+use Rattle.block_disk.specs.{Table.is_under_way, Requests.{Queue, is_out, with_table}}
 use Rattle.block_disk.proofs.Door.{each_is}
 use Rattle.block_queue.specs.Deeds as deed
-use Rattle.block_queue.specs.Deeds.{Deed, after_deed}
-use Rattle.block_queue.specs.Line.{Line, command_at, moved_back}
+use Rattle.block_queue.specs.{Deeds.{Deed, after_deed}, Line.{Line, command_at, moved_back}}
 use Rattle.block_scheduler.specs.Laws.{all_deeds}
 use Rattle.block_engine.specs.Laws.{all_moves}
 use Rattle.disk_pages.specs.declared.profile.Profile.{Profile}
 use Rattle.sata_disk.specs.State.{commands, new_disk}
-use Rattle.sata_disk_laws.specs.Calls.{Call, all_steps}
-use Rattle.sata_disk_laws.specs.Laws.{reached}
+use Rattle.sata_disk_laws.specs.{Calls.{Call, all_steps}, Laws.reached}
 use Rattle.sata_disk_books.proofs.Door.{after_deeds, line_then}
 use Rattle.machine_theorem.proofs.Came.{set_each}
 

@@ -1,8 +1,7 @@
 -- A list with some of another's elements, in order.
 use Rattle.std.proofs.Common.{◌≡◌, ◌≤◌, Bool, true, false, List, [], ◌∷◌, ◌++◌, length, refl, ap, ◌∙◌, inl, inr, arith}
 use Rattle.std.specs.Prelude.{map, if◌then◌else◌}
-use Rattle.machine_theorem.specs.Crossing.{Within}
-use Rattle.machine_theorem.specs.Identity.{picks}
+use Rattle.machine_theorem.specs.{Crossing.Within, Identity.picks}
 
 pub past : {A : Type 0} (xs : List A) (y : A) (ys : List A) → Within xs ys → Within xs (y ∷ ys)
 past [] y ys h = tt

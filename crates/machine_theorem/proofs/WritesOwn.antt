@@ -3,27 +3,17 @@ use Rattle.std.proofs.Common.{◌≡◌, true, not, List, ◌++◌, refl, sym, a
 use Rattle.std.specs.Prelude.{drop}
 use Rattle.multiplier.specs.Passing.{of_conn}
 use Rattle.slots.specs.declared.work.Kind.TheVariants.{QueuedWrite}
-use Rattle.block_command.specs.Moments.{Moment, is_ended}
-use Rattle.block_command.specs.declared.command.Stage.{Stage}
+use Rattle.block_command.specs.{Moments.{Moment, is_ended}, declared.command.Stage.Stage}
 use Rattle.block_command.specs.declared.command.Stage.TheVariants as stage
 use Rattle.block_disk.specs.Table.{is_under_way}
 use Rattle.block_queue.specs.Line.{command_at}
-use Rattle.sata_disk.specs.Hearing.{is_receiving, receives}
-use Rattle.sata_disk.specs.State.{DiskState, commands, new_disk}
-use Rattle.sata_disk_laws.specs.Calls.{Call, after_calls}
-use Rattle.sata_disk_laws.specs.Laws.{reached}
-use Rattle.ahci_machine.specs.States.{bay_at}
-use Rattle.ahci_machine.specs.declared.bay.Unit.TheVariants.{Disk}
+use Rattle.sata_disk.specs.{Hearing.{is_receiving, receives}, State.{DiskState, commands, new_disk}}
+use Rattle.sata_disk_laws.specs.{Calls.{Call, after_calls}, Laws.reached}
+use Rattle.ahci_machine.specs.{States.bay_at, declared.bay.Unit.TheVariants.Disk}
 use Rattle.machine_laws.specs.Disks.{DisksGoOn}
-use Rattle.machine_theorem.specs.Fed.{FedDataAreOfTheirSlots, IsFedFor}
-use Rattle.machine_theorem.specs.Given.{CommandsAreGiven, IsWhole}
-use Rattle.machine_theorem.specs.Identity.{calls_of}
-use Rattle.machine_theorem.specs.OwnWrites.{DataComeFromTheirOwnSlot, WentForPlace}
-use Rattle.machine_theorem.specs.TakenWrites.{WritesAreAsSupplied}
-use Rattle.machine_theorem.proofs.EndsFew.{disk_same, sent_of}
-use Rattle.machine_theorem.proofs.Sent.{marked_rest}
-use Rattle.machine_theorem.proofs.SentFises.{GoneOn, stretch_made}
-use Rattle.machine_theorem.proofs.Stretch.{whole_run}
+use Rattle.machine_theorem.specs.{Fed.{FedDataAreOfTheirSlots, IsFedFor}, Given.{CommandsAreGiven, IsWhole}, Identity.calls_of}
+use Rattle.machine_theorem.specs.{OwnWrites.{DataComeFromTheirOwnSlot, WentForPlace}, TakenWrites.WritesAreAsSupplied}
+use Rattle.machine_theorem.proofs.{EndsFew.{disk_same, sent_of}, Sent.marked_rest, SentFises.{GoneOn, stretch_made}, Stretch.whole_run}
 use Rattle.sata_disk_laws.proofs.Door.{calls_after}
 
 pub record Laws : Type 0 where

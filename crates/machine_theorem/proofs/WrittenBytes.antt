@@ -1,53 +1,28 @@
 -- Each byte of a read that was brought was written before the next FIS was taken.
 use Rattle.std.proofs.Common.{◌≡◌, ℕ, zero, suc, ◌+◌, ◌-◌, ◌<◌, ◌≤◌, Bool, true, false, List, [], ◌∷◌, ◌++◌, append_assoc, drop, get_or, length, refl}
-use Rattle.std.proofs.Common.{sym, ap, subst, ◌∙◌}
-use Rattle.std.proofs.Common.{arith, Option, Some, None}
+use Rattle.std.proofs.{Common.{sym, ap, subst, ◌∙◌, arith, Option, Some, None}, lemmas.Option.{slice_get-get_or}, Math.Seq.{take-length}}
 use Rattle.std.specs.Prelude.{IfSome, is_some, slice_get, take}
-use Rattle.std.proofs.lemmas.Option.{slice_get-get_or}
-use Rattle.std.proofs.Math.Seq.{take-length}
-use Rattle.guest_fetch.specs.Commands.{Fetched}
-use Rattle.guest_fetch.specs.Places.{Places, Single, named, place, reach_of, room_at, single, singles}
-use Rattle.guest_fetch.specs.declared.entry.Entry.{Entry}
+use Rattle.guest_fetch.specs.{Commands.Fetched, Places.{Places, Single, named, place, reach_of, room_at, single, singles}, declared.entry.Entry.Entry}
 use Rattle.guest_fetch.specs.declared.moves.Move.{Move}
-use Rattle.slots.specs.Slots.{Issue, issue_at, match_some}
-use Rattle.slots.specs.declared.work.Kind.{Kind}
-use Rattle.slots.specs.declared.work.Kind.TheVariants.{QueuedRead}
+use Rattle.slots.specs.{Slots.{Issue, issue_at, match_some}, declared.work.Kind.{Kind, TheVariants.QueuedRead}}
 use Rattle.hba_fbs.specs.declared.report.Wrote.{Wrote}
-use Rattle.ahci_controller.specs.States.{ControllerState, kept}
-use Rattle.ahci_controller.specs.Taking.{hindrance}
+use Rattle.ahci_controller.specs.{States.{ControllerState, kept}, Taking.hindrance}
 use Rattle.controller_laws.specs.Carrying.{AllAreSaid, AreNumbered, AreSaid, Carrying, DataIsOwn, DataIsWhole, IsOwnData, IsWholeData, carrying_after}
-use Rattle.controller_laws.specs.Carrying.{carrying_after_call}
-use Rattle.controller_laws.specs.Carrying.{carrying_by, carrying_of, first_of, placed_of, said_of}
-use Rattle.controller_laws.specs.Sources.{AreSources, IsReadFrom, Source, Sources, command_of, no_sources, sources_after, unmoved}
-use Rattle.controller_laws.specs.CoreEvents.{AreCoreEvents, of_event}
+use Rattle.controller_laws.specs.{Carrying.{carrying_after_call, carrying_by, carrying_of, first_of, placed_of, said_of}, Sources.AreSources}
+use Rattle.controller_laws.specs.{Sources.{IsReadFrom, Source, Sources, command_of, no_sources, sources_after, unmoved}, CoreEvents.AreCoreEvents}
+use Rattle.controller_laws.specs.{CoreEvents.of_event, Events.{Does as Calls, Event, IsController, Runs}}
 use Rattle.controller_laws.specs.Events as call
-use Rattle.controller_laws.specs.Events.{Does as Calls, Event, IsController, Runs}
 use Rattle.ahci_machine.specs.States.{HasRules, IsOpeningMachine, MachineState}
 use Rattle.ahci_machine.specs.declared.act.Act.TheVariants as act
-use Rattle.machine_laws.specs.ControllerLaws.{ControllerRuns, OpensSo, RunsRuled, calls_in}
-use Rattle.machine_laws.specs.Controllers.{deed_calls}
-use Rattle.machine_laws.specs.Deeds.{Deed, Moved}
-use Rattle.machine_theorem.specs.Commands.{AreNotIssued}
-use Rattle.machine_theorem.specs.ReadsWritten.{IsWritten, NoneTaken, ReadsAreWritten, moves_of, told_moves}
+use Rattle.machine_laws.specs.{ControllerLaws.{ControllerRuns, OpensSo, RunsRuled, calls_in}, Controllers.deed_calls, Deeds.{Deed, Moved}}
+use Rattle.machine_theorem.specs.{Commands.AreNotIssued, ReadsWritten.{IsWritten, NoneTaken, ReadsAreWritten, moves_of, told_moves}}
 use Rattle.machine_theorem.specs.SingleReads.{IsWrittenThen}
-use Rattle.machine_theorem.proofs.Brought.{read_from}
+use Rattle.machine_theorem.proofs.{Brought.read_from, BroughtAt.{Brought, brought_ever, byte_is}, BroughtRead.none_later, CoreStems.call_stems}
+use Rattle.machine_theorem.proofs.{Falls.{core_events, kept_of}, FilledFrames.{brought_is, wrote_reaches}, HasSource.{HasSource, all_have}}
+use Rattle.machine_theorem.proofs.{Idle.{IsIdle, call_idle}, Ordered.first_ruled, Own.last_ruled, SentOnce.none_told, SetupCalls.first_kept}
+use Rattle.machine_theorem.proofs.{Still.all_kept, Stood.HasIssued, Uncut.{Carries, call_carried, same_carried}, WasTaken.deed_none}
 use Rattle.machine_theorem.proofs.BroughtAt as moments
-use Rattle.machine_theorem.proofs.BroughtAt.{Brought, brought_ever, byte_is}
-use Rattle.machine_theorem.proofs.BroughtRead.{none_later}
-use Rattle.machine_theorem.proofs.CoreStems.{call_stems}
 use Rattle.machine_theorem.proofs.Falls as falls
-use Rattle.machine_theorem.proofs.Falls.{core_events, kept_of}
-use Rattle.machine_theorem.proofs.FilledFrames.{brought_is, wrote_reaches}
-use Rattle.machine_theorem.proofs.HasSource.{HasSource, all_have}
-use Rattle.machine_theorem.proofs.Idle.{IsIdle, call_idle}
-use Rattle.machine_theorem.proofs.Ordered.{first_ruled}
-use Rattle.machine_theorem.proofs.Own.{last_ruled}
-use Rattle.machine_theorem.proofs.SentOnce.{none_told}
-use Rattle.machine_theorem.proofs.SetupCalls.{first_kept}
-use Rattle.machine_theorem.proofs.Still.{all_kept}
-use Rattle.machine_theorem.proofs.Stood.{HasIssued}
-use Rattle.machine_theorem.proofs.Uncut.{Carries, call_carried, same_carried}
-use Rattle.machine_theorem.proofs.WasTaken.{deed_none}
 
 -- ---- calls
 

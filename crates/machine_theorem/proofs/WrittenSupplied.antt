@@ -8,16 +8,10 @@ use Rattle.sata_disk_books.specs.Books.{page_in}
 use Rattle.sata_disk_laws.specs.Calls.{Call}
 use Rattle.slots.specs.Slots.{match_some}
 use Rattle.ahci_machine.specs.States.{MachineState}
-use Rattle.machine_laws.specs.ControllerLaws.{RunsRuled}
-use Rattle.machine_laws.specs.Deeds.{Deed, Put}
-use Rattle.machine_laws.specs.Disks.{calls_at}
-use Rattle.machine_laws.specs.Heard.{Life, life_by, life_in, no_life, put_in}
-use Rattle.machine_theorem.specs.Completions.{IsDone}
-use Rattle.machine_theorem.specs.Identity.{AllKeep, calls_of, is_left}
-use Rattle.machine_theorem.specs.ReadBack.{IsSinceNew, IsSuppliedPage}
+use Rattle.machine_laws.specs.{ControllerLaws.RunsRuled, Deeds.{Deed, Put}, Disks.calls_at, Heard.{Life, life_by, life_in, no_life, put_in}}
+use Rattle.machine_theorem.specs.{Completions.IsDone, Identity.{AllKeep, calls_of, is_left}, ReadBack.{IsSinceNew, IsSuppliedPage}}
 use Rattle.machine_theorem.specs.Writes.{WritesAreSupplied}
-use Rattle.machine_theorem.proofs.ReadsOwn.{one_page}
-use Rattle.machine_theorem.proofs.Stretch.{Stretch}
+use Rattle.machine_theorem.proofs.{ReadsOwn.one_page, Stretch.Stretch}
 
 -- ---- a disk that stays
 

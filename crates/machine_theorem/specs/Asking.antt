@@ -4,8 +4,7 @@ use Rattle.std.specs.Prelude.{ℕ, ◌≡◌, ◌<◌, ◌-◌, ◌==◌, List, 
 use Rattle.fis_view.specs.Seen.{seen}
 use Rattle.slots.specs.Slots.{context_of}
 use Rattle.hba_fbs.specs.Taking.{port_of}
-use Rattle.ahci_controller.specs.States.{ControllerState}
-use Rattle.ahci_controller.specs.declared.feeding.Fed.TheVariants.{Goes}
+use Rattle.ahci_controller.specs.{States.ControllerState, declared.feeding.Fed.TheVariants.Goes}
 use Rattle.controller_laws.specs.Events.{Event, Gathered, Runs, Took}
 use Rattle.sata_disk_books.specs.Talks.{AreAsked, Down, Step, Up, quiet_talk, sign_of}
 use Rattle.machine_theorem.specs.Following.{AllHeardWell}

@@ -8,20 +8,13 @@ use Rattle.block_engine.specs.declared.request.What.TheVariants as what
 use Rattle.disk_pages.specs.declared.profile.Profile.{Profile}
 use Rattle.sata_disk.specs.State.{DiskState, new_disk}
 use Rattle.sata_disk.specs.declared.out.Out.TheVariants as out
-use Rattle.sata_disk_laws.specs.Calls.{AreCalls, Asks, Call, Sends, after_call}
-use Rattle.sata_disk_laws.specs.Laws.{reached}
-use Rattle.sata_disk_media.specs.Laws.{AreSparing, touches}
-use Rattle.sata_disk_media.specs.Media.{IsHonest}
+use Rattle.sata_disk_laws.specs.{Calls.{AreCalls, Asks, Call, Sends, after_call}, Laws.reached}
+use Rattle.sata_disk_media.specs.{Laws.{AreSparing, touches}, Media.IsHonest}
 use Rattle.ahci_machine.specs.States.{HasRules, IsOpeningMachine, MachineState}
 use Rattle.ahci_machine.specs.declared.act.Act.TheVariants as act
-use Rattle.machine_laws.specs.ControllerLaws.{RunsRuled}
-use Rattle.machine_laws.specs.Deeds.{Deed, Does, Moved}
-use Rattle.machine_laws.specs.Falling.{AllLast, HasLink}
-use Rattle.machine_theorem.specs.FirstDeeds.{first_deeds, first_run, machine_at}
-use Rattle.machine_theorem.specs.Identity.{AllKeep, IsAtRest, calls_of, own_of}
-use Rattle.machine_theorem.specs.ReadBack.{Falls, FallsAt}
-use Rattle.machine_theorem.specs.ReadsFollow.{IsFollowed}
-use Rattle.machine_theorem.specs.Unheard.{StandsNoWrite}
+use Rattle.machine_laws.specs.{ControllerLaws.RunsRuled, Deeds.{Deed, Does, Moved}, Falling.{AllLast, HasLink}}
+use Rattle.machine_theorem.specs.{FirstDeeds.{first_deeds, first_run, machine_at}, Identity.{AllKeep, IsAtRest, calls_of, own_of}, ReadBack.Falls}
+use Rattle.machine_theorem.specs.{ReadBack.FallsAt, ReadsFollow.IsFollowed, Unheard.StandsNoWrite}
 
 -- ---- what is not queued
 

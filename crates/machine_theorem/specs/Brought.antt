@@ -2,34 +2,21 @@
 -- the guest asked for (AHCI 1.3.1, 3.3.13, PxSACT, and 5.3.13; Serial ATA 3.x, 10.5, Data, and 13.6, native command queuing).
 use Rattle.std.specs.Prelude.{ℕ, ◌≡◌, ◌<◌, ◌-◌, ◌==◌, Bool, true, false, List, [], ◌∷◌, ◌++◌, drop, slice_get, Some}
 use Rattle.fis_view.specs.Frames.{Stamped}
-use Rattle.slots.specs.Slots.{Issue, has_bit as is_named, holds, issue_at}
-use Rattle.slots.specs.declared.work.Kind.TheVariants.{QueuedRead}
+use Rattle.slots.specs.{Slots.{Issue, has_bit as is_named, holds, issue_at}, declared.work.Kind.TheVariants.QueuedRead}
 use Rattle.ahci_registers.specs.declared.register.Register.TheVariants.{PxSact}
-use Rattle.hba_fbs.specs.Taking.{port_of}
-use Rattle.hba_fbs.specs.declared.report.Wrote.{Wrote}
-use Rattle.ahci_controller.specs.Reading.{shown}
-use Rattle.ahci_controller.specs.declared.taking.Took.{Took}
+use Rattle.hba_fbs.specs.{Taking.port_of, declared.report.Wrote.Wrote}
+use Rattle.ahci_controller.specs.{Reading.shown, declared.taking.Took.Took}
 use Rattle.controller_laws.specs.Events as call
 use Rattle.controller_laws.specs.Events.{Event}
 use Rattle.disk_pages.specs.declared.profile.Profile.{Profile}
 use Rattle.sata_disk.specs.State.{new_disk}
 use Rattle.sata_disk.specs.declared.out.Out.TheVariants as out
-use Rattle.sata_disk_laws.specs.Calls.{AreCalls, Call}
-use Rattle.sata_disk_laws.specs.Laws.{reached}
+use Rattle.sata_disk_laws.specs.{Calls.{AreCalls, Call}, Laws.reached}
 use Rattle.ahci_machine.specs.States.{HasRules, IsOpeningMachine, MachineState}
 use Rattle.ahci_machine.specs.declared.act.Act.TheVariants as act
-use Rattle.machine_laws.specs.ControllerLaws.{RunsRuled, calls_in}
-use Rattle.machine_laws.specs.Deeds.{Deed, Does, Moved}
-use Rattle.machine_laws.specs.Falling.{AllLast, HasLink}
-use Rattle.machine_laws.specs.Rising.{sent_by}
-use Rattle.machine_theorem.specs.Commands.{AreNotIssued}
-use Rattle.machine_theorem.specs.Filled.{AreNotBrought, Brings}
-use Rattle.machine_theorem.specs.Following.{IsHeardWell}
-use Rattle.machine_theorem.specs.Given.{IsWhole}
-use Rattle.machine_theorem.specs.Identity.{AllKeep, IsAtRest, own_of}
-use Rattle.machine_theorem.specs.Orders.{is_sent_of}
-use Rattle.machine_theorem.specs.OwnSlots.{AllKeepLine, BeginsClear, NoneLost}
-use Rattle.machine_theorem.specs.Reads.{IsReadOf}
+use Rattle.machine_laws.specs.{ControllerLaws.{RunsRuled, calls_in}, Deeds.{Deed, Does, Moved}, Falling.{AllLast, HasLink}, Rising.sent_by}
+use Rattle.machine_theorem.specs.{Commands.AreNotIssued, Filled.{AreNotBrought, Brings}, Following.IsHeardWell, Given.IsWhole, Identity.AllKeep}
+use Rattle.machine_theorem.specs.{Identity.{IsAtRest, own_of}, Orders.is_sent_of, OwnSlots.{AllKeepLine, BeginsClear, NoneLost}, Reads.IsReadOf}
 use Rattle.machine_theorem.specs.Standing.{IsAsSupplied}
 
 -- ---- the moment

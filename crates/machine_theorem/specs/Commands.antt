@@ -1,31 +1,22 @@
 -- The command that a disk has at a place is one that the controller sent it from a slot, as it was supplied for that slot (AHCI 1.3.1, 4.2
 -- and 5.3, a port sends a command; Serial ATA 3.x, 10.5, Register Host to Device FIS, and 13.6, native command queuing).
 use Rattle.std.specs.Prelude.{◌≡◌, ◌<◌, ◌/◌, ◌%◌, ◌==◌, ◌&&◌, ℕ, Bool, true, false, List, [], ◌∷◌, ◌++◌, Some}
-use Rattle.fis_view.specs.Frames.{marked}
-use Rattle.fis_view.specs.Table.{H2d, Count, field}
+use Rattle.fis_view.specs.{Frames.marked, Table.{H2d, Count, field}}
 use Rattle.multiplier.specs.State.{pm_port}
 use Rattle.block_command.specs.declared.command.Command.{Command}
 use Rattle.block_disk.specs.Laws.{Page}
-use Rattle.ahci_controller.specs.States.{ControllerState}
-use Rattle.ahci_controller.specs.declared.issuing.Supply.{Supply}
+use Rattle.ahci_controller.specs.{States.ControllerState, declared.issuing.Supply.Supply}
 use Rattle.ahci_controller.specs.declared.issuing.Supply.TheVariants as supply
 use Rattle.ahci_controller.specs.declared.next.Next.TheVariants as next
 use Rattle.controller_laws.specs.Events as call
-use Rattle.controller_laws.specs.Events.{Event}
-use Rattle.controller_laws.specs.Sources.{Source, command_of, no_sources, sources_after}
+use Rattle.controller_laws.specs.{Events.Event, Sources.{Source, command_of, no_sources, sources_after}}
 use Rattle.disk_pages.specs.declared.profile.Profile.{Profile}
 use Rattle.sata_disk.specs.State.{DiskState, new_disk}
 use Rattle.sata_disk_books.specs.Books.{IsAskedFor, page_in}
-use Rattle.sata_disk_laws.specs.Calls.{Call}
-use Rattle.sata_disk_laws.specs.Laws.{reached}
-use Rattle.ahci_machine.specs.Gathers.{host_stamp}
-use Rattle.ahci_machine.specs.States.{IsOpeningMachine, MachineState, bay_at}
-use Rattle.ahci_machine.specs.declared.bay.Unit.TheVariants.{Disk}
-use Rattle.machine_laws.specs.ControllerLaws.{ControllerRuns, RunsRuled, calls_in}
-use Rattle.machine_laws.specs.Deeds.{Deed}
-use Rattle.machine_laws.specs.Feeding.{IsFisOf, IsOrdered}
-use Rattle.machine_laws.specs.Heard.{HasLived, life_in, no_life}
-use Rattle.machine_laws.specs.Rising.{is_multiplier}
+use Rattle.sata_disk_laws.specs.{Calls.Call, Laws.reached}
+use Rattle.ahci_machine.specs.{Gathers.host_stamp, States.{IsOpeningMachine, MachineState, bay_at}, declared.bay.Unit.TheVariants.Disk}
+use Rattle.machine_laws.specs.{ControllerLaws.{ControllerRuns, RunsRuled, calls_in}, Deeds.Deed, Feeding.{IsFisOf, IsOrdered}, Heard.HasLived}
+use Rattle.machine_laws.specs.{Heard.{life_in, no_life}, Rising.is_multiplier}
 
 -- ---- what was sent from a slot
 

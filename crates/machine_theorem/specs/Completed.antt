@@ -1,28 +1,20 @@
 -- A bit of PxCI falls as a FIS is taken only where the device that owns the slot's command ends this command by the FIS, which it sent (AHCI
 -- 1.3.1, 3.3.14, PxCI, and 5.3.8, a port takes a Register FIS; Serial ATA 3.x, 10.5, Register Device to Host FIS, PIO Setup, Data).
-use Rattle.std.specs.Prelude.{◌≡◌, ◌⊎◌, ◌<◌, ℕ, Bool, true, false, List, [], ◌∷◌, Some}
-use Rattle.std.specs.List.{Contains}
+use Rattle.std.specs.{Prelude.{◌≡◌, ◌⊎◌, ◌<◌, ℕ, Bool, true, false, List, [], ◌∷◌, Some}, List.Contains}
 use Rattle.fis_view.specs.Frames.{Stamped}
 use Rattle.fan_out.specs.declared.fan_out.FanOut.{FanOut}
 use Rattle.slots.specs.Slots.{Issue, has_bit, is_queued_issue, issue_at}
 use Rattle.ahci_registers.specs.declared.register.Register.TheVariants.{PxCi, PxSact}
 use Rattle.hba_fbs.specs.Taking.{port_of}
-use Rattle.hba_laws.specs.CoreHistories.{event_by}
-use Rattle.hba_laws.specs.History.{Answered, Carried, Event, History, completes}
-use Rattle.ahci_controller.specs.Reading.{shown}
-use Rattle.ahci_controller.specs.States.{ControllerState}
-use Rattle.ahci_controller.specs.Taking.{room_for}
-use Rattle.ahci_controller.specs.declared.taking.Took.{Took}
+use Rattle.hba_laws.specs.{CoreHistories.event_by, History.{Answered, Carried, Event, History, completes}}
+use Rattle.ahci_controller.specs.{Reading.shown, States.ControllerState, Taking.room_for, declared.taking.Took.Took}
 use Rattle.controller_laws.specs.Ends.{AreTold}
 use Rattle.ata_reply.specs.declared.reply.Reply.TheVariants as replies
 use Rattle.sata_disk.specs.declared.out.Out.TheVariants as out
 use Rattle.ahci_machine.specs.States.{HasRules, IsOpeningMachine, MachineState}
 use Rattle.ahci_machine.specs.declared.act.Act.TheVariants as act
-use Rattle.machine_laws.specs.ControllerLaws.{RunsRuled}
-use Rattle.machine_laws.specs.Deeds.{Deed, Does, Moved}
-use Rattle.machine_laws.specs.Rising.{is_multiplier, sent_by}
-use Rattle.machine_theorem.specs.Ends.{HasEarnedAt}
-use Rattle.machine_theorem.specs.Origins.{sender}
+use Rattle.machine_laws.specs.{ControllerLaws.RunsRuled, Deeds.{Deed, Does, Moved}, Rising.{is_multiplier, sent_by}}
+use Rattle.machine_theorem.specs.{Ends.HasEarnedAt, Origins.sender}
 
 -- The device that owns the slot's command ends it by this FIS, as its history has it: if the command was sent last and waits, by a Register FIS
 -- that answers it, all bytes of a transfer having moved; or by the last Data of a PIO read.

@@ -5,8 +5,7 @@ use Rattle.std.specs.Prelude.{ℕ, ◌≡◌, ◌<◌, Bool, true, false, List, 
 use Rattle.fis_view.specs.Frames.{Stamped, marked}
 use Rattle.slots.specs.Slots.{Issue, has_bit as is_named, issue_at}
 use Rattle.ahci_registers.specs.declared.register.Register.TheVariants.{PxSact}
-use Rattle.ahci_controller.specs.Reading.{shown}
-use Rattle.ahci_controller.specs.declared.taking.Took.{Took}
+use Rattle.ahci_controller.specs.{Reading.shown, declared.taking.Took.Took}
 use Rattle.block_command.specs.Laws.{IsEarned}
 use Rattle.block_disk.specs.Laws.{Page}
 use Rattle.block_queue.specs.Line.{has_bit}
@@ -14,19 +13,12 @@ use Rattle.disk_pages.specs.declared.profile.Profile.{Profile}
 use Rattle.sata_disk.specs.State.{new_disk}
 use Rattle.sata_disk.specs.declared.out.Out.TheVariants as out
 use Rattle.sata_disk_books.specs.Books.{page_in}
-use Rattle.sata_disk_laws.specs.Calls.{AreCalls, Call, Sends}
-use Rattle.sata_disk_laws.specs.Laws.{reached}
+use Rattle.sata_disk_laws.specs.{Calls.{AreCalls, Call, Sends}, Laws.reached}
 use Rattle.ahci_machine.specs.States.{HasRules, IsOpeningMachine, MachineState}
 use Rattle.ahci_machine.specs.declared.act.Act.TheVariants as act
-use Rattle.machine_laws.specs.ControllerLaws.{RunsRuled, calls_in}
-use Rattle.machine_laws.specs.Deeds.{Deed, Does, Moved}
-use Rattle.machine_laws.specs.Falling.{AllLast, HasLink, sent_in}
-use Rattle.machine_laws.specs.Rising.{sent_by}
-use Rattle.machine_theorem.specs.Commands.{AreNotIssued, IsSentFrom}
-use Rattle.machine_theorem.specs.Given.{IsWhole}
-use Rattle.machine_theorem.specs.Identity.{AllKeep, IsAtRest, IsTheSlots, asked_of, calls_of, own_of}
-use Rattle.machine_theorem.specs.Orders.{ordered_in}
-use Rattle.machine_theorem.specs.Standing.{IsAsSupplied}
+use Rattle.machine_laws.specs.{ControllerLaws.{RunsRuled, calls_in}, Deeds.{Deed, Does, Moved}, Falling.{AllLast, HasLink, sent_in}, Rising.sent_by}
+use Rattle.machine_theorem.specs.{Commands.{AreNotIssued, IsSentFrom}, Given.IsWhole, Identity.{AllKeep, IsAtRest, IsTheSlots, asked_of, calls_of}}
+use Rattle.machine_theorem.specs.{Identity.own_of, Orders.ordered_in, Standing.IsAsSupplied}
 
 -- ---- the moment of the end
 

@@ -2,30 +2,18 @@
 -- of the Data that the controller sent, in order. Then Data of a queued write go to their own place: the slot that they are taken from is the tag of the
 -- command for which the disk takes them, at the byte behind those that came for it (AHCI 1.3.1, 5.3 and 9.3; Serial ATA 3.x, 10.5 and 13.6).
 use Rattle.std.specs.Prelude.{ℕ, ◌≡◌, false, ◌<◌, ◌⊎◌, Bool, true, List, [], ◌∷◌, ◌++◌, length, Some, None}
-use Rattle.slots.specs.Slots.{Issue, context_of, issue_at}
-use Rattle.slots.specs.Work.{is_read}
-use Rattle.slots.specs.declared.work.Kind.TheVariants.{QueuedWrite}
-use Rattle.hba_fbs.specs.Views.{view_of}
-use Rattle.hba_fbs.specs.declared.turn.Turn.TheVariants.{Feeds}
-use Rattle.hba_laws.specs.Agreement.{IsTold}
-use Rattle.hba_laws.specs.History.{History}
-use Rattle.ahci_controller.specs.Next.{turn_to}
-use Rattle.ahci_controller.specs.States.{ControllerState}
-use Rattle.ahci_controller.specs.declared.feeding.Fed.TheVariants.{Goes}
-use Rattle.ahci_controller.specs.declared.latch.Edge.{Edge}
+use Rattle.slots.specs.{Slots.{Issue, context_of, issue_at}, Work.is_read, declared.work.Kind.TheVariants.QueuedWrite}
+use Rattle.hba_fbs.specs.{Views.view_of, declared.turn.Turn.TheVariants.Feeds}
+use Rattle.hba_laws.specs.{Agreement.IsTold, History.History}
+use Rattle.ahci_controller.specs.{Next.turn_to, States.ControllerState, declared.{feeding.Fed.TheVariants.Goes, latch.Edge.Edge}}
 use Rattle.block_disk.specs.Laws.{Page}
 use Rattle.block_queue.specs.Line.{command_at}
 use Rattle.controller_laws.specs.Events.{Event, Gathered, Runs}
 use Rattle.disk_pages.specs.declared.profile.Profile.{Profile}
-use Rattle.sata_disk.specs.Hearing.{receives}
-use Rattle.sata_disk.specs.State.{commands, new_disk}
-use Rattle.sata_disk_laws.specs.Calls.{AreCalls, Call}
-use Rattle.sata_disk_laws.specs.Laws.{reached}
-use Rattle.sata_disk_books.specs.Books.{page_in}
-use Rattle.sata_disk_books.specs.InTurn.{AreOfQueue, AwaitsNone, calls_steps}
-use Rattle.sata_disk_books.specs.Talks.{Down, Sign, Step, Up}
-use Rattle.machine_theorem.specs.Asking.{events_steps}
-use Rattle.machine_theorem.specs.Following.{AllHeardWell}
+use Rattle.sata_disk.specs.{Hearing.receives, State.{commands, new_disk}}
+use Rattle.sata_disk_laws.specs.{Calls.{AreCalls, Call}, Laws.reached}
+use Rattle.sata_disk_books.specs.{Books.page_in, InTurn.{AreOfQueue, AwaitsNone, calls_steps}, Talks.{Down, Sign, Step, Up}}
+use Rattle.machine_theorem.specs.{Asking.events_steps, Following.AllHeardWell}
 
 -- ---- what goes up, and down
 

@@ -1,21 +1,16 @@
 -- What came for a command that is not queued, as its disk says that it ended well: the payload of Data that the disk heard behind this command, in order
 -- (ACS-3, 4, DMA and PIO data-out protocols; Serial ATA 3.x, 10.5, Data and Register Device to Host).
-use Rattle.std.specs.Prelude.{ℕ, ◌≡◌, List, ◌∷◌, ◌++◌, Some, Ok}
-use Rattle.std.specs.List.{All}
+use Rattle.std.specs.{Prelude.{ℕ, ◌≡◌, List, ◌∷◌, ◌++◌, Some, Ok}, List.All}
 use Rattle.fis_view.specs.Seen.{seen}
 use Rattle.fis_view.specs.declared.view.Fis.TheVariants as view
 use Rattle.block_disk.specs.Laws.{Page}
 use Rattle.ata_reply.specs.declared.reply.Reply.TheVariants as replies
 use Rattle.disk_pages.specs.declared.profile.Profile.{Profile}
-use Rattle.sata_disk.specs.Sending.{IsOut}
-use Rattle.sata_disk.specs.State.{new_disk}
+use Rattle.sata_disk.specs.{Sending.IsOut, State.new_disk}
 use Rattle.sata_disk.specs.declared.out.Out.TheVariants as out
 use Rattle.sata_disk_books.specs.Books.{IsAskedFor, page_in}
-use Rattle.sata_disk_laws.specs.Calls.{AreCalls, Call, Hears}
-use Rattle.sata_disk_laws.specs.Laws.{reached}
-use Rattle.sata_disk_laws.specs.Once.{host_of, new_host}
-use Rattle.machine_theorem.specs.InTurn.{IsIdle, heard_in}
-use Rattle.machine_theorem.specs.Writes.{AreHeard, payloads}
+use Rattle.sata_disk_laws.specs.{Calls.{AreCalls, Call, Hears}, Laws.reached, Once.{host_of, new_host}}
+use Rattle.machine_theorem.specs.{InTurn.{IsIdle, heard_in}, Writes.{AreHeard, payloads}}
 
 -- a FIS has Data
 pub record IsDataFis (fis : List ℕ) : Type 0 where

@@ -1,21 +1,16 @@
 -- A command waits in its slot until its device ends it: by a Register FIS, or a PIO data-in by the last of its Data. The next one goes to this device only
 -- behind that (AHCI 1.3.1, 5.3.8 and 5.3.13, a port sends a command, and takes a Register FIS, a PIO Setup FIS and Data, and 9.3, FIS-based Switching).
 use Rattle.std.specs.Prelude.{ℕ, ◌≡◌, ◌<◌, ◌≤◌, ◌+◌, ◌==◌, ◌&&◌, ◌||◌, Bool, true, false, not, List, [], ◌∷◌, Some, Result, Ok}
-use Rattle.fis_view.specs.Seen.{seen}
-use Rattle.fis_view.specs.declared.view.Fis.{Fis}
+use Rattle.fis_view.specs.{Seen.seen, declared.view.{Fis.Fis, FisFault.FisFault}}
 use Rattle.fis_view.specs.declared.view.Fis.TheVariants as view
-use Rattle.fis_view.specs.declared.view.FisFault.{FisFault}
 use Rattle.slots.specs.Slots.{Issue, is_queued_issue, issue_at}
-use Rattle.hba_fbs.specs.Taking.{port_of}
-use Rattle.hba_fbs.specs.Views.{view_of}
-use Rattle.hba_laws.specs.Agreement.{IsTold}
-use Rattle.hba_laws.specs.History.{History}
+use Rattle.hba_fbs.specs.{Taking.port_of, Views.view_of}
+use Rattle.hba_laws.specs.{Agreement.IsTold, History.History}
 use Rattle.ahci_controller.specs.States.{ControllerState}
 use Rattle.ahci_controller.specs.declared.next.Next.TheVariants as next
 use Rattle.controller_laws.specs.Events as call
 use Rattle.controller_laws.specs.Events.{Event, Runs}
-use Rattle.machine_theorem.specs.Tags.{once_if}
-use Rattle.machine_theorem.specs.Waits.{IsWaitingAlone, SparesWaiting, commanded_in, is_answered, is_commanded, waits_in}
+use Rattle.machine_theorem.specs.{Tags.once_if, Waits.{IsWaitingAlone, SparesWaiting, commanded_in, is_answered, is_commanded, waits_in}}
 
 -- ---- what is counted
 

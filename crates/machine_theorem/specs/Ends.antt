@@ -1,29 +1,21 @@
 -- A bit of PxSACT falls as a FIS is taken only where the device that owns the slot's command says so, and a disk says so only once its command
 -- has earned its end (AHCI 1.3.1, 3.3.13, PxSACT; Serial ATA 3.x, 10.5, Set Device Bits, and 13.6, native command queuing).
-use Rattle.std.specs.Prelude.{◌≡◌, ◌⊎◌, ◌<◌, ℕ, Bool, true, false, List, [], ◌∷◌}
-use Rattle.std.specs.List.{Contains}
+use Rattle.std.specs.{Prelude.{◌≡◌, ◌⊎◌, ◌<◌, ℕ, Bool, true, false, List, [], ◌∷◌}, List.Contains}
 use Rattle.fis_view.specs.Frames.{Stamped}
 use Rattle.fan_out.specs.declared.fan_out.FanOut.{FanOut}
 use Rattle.multiplier.specs.State.{pm_port}
 use Rattle.slots.specs.Slots.{has_bit}
 use Rattle.ahci_registers.specs.declared.register.Register.TheVariants.{PxSact}
 use Rattle.hba_laws.specs.History.{History}
-use Rattle.ahci_controller.specs.Reading.{shown}
-use Rattle.ahci_controller.specs.declared.taking.Took.{Took}
-use Rattle.controller_laws.specs.Active.{IsNamed}
-use Rattle.controller_laws.specs.Ends.{AreTold}
+use Rattle.ahci_controller.specs.{Reading.shown, declared.taking.Took.Took}
+use Rattle.controller_laws.specs.{Active.IsNamed, Ends.AreTold}
 use Rattle.disk_pages.specs.declared.profile.Profile.{Profile}
 use Rattle.sata_disk.specs.State.{DiskState, new_disk}
-use Rattle.sata_disk_books.specs.Books.{page_in}
-use Rattle.sata_disk_books.specs.Ended.{HasEarned}
-use Rattle.sata_disk_laws.specs.Calls.{AreCalls, Call}
-use Rattle.sata_disk_laws.specs.Laws.{reached}
-use Rattle.ahci_machine.specs.States.{HasRules, IsOpeningMachine, MachineState, bay_at}
+use Rattle.sata_disk_books.specs.{Books.page_in, Ended.HasEarned}
+use Rattle.sata_disk_laws.specs.{Calls.{AreCalls, Call}, Laws.reached}
+use Rattle.ahci_machine.specs.{States.{HasRules, IsOpeningMachine, MachineState, bay_at}, declared.bay.Unit.TheVariants.Disk}
 use Rattle.ahci_machine.specs.declared.act.Act.TheVariants as act
-use Rattle.ahci_machine.specs.declared.bay.Unit.TheVariants.{Disk}
-use Rattle.machine_laws.specs.ControllerLaws.{RunsRuled}
-use Rattle.machine_laws.specs.Deeds.{Deed, Does, FrameOffered, Moved, Wrote}
-use Rattle.machine_laws.specs.Rising.{is_multiplier, sent_by}
+use Rattle.machine_laws.specs.{ControllerLaws.RunsRuled, Deeds.{Deed, Does, FrameOffered, Moved, Wrote}, Rising.{is_multiplier, sent_by}}
 use Rattle.machine_theorem.specs.Origins.{sender}
 
 -- ---- what a device says

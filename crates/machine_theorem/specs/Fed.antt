@@ -2,17 +2,11 @@
 -- 3.x, 10.5, Data).
 use Rattle.std.specs.Prelude.{ℕ, ◌≡◌, ◌⊎◌, Bool, List, [], Some}
 use Rattle.hba_fbs.specs.declared.turn.Turn.TheVariants.{Feeds}
-use Rattle.ahci_controller.specs.Next.{turn_to}
-use Rattle.ahci_controller.specs.declared.feeding.Fed.TheVariants.{Goes}
-use Rattle.ahci_controller.specs.declared.latch.Edge.{Edge}
+use Rattle.ahci_controller.specs.{Next.turn_to, declared.{feeding.Fed.TheVariants.Goes, latch.Edge.Edge}}
 use Rattle.ahci_controller.specs.declared.next.Next.TheVariants as next
-use Rattle.ahci_machine.specs.Gathers.{GatheringState}
-use Rattle.ahci_machine.specs.States.{IsOpeningMachine, MachineState, gathering_at}
+use Rattle.ahci_machine.specs.{Gathers.GatheringState, States.{IsOpeningMachine, MachineState, gathering_at}, declared.gathering.Feed.Feed}
 use Rattle.ahci_machine.specs.declared.act.Act.TheVariants as act
-use Rattle.ahci_machine.specs.declared.gathering.Feed.{Feed}
-use Rattle.machine_laws.specs.ControllerLaws.{RunsRuled}
-use Rattle.machine_laws.specs.Deeds.{Deed, Does, Moved}
-use Rattle.machine_laws.specs.Feeding.{came_in, data_with}
+use Rattle.machine_laws.specs.{ControllerLaws.RunsRuled, Deeds.{Deed, Does, Moved}, Feeding.{came_in, data_with}}
 
 -- ---- what is read
 

@@ -1,24 +1,13 @@
 -- From where the controller takes the Data of a queued write: behind the DMA Setup FIS of their device that came last (AHCI 1.3.1, 5.3 and 9.3, what a
 -- port sends; Serial ATA 3.x, 10.5, DMA Setup, DMA Activate and Data, and 13.6).
 use Rattle.std.specs.Prelude.{ℕ, ◌≡◌, false, ◌<◌, ◌+◌, ◌-◌, ◌%◌, ◌==◌, Bool, List, [], ◌∷◌, length, Option, Some, None, if◌then◌else◌, Result, Ok}
-use Rattle.fis_view.specs.Seen.{seen}
+use Rattle.fis_view.specs.{Seen.seen, Table.field, declared.view.{Fis.Fis, FisFault.FisFault}}
 use Rattle.fis_view.specs.Table as table
-use Rattle.fis_view.specs.Table.{field}
-use Rattle.fis_view.specs.declared.view.Fis.{Fis}
 use Rattle.fis_view.specs.declared.view.Fis.TheVariants as view
-use Rattle.fis_view.specs.declared.view.FisFault.{FisFault}
-use Rattle.slots.specs.Slots.{Issue, context_of, issue_at}
-use Rattle.slots.specs.Work.{is_read}
-use Rattle.slots.specs.declared.work.Kind.TheVariants.{QueuedWrite}
-use Rattle.hba_fbs.specs.Taking.{port_of}
-use Rattle.hba_fbs.specs.Views.{view_of}
-use Rattle.hba_fbs.specs.declared.turn.Turn.TheVariants.{Feeds}
-use Rattle.hba_laws.specs.Agreement.{IsTold}
-use Rattle.hba_laws.specs.History.{History}
-use Rattle.ahci_controller.specs.Next.{turn_to}
-use Rattle.ahci_controller.specs.States.{ControllerState}
-use Rattle.ahci_controller.specs.declared.feeding.Fed.TheVariants.{Goes}
-use Rattle.ahci_controller.specs.declared.latch.Edge.{Edge}
+use Rattle.slots.specs.{Slots.{Issue, context_of, issue_at}, Work.is_read, declared.work.Kind.TheVariants.QueuedWrite}
+use Rattle.hba_fbs.specs.{Taking.port_of, Views.view_of, declared.turn.Turn.TheVariants.Feeds}
+use Rattle.hba_laws.specs.{Agreement.IsTold, History.History}
+use Rattle.ahci_controller.specs.{Next.turn_to, States.ControllerState, declared.{feeding.Fed.TheVariants.Goes, latch.Edge.Edge}}
 use Rattle.controller_laws.specs.Events.{Does, Event, Gathered, Runs, Took}
 use Rattle.sata_disk_books.specs.Counted.{Counted, more_by}
 use Rattle.machine_theorem.specs.Following.{AllHeardWell}

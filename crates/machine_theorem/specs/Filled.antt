@@ -1,20 +1,13 @@
 -- Each byte of a queued read that came was brought by a Data FIS of its device, since the command was issued (AHCI 1.3.1, 5.3.13 and 9.3; Serial ATA 3.x,
 -- 10.5, DMA Setup and Data, and 13.6, native command queuing).
 use Rattle.std.specs.Prelude.{ℕ, ◌≡◌, ◌<◌, ◌≤◌, ◌+◌, ◌==◌, true, false, List, [], ◌∷◌, ◌++◌, drop, length, Some}
-use Rattle.slots.specs.Bytes.{is_over}
-use Rattle.slots.specs.Slots.{Issue, holds, issue_at}
-use Rattle.slots.specs.declared.work.Kind.TheVariants.{QueuedRead}
-use Rattle.hba_fbs.specs.Taking.{port_of}
-use Rattle.hba_fbs.specs.Views.{view_of}
-use Rattle.hba_fbs.specs.declared.report.Wrote.{Wrote}
-use Rattle.hba_laws.specs.Agreement.{IsTold}
-use Rattle.hba_laws.specs.History.{History}
-use Rattle.ahci_controller.specs.States.{ControllerState}
-use Rattle.ahci_controller.specs.Taking.{is_overflow}
+use Rattle.slots.specs.{Bytes.is_over, Slots.{Issue, holds, issue_at}, declared.work.Kind.TheVariants.QueuedRead}
+use Rattle.hba_fbs.specs.{Taking.port_of, Views.view_of, declared.report.Wrote.Wrote}
+use Rattle.hba_laws.specs.{Agreement.IsTold, History.History}
+use Rattle.ahci_controller.specs.{States.ControllerState, Taking.is_overflow}
 use Rattle.ahci_controller.specs.declared.taking.Took as taking
 use Rattle.controller_laws.specs.Events.{Event, Runs, Takes, Took}
-use Rattle.machine_theorem.specs.Commands.{AreNotIssued}
-use Rattle.machine_theorem.specs.Orders.{is_sent_of}
+use Rattle.machine_theorem.specs.{Commands.AreNotIssued, Orders.is_sent_of}
 
 -- A FIS that is taken brings byte k of the queued read that is issued in a slot.
 pub record Brings (n slot k : ℕ) (c : ControllerState) (frame : List ℕ) (took : taking.Took) : Type 0 where

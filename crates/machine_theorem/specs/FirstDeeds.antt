@@ -2,8 +2,7 @@
 use Rattle.std.specs.Prelude.{ℕ, zero, suc, ◌⊎◌, List, [], ◌∷◌}
 use Rattle.std.proofs.Common.{refl}
 use Rattle.ahci_machine.specs.States.{HasRules, MachineState}
-use Rattle.machine_laws.specs.ControllerLaws.{RunsRuled}
-use Rattle.machine_laws.specs.Deeds.{Deed}
+use Rattle.machine_laws.specs.{ControllerLaws.RunsRuled, Deeds.Deed}
 
 abbrev pub first_deeds : ℕ → List Deed → List Deed
 first_deeds zero deeds = []

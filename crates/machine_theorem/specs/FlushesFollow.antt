@@ -6,31 +6,19 @@ use Rattle.fis_view.specs.Frames.{Stamped}
 use Rattle.slots.specs.Slots.{Issue, is_pio}
 use Rattle.block_disk.specs.Laws.{Page}
 use Rattle.controller_laws.specs.Events.{Event}
-use Rattle.block_engine.specs.declared.request.Answer.TheVariants.{Done}
-use Rattle.block_engine.specs.declared.request.Request.{Request}
+use Rattle.block_engine.specs.declared.request.{Answer.TheVariants.Done, Request.Request}
 use Rattle.block_engine.specs.declared.request.What.TheVariants as what
 use Rattle.ata_reply.specs.declared.reply.Reply.TheVariants as replies
 use Rattle.disk_pages.specs.declared.profile.Profile.{Profile}
-use Rattle.sata_disk.specs.State.{new_disk}
-use Rattle.sata_disk.specs.declared.out.Out.{Out}
+use Rattle.sata_disk.specs.{State.new_disk, declared.out.Out.Out}
 use Rattle.sata_disk.specs.declared.out.Out.TheVariants as out
 use Rattle.sata_disk_books.specs.Books.{page_in}
-use Rattle.sata_disk_laws.specs.Calls.{Answers, AreCalls, Asks, Call, Sends}
-use Rattle.sata_disk_laws.specs.Laws.{reached}
-use Rattle.sata_disk_media.specs.Cells.{covers, sector_of}
-use Rattle.sata_disk_media.specs.Laws.{AreSparing, EndsWell}
-use Rattle.sata_disk_media.specs.Media.{store_bytes}
-use Rattle.ahci_machine.specs.States.{MachineState, bay_at}
-use Rattle.ahci_machine.specs.declared.bay.Unit.TheVariants.{Disk}
-use Rattle.machine_laws.specs.ControllerLaws.{RunsRuled, calls_in}
-use Rattle.machine_laws.specs.Deeds.{Deed}
-use Rattle.machine_theorem.specs.Completions.{IsDone}
-use Rattle.machine_theorem.specs.FirstDeeds.{first_deeds, first_run, machine_at}
-use Rattle.machine_theorem.specs.Flushes.{IsFlushDone, OfSingles}
-use Rattle.machine_theorem.specs.Flushing.{is_flushing}
-use Rattle.machine_theorem.specs.Identity.{calls_of, is_left}
-use Rattle.machine_theorem.specs.Singles.{IsDoneSingle}
-use Rattle.machine_theorem.specs.Waits.{AllKeepWaiting, AllPlain}
+use Rattle.sata_disk_laws.specs.{Calls.{Answers, AreCalls, Asks, Call, Sends}, Laws.reached}
+use Rattle.sata_disk_media.specs.{Cells.{covers, sector_of}, Laws.{AreSparing, EndsWell}, Media.store_bytes}
+use Rattle.ahci_machine.specs.{States.{MachineState, bay_at}, declared.bay.Unit.TheVariants.Disk}
+use Rattle.machine_laws.specs.{ControllerLaws.{RunsRuled, calls_in}, Deeds.Deed}
+use Rattle.machine_theorem.specs.{Completions.IsDone, FirstDeeds.{first_deeds, first_run, machine_at}, Flushes.{IsFlushDone, OfSingles}}
+use Rattle.machine_theorem.specs.{Flushing.is_flushing, Identity.{calls_of, is_left}, Singles.IsDoneSingle, Waits.{AllKeepWaiting, AllPlain}}
 
 -- ---- the write
 

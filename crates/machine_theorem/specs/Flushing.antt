@@ -1,26 +1,15 @@
 -- FLUSH CACHE at a disk: it says that the command ended well only where its caller answered a flush well that it asked for since it heard the command
 -- (ACS-3, 7.10, FLUSH CACHE, and 7.11, FLUSH CACHE EXT; Serial ATA 3.x, 10.5, Register Device to Host).
 use Rattle.std.specs.Prelude.{ℕ, ◌≡◌, ◌⊎◌, ◌==◌, ◌&&◌, ◌||◌, Bool, true, false, List, ◌∷◌, ◌++◌, Some, None, Result, Ok}
-use Rattle.fis_view.specs.Seen.{seen}
-use Rattle.fis_view.specs.Table.{H2d, Command, field}
-use Rattle.fis_view.specs.declared.view.Fis.{Fis}
+use Rattle.fis_view.specs.{Seen.seen, Table.{H2d, Command, field}, declared.view.{Fis.Fis, FisFault.FisFault}}
 use Rattle.fis_view.specs.declared.view.Fis.TheVariants as view
-use Rattle.fis_view.specs.declared.view.FisFault.{FisFault}
-use Rattle.block_engine.specs.declared.request.Answer.TheVariants.{Done}
-use Rattle.block_engine.specs.declared.request.Request.{Request}
-use Rattle.block_engine.specs.declared.request.What.TheVariants.{Flush}
+use Rattle.block_engine.specs.declared.request.{Answer.TheVariants.Done, Request.Request, What.TheVariants.Flush}
 use Rattle.ata_reply.specs.declared.reply.Reply.TheVariants as replies
 use Rattle.disk_pages.specs.declared.profile.Profile.{Profile}
-use Rattle.sata_disk.specs.Hearing.{is_command}
-use Rattle.sata_disk.specs.Sending.{IsFis, IsOut}
-use Rattle.sata_disk.specs.State.{new_disk}
-use Rattle.sata_disk.specs.declared.out.Out.{Out}
+use Rattle.sata_disk.specs.{Hearing.is_command, Sending.{IsFis, IsOut}, State.new_disk, declared.out.Out.Out}
 use Rattle.sata_disk.specs.declared.out.Out.TheVariants as out
-use Rattle.sata_disk_laws.specs.Calls.{Answers, AreCalls, Asks, Call, Hears}
-use Rattle.sata_disk_laws.specs.Laws.{reached}
-use Rattle.sata_disk_laws.specs.Once.{host_of, new_host}
-use Rattle.machine_theorem.specs.InTurn.{AreKeptOn, IsIdle, answered_in, heard_in, is_answer}
-use Rattle.machine_theorem.specs.Transfers.{fails_by}
+use Rattle.sata_disk_laws.specs.{Calls.{Answers, AreCalls, Asks, Call, Hears}, Laws.reached, Once.{host_of, new_host}}
+use Rattle.machine_theorem.specs.{InTurn.{AreKeptOn, IsIdle, answered_in, heard_in, is_answer}, Transfers.fails_by}
 
 -- ---- the command
 

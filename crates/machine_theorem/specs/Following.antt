@@ -2,19 +2,13 @@
 -- ATA 3.x, 10.5, DMA Setup and Data, and 13.6).
 use Rattle.std.specs.Prelude.{ℕ, ◌≡◌, ◌<◌, ◌==◌, true, false, List, [], ◌∷◌, Option, Some, None, if◌then◌else◌}
 use Rattle.fis_view.specs.Seen.{seen}
-use Rattle.slots.specs.Slots.{Issue, context_of, issue_at}
-use Rattle.slots.specs.declared.work.Kind.TheVariants.{QueuedRead}
-use Rattle.hba_fbs.specs.Taking.{port_of}
-use Rattle.hba_fbs.specs.Views.{view_of}
-use Rattle.hba_fbs.specs.declared.report.Wrote.{Wrote}
-use Rattle.hba_laws.specs.Agreement.{IsTold}
-use Rattle.hba_laws.specs.History.{History}
-use Rattle.ahci_controller.specs.States.{ControllerState}
-use Rattle.ahci_controller.specs.Taking.{is_overflow}
+use Rattle.slots.specs.{Slots.{Issue, context_of, issue_at}, declared.work.Kind.TheVariants.QueuedRead}
+use Rattle.hba_fbs.specs.{Taking.port_of, Views.view_of, declared.report.Wrote.Wrote}
+use Rattle.hba_laws.specs.{Agreement.IsTold, History.History}
+use Rattle.ahci_controller.specs.{States.ControllerState, Taking.is_overflow}
 use Rattle.ahci_controller.specs.declared.taking.Took as taking
 use Rattle.controller_laws.specs.Events.{Event, Runs, Takes, Took}
-use Rattle.sata_disk_books.specs.Counted.{Counted}
-use Rattle.sata_disk_books.specs.Fises.{told_by}
+use Rattle.sata_disk_books.specs.{Counted.Counted, Fises.told_by}
 
 -- what the FISes of a device say that were taken, the first one first
 abbrev pub told_call : (n : ℕ) → Event → Option Counted → Option Counted

@@ -1,30 +1,20 @@
 -- The command that a disk has under a tag is the one that the guest had supplied for the slot of this number, as it was issued there last; and so are the Data
 -- that the disk sends of it (AHCI 1.3.1, 5.3; Serial ATA 3.x, 10.5, Data, and 13.6, native command queuing). So it is over each stretch of a run that begins at
 -- rest and in which the guest keeps to the standard (Identity).
-use Rattle.std.specs.Prelude.{ℕ, ◌≡◌, ◌<◌, Bool, true, List, ◌++◌, drop, Some}
-use Rattle.std.specs.List.{All}
+use Rattle.std.specs.{Prelude.{ℕ, ◌≡◌, ◌<◌, Bool, true, List, ◌++◌, drop, Some}, List.All}
 use Rattle.fis_view.specs.Frames.{marked}
-use Rattle.block_command.specs.declared.command.Command.{Command}
-use Rattle.block_command.specs.Moments.{Moment}
-use Rattle.block_disk.specs.Laws.{Page}
-use Rattle.block_disk.specs.Table.{is_under_way}
+use Rattle.block_command.specs.{declared.command.Command.Command, Moments.Moment}
+use Rattle.block_disk.specs.{Laws.Page, Table.is_under_way}
 use Rattle.block_queue.specs.Line.{command_at}
 use Rattle.disk_pages.specs.declared.profile.Profile.{Profile}
 use Rattle.sata_disk.specs.State.{DiskState, commands, new_disk}
 use Rattle.sata_disk.specs.declared.out.Out.TheVariants as out
 use Rattle.sata_disk_books.specs.Books.{AreNext, page_in}
-use Rattle.sata_disk_laws.specs.Calls.{AreCalls, Call}
-use Rattle.sata_disk_laws.specs.Laws.{reached}
-use Rattle.ahci_machine.specs.States.{IsOpeningMachine, MachineState, bay_at}
+use Rattle.sata_disk_laws.specs.{Calls.{AreCalls, Call}, Laws.reached}
+use Rattle.ahci_machine.specs.{States.{IsOpeningMachine, MachineState, bay_at}, declared.bay.Unit.TheVariants.Disk}
 use Rattle.ahci_machine.specs.declared.act.Act.TheVariants as act
-use Rattle.ahci_machine.specs.declared.bay.Unit.TheVariants.{Disk}
-use Rattle.machine_laws.specs.ControllerLaws.{RunsRuled, calls_in}
-use Rattle.machine_laws.specs.Deeds.{Deed, Does, Moved}
-use Rattle.machine_laws.specs.Falling.{AllLast, HasLink}
-use Rattle.machine_laws.specs.Rising.{sent_by}
-use Rattle.machine_theorem.specs.Commands.{AreNotIssued, IsSentFrom}
-use Rattle.machine_theorem.specs.Identity.{AllKeep, IsAtRest, IsTheSlots, calls_of}
-use Rattle.machine_theorem.specs.Standing.{IsAsSupplied}
+use Rattle.machine_laws.specs.{ControllerLaws.{RunsRuled, calls_in}, Deeds.{Deed, Does, Moved}, Falling.{AllLast, HasLink}, Rising.sent_by}
+use Rattle.machine_theorem.specs.{Commands.{AreNotIssued, IsSentFrom}, Identity.{AllKeep, IsAtRest, IsTheSlots, calls_of}, Standing.IsAsSupplied}
 
 -- ---- one stretch behind another
 

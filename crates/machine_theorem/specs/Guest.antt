@@ -4,13 +4,9 @@ use Rattle.std.specs.Prelude.{◌≡◌, ◌<◌, ℕ, Bool, true, List, [], ◌
 use Rattle.fis_view.specs.Frames.{marked}
 use Rattle.multiplier.specs.State.{pm_port}
 use Rattle.ahci_controller.specs.declared.feeding.Fed.{Fed}
-use Rattle.ahci_machine.specs.Gathers.{host_stamp}
-use Rattle.ahci_machine.specs.States.{IsOpeningMachine, MachineState}
+use Rattle.ahci_machine.specs.{Gathers.host_stamp, States.{IsOpeningMachine, MachineState}}
 use Rattle.ahci_machine.specs.declared.act.Act.TheVariants as act
-use Rattle.machine_laws.specs.ControllerLaws.{RunsRuled, calls_in}
-use Rattle.machine_laws.specs.Deeds.{Deed, Does, Moved}
-use Rattle.machine_laws.specs.Feeding.{came_in}
-use Rattle.machine_laws.specs.Heard.{AllHeard, life_in, no_life}
+use Rattle.machine_laws.specs.{ControllerLaws.{RunsRuled, calls_in}, Deeds.{Deed, Does, Moved}, Feeding.came_in, Heard.{AllHeard, life_in, no_life}}
 use Rattle.machine_laws.specs.Rising.{is_multiplier}
 use Rattle.machine_theorem.specs.Commands.{IsSentFrom}
 

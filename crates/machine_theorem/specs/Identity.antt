@@ -3,16 +3,11 @@
 -- command is the number of its slot, no write takes a command out of its slot, and no link goes.
 use Rattle.std.specs.Prelude.{ℕ, ◌≡◌, ◌<◌, ◌==◌, ◌||◌, Bool, true, false, not, List, [], ◌∷◌, ◌++◌, map, Some, Result, Ok, if◌then◌else◌}
 use Rattle.std.specs.List.{flat_map}
-use Rattle.fis_view.specs.Frames.{Stamped, marked}
-use Rattle.fis_view.specs.Seen.{seen}
-use Rattle.fis_view.specs.Table.{Bits, SActive, field}
-use Rattle.fis_view.specs.declared.view.Fis.{Fis}
+use Rattle.fis_view.specs.{Frames.{Stamped, marked}, Seen.seen, Table.{Bits, SActive, field}, declared.view.{Fis.Fis, FisFault.FisFault}}
 use Rattle.fis_view.specs.declared.view.Fis.TheVariants as view
-use Rattle.fis_view.specs.declared.view.FisFault.{FisFault}
 use Rattle.multiplier.specs.State.{pm_port}
 use Rattle.slots.specs.Slots.{has_bit}
-use Rattle.block_command.specs.declared.command.Command.{Command}
-use Rattle.block_command.specs.Moments.{Moment}
+use Rattle.block_command.specs.{declared.command.Command.Command, Moments.Moment}
 use Rattle.block_disk.specs.Table.{is_under_way}
 use Rattle.block_queue.specs.Line.{command_at}
 use Rattle.ahci_controller.specs.States.{ControllerState}
@@ -22,19 +17,11 @@ use Rattle.controller_laws.specs.Events.{Event}
 use Rattle.disk_pages.specs.declared.profile.Profile.{Profile}
 use Rattle.sata_disk.specs.State.{DiskState, commands, is_taken, new_disk}
 use Rattle.sata_disk_books.specs.Books.{IsAskedFor}
-use Rattle.sata_disk_laws.specs.Calls.{AreCalls, Call}
-use Rattle.sata_disk_laws.specs.Laws.{reached}
-use Rattle.ahci_machine.specs.Gathers.{host_stamp}
-use Rattle.ahci_machine.specs.States.{IsOpeningMachine, MachineState, bay_at}
-use Rattle.ahci_machine.specs.declared.bay.Unit.TheVariants.{Disk}
-use Rattle.machine_laws.specs.ControllerLaws.{RunsRuled, calls_in}
-use Rattle.machine_laws.specs.Controllers.{deed_calls}
-use Rattle.machine_laws.specs.Deeds.{Deed, Put, Removed, Wrote}
-use Rattle.machine_laws.specs.Disks.{calls_at}
-use Rattle.machine_laws.specs.Falling.{AllLast, HasLink, heard_by, leaving, sent_in, way_to}
-use Rattle.machine_laws.specs.Rising.{is_multiplier, on_way}
-use Rattle.machine_theorem.specs.Orders.{is_fallen, is_ordered, standing_in}
-use Rattle.machine_theorem.specs.Tags.{asks_with}
+use Rattle.sata_disk_laws.specs.{Calls.{AreCalls, Call}, Laws.reached}
+use Rattle.ahci_machine.specs.{Gathers.host_stamp, States.{IsOpeningMachine, MachineState, bay_at}, declared.bay.Unit.TheVariants.Disk}
+use Rattle.machine_laws.specs.{ControllerLaws.{RunsRuled, calls_in}, Controllers.deed_calls, Deeds.{Deed, Put, Removed, Wrote}, Disks.calls_at}
+use Rattle.machine_laws.specs.{Falling.{AllLast, HasLink, heard_by, leaving, sent_in, way_to}, Rising.{is_multiplier, on_way}}
+use Rattle.machine_theorem.specs.{Orders.{is_fallen, is_ordered, standing_in}, Tags.asks_with}
 
 -- ---- one device
 

@@ -2,25 +2,18 @@
 -- queued, and of which it says that it ended well, is the one that was heard behind all that were answered (ACS-3, 4, protocols; Serial ATA 3.x, 10.5,
 -- Register Host to Device and Register Device to Host, and 11.4, software reset).
 use Rattle.std.specs.Prelude.{ℕ, suc, ◌≡◌, ◌≤◌, ◌+◌, ◌&&◌, Bool, true, false, not, List, [], ◌∷◌, ◌++◌, Some, Result, Ok}
-use Rattle.fis_view.specs.Seen.{seen}
-use Rattle.fis_view.specs.declared.view.Fis.{Fis}
+use Rattle.fis_view.specs.{Seen.seen, declared.view.{Fis.Fis, FisFault.FisFault}}
 use Rattle.fis_view.specs.declared.view.Fis.TheVariants as view
-use Rattle.fis_view.specs.declared.view.FisFault.{FisFault}
 use Rattle.block_command.specs.declared.command.Command.{Command}
 use Rattle.block_disk.specs.Laws.{Page}
 use Rattle.ata_command.specs.Courses.{resets}
 use Rattle.ata_reply.specs.declared.reply.Reply.{Reply}
 use Rattle.ata_reply.specs.declared.reply.Reply.TheVariants as replies
 use Rattle.disk_pages.specs.declared.profile.Profile.{Profile}
-use Rattle.sata_disk.specs.Hearing.{is_command}
-use Rattle.sata_disk.specs.Sending.{IsOut}
-use Rattle.sata_disk.specs.State.{new_disk}
-use Rattle.sata_disk.specs.declared.out.Out.{Out}
+use Rattle.sata_disk.specs.{Hearing.is_command, Sending.IsOut, State.new_disk, declared.out.Out.Out}
 use Rattle.sata_disk.specs.declared.out.Out.TheVariants as out
 use Rattle.sata_disk_books.specs.Books.{IsAskedFor, page_in}
-use Rattle.sata_disk_laws.specs.Calls.{AreCalls, Call, Hears, Plugs, Sends}
-use Rattle.sata_disk_laws.specs.Laws.{reached}
-use Rattle.sata_disk_laws.specs.Once.{ForNothing, Host, host_of, new_host}
+use Rattle.sata_disk_laws.specs.{Calls.{AreCalls, Call, Hears, Plugs, Sends}, Laws.reached, Once.{ForNothing, Host, host_of, new_host}}
 use Rattle.machine_theorem.specs.Tags.{once_if}
 
 -- ---- what is counted

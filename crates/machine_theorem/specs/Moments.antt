@@ -7,26 +7,17 @@ use Rattle.block_queue.specs.Line.{command_at, has_bit}
 use Rattle.slots.specs.Slots.{has_bit as is_named}
 use Rattle.fan_out.specs.declared.fan_out.FanOut.{FanOut}
 use Rattle.ahci_registers.specs.declared.register.Register.TheVariants.{PxSact}
-use Rattle.ahci_controller.specs.Reading.{shown}
-use Rattle.ahci_controller.specs.declared.taking.Took.{Took}
+use Rattle.ahci_controller.specs.{Reading.shown, declared.taking.Took.Took}
 use Rattle.guest_fetch.specs.declared.moves.Move.{Move}
 use Rattle.ahci_controller.specs.declared.next.Next.TheVariants as next
 use Rattle.disk_pages.specs.declared.profile.Profile.{Profile}
-use Rattle.sata_disk.specs.Sending.{part_at}
-use Rattle.sata_disk.specs.State.{DiskState, commands, new_disk}
+use Rattle.sata_disk.specs.{Sending.part_at, State.{DiskState, commands, new_disk}}
 use Rattle.sata_disk.specs.declared.out.Out.TheVariants as out
 use Rattle.sata_disk_books.specs.Books.{AreNext, page_in}
-use Rattle.ahci_machine.specs.Registers.{lent_bytes}
-use Rattle.ahci_machine.specs.States.{HasRules, IsOpeningMachine, MachineState, bay_at}
+use Rattle.ahci_machine.specs.{Registers.lent_bytes, States.{HasRules, IsOpeningMachine, MachineState, bay_at}, declared.bay.Unit.TheVariants.Disk}
 use Rattle.ahci_machine.specs.declared.act.Act.TheVariants as act
-use Rattle.ahci_machine.specs.declared.bay.Unit.TheVariants.{Disk}
-use Rattle.machine_laws.specs.ControllerLaws.{RunsRuled}
-use Rattle.machine_laws.specs.Deeds.{Deed, Does, Moved}
-use Rattle.machine_laws.specs.Heard.{HasLived, life_in, no_life}
-use Rattle.machine_theorem.specs.Commands.{IsOfSlot}
-use Rattle.machine_theorem.specs.Ends.{IsEndBy, IsEndIn, IsEnded}
-use Rattle.machine_theorem.specs.Origins.{IsSentBy, IsSentIn}
-use Rattle.machine_theorem.specs.Parts.{IsBrought}
+use Rattle.machine_laws.specs.{ControllerLaws.RunsRuled, Deeds.{Deed, Does, Moved}, Heard.{HasLived, life_in, no_life}}
+use Rattle.machine_theorem.specs.{Commands.IsOfSlot, Ends.{IsEndBy, IsEndIn, IsEnded}, Origins.{IsSentBy, IsSentIn}, Parts.IsBrought}
 
 -- ---- a moment of a run
 

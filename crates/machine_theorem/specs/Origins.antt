@@ -1,23 +1,17 @@
 -- Where the bytes of a Data FIS come from that a device sends: of a disk the sectors of a command, as the caller gave them, or a page that
 -- the disk has of itself; or a device of the caller's own (Serial ATA 3.x, 10.5, Data; ACS-3, 7, the commands that move data).
-use Rattle.std.specs.Prelude.{◌≡◌, ◌⊎◌, ℕ, true, List, [], ◌∷◌, drop, Some}
-use Rattle.std.specs.List.{Contains}
+use Rattle.std.specs.{Prelude.{◌≡◌, ◌⊎◌, ℕ, true, List, [], ◌∷◌, drop, Some}, List.Contains}
 use Rattle.fis_view.specs.Frames.{Stamped}
 use Rattle.ata_front.specs.declared.task.Page as own
 use Rattle.block_disk.specs.Laws.{Page}
 use Rattle.disk_pages.specs.declared.profile.Profile.{Profile}
-use Rattle.sata_disk.specs.Pages.{IsPage}
-use Rattle.sata_disk.specs.State.{DiskState, new_disk}
+use Rattle.sata_disk.specs.{Pages.IsPage, State.{DiskState, new_disk}}
 use Rattle.sata_disk.specs.declared.out.Out.TheVariants as out
 use Rattle.sata_disk_books.specs.Books.{AreNext, IsAskedFor, page_in}
-use Rattle.sata_disk_laws.specs.Calls.{AreCalls, Call}
-use Rattle.sata_disk_laws.specs.Laws.{reached}
-use Rattle.ahci_machine.specs.States.{MachineState, bay_at}
+use Rattle.sata_disk_laws.specs.{Calls.{AreCalls, Call}, Laws.reached}
+use Rattle.ahci_machine.specs.{States.{MachineState, bay_at}, declared.bay.Unit.TheVariants.Disk}
 use Rattle.ahci_machine.specs.declared.act.Act.TheVariants as act
-use Rattle.ahci_machine.specs.declared.bay.Unit.TheVariants.{Disk}
-use Rattle.machine_laws.specs.ControllerLaws.{RunsRuled}
-use Rattle.machine_laws.specs.Deeds.{Deed, Does, Moved, FrameOffered}
-use Rattle.machine_laws.specs.Rising.{is_multiplier, sent_by}
+use Rattle.machine_laws.specs.{ControllerLaws.RunsRuled, Deeds.{Deed, Does, Moved, FrameOffered}, Rising.{is_multiplier, sent_by}}
 
 -- By these calls of a new disk: its host asked for the command that was taken last at a place, and the bytes are the next ones of those that
 -- the caller gave for the sectors of this command.

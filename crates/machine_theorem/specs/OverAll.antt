@@ -7,33 +7,19 @@ use Rattle.std.specs.Prelude.{ℕ, ◌≡◌, ◌⊎◌, ◌<◌, ◌≤◌, ◌
 use Rattle.std.proofs.Common.{refl, subst, sym}
 use Rattle.fis_view.specs.Frames.{Stamped}
 use Rattle.slots.specs.Slots.{Issue}
-use Rattle.block_command.specs.Laws.{IsEarned}
-use Rattle.block_command.specs.Moments.{is_verify}
+use Rattle.block_command.specs.{Laws.IsEarned, Moments.is_verify}
 use Rattle.block_disk.specs.Laws.{Page}
 use Rattle.ata_reply.specs.declared.reply.Reply.TheVariants as replies
 use Rattle.disk_pages.specs.declared.profile.Profile.{Profile}
-use Rattle.sata_disk.specs.State.{commands, is_taken, new_disk}
-use Rattle.sata_disk.specs.declared.out.Out.{Out}
+use Rattle.sata_disk.specs.{State.{commands, is_taken, new_disk}, declared.out.Out.Out}
 use Rattle.sata_disk.specs.declared.out.Out.TheVariants as out
 use Rattle.sata_disk_books.specs.Books.{page_in}
-use Rattle.sata_disk_laws.specs.Calls.{AreCalls, Call, Sends}
-use Rattle.sata_disk_laws.specs.Laws.{reached}
-use Rattle.sata_disk_laws.specs.Once.{host_of, new_host}
-use Rattle.sata_disk_media.specs.Cells.{covers, sector_of}
-use Rattle.sata_disk_media.specs.Laws.{EndsWell, next_data}
-use Rattle.sata_disk_media.specs.Media.{IsHonest}
-use Rattle.sata_disk_media.specs.Settled.{IsSettled}
-use Rattle.ahci_machine.specs.States.{MachineState, bay_at}
+use Rattle.sata_disk_laws.specs.{Calls.{AreCalls, Call, Sends}, Laws.reached, Once.{host_of, new_host}}
+use Rattle.sata_disk_media.specs.{Cells.{covers, sector_of}, Laws.{EndsWell, next_data}, Media.IsHonest, Settled.IsSettled}
+use Rattle.ahci_machine.specs.{States.{MachineState, bay_at}, declared.bay.Unit.TheVariants.Disk}
 use Rattle.ahci_machine.specs.declared.act.Act.TheVariants as act
-use Rattle.ahci_machine.specs.declared.bay.Unit.TheVariants.{Disk}
-use Rattle.machine_laws.specs.ControllerLaws.{RunsRuled}
-use Rattle.machine_laws.specs.Deeds.{Deed, Does, Moved}
-use Rattle.machine_laws.specs.Disks.{is_removed}
-use Rattle.machine_theorem.specs.Completions.{IsDone}
-use Rattle.machine_theorem.specs.Identity.{calls_of}
-use Rattle.machine_theorem.specs.InTurn.{IsIdle}
-use Rattle.machine_theorem.specs.ReadBack.{IsUntouched}
-use Rattle.machine_theorem.specs.Singles.{IsDoneSingle}
+use Rattle.machine_laws.specs.{ControllerLaws.RunsRuled, Deeds.{Deed, Does, Moved}, Disks.is_removed}
+use Rattle.machine_theorem.specs.{Completions.IsDone, Identity.calls_of, InTurn.IsIdle, ReadBack.IsUntouched, Singles.IsDoneSingle}
 
 -- ---- what a disk says
 

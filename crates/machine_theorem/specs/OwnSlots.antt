@@ -1,33 +1,24 @@
 -- The Data of a queued read go to its own slot: the slot that takes them is their place at the disk, and the number of the first byte is that of the bytes
 -- which the disk had sent before (AHCI 1.3.1, 5.3.13 and 9.3; Serial ATA 3.x, 10.5, DMA Setup and Data, and 13.6, native command queuing). So it is over
 -- each stretch of a run that begins while nothing is set up, and in which the connection lasts and no FIS of the disk is lost or at fault.
-use Rattle.std.specs.Prelude.{ℕ, ◌≡◌, ◌<◌, ◌==◌, ◌&&◌, Bool, true, false, List, [], ◌∷◌, ◌++◌, length, drop, Some, None}
-use Rattle.std.specs.List.{Contains}
+use Rattle.std.specs.{Prelude.{ℕ, ◌≡◌, ◌<◌, ◌==◌, ◌&&◌, Bool, true, false, List, [], ◌∷◌, ◌++◌, length, drop, Some, None}, List.Contains}
 use Rattle.fis_view.specs.Frames.{Stamped}
-use Rattle.slots.specs.Slots.{Issue, context_of, issue_at}
-use Rattle.slots.specs.declared.work.Kind.TheVariants.{QueuedRead}
-use Rattle.hba_fbs.specs.Taking.{port_of}
-use Rattle.hba_fbs.specs.declared.report.Wrote.{Wrote}
-use Rattle.ahci_controller.specs.Taking.{is_overflow}
-use Rattle.ahci_controller.specs.declared.taking.Took.{Took}
-use Rattle.controller_laws.specs.Carrying.{Carrying, carrying_after}
+use Rattle.slots.specs.{Slots.{Issue, context_of, issue_at}, declared.work.Kind.TheVariants.QueuedRead}
+use Rattle.hba_fbs.specs.{Taking.port_of, declared.report.Wrote.Wrote}
+use Rattle.ahci_controller.specs.{Taking.is_overflow, declared.taking.Took.Took}
+use Rattle.controller_laws.specs.{Carrying.{Carrying, carrying_after}, Events.Event}
 use Rattle.controller_laws.specs.Events as call
-use Rattle.controller_laws.specs.Events.{Event}
 use Rattle.block_disk.specs.Laws.{Page}
 use Rattle.disk_pages.specs.declared.profile.Profile.{Profile}
 use Rattle.sata_disk.specs.State.{DiskState, new_disk}
 use Rattle.sata_disk.specs.declared.out.Out.TheVariants as out
 use Rattle.sata_disk_books.specs.Books.{AreNext, page_in}
-use Rattle.sata_disk_laws.specs.Calls.{AreCalls, Call}
-use Rattle.sata_disk_laws.specs.Laws.{reached}
-use Rattle.ahci_machine.specs.States.{IsOpeningMachine, MachineState, bay_at}
+use Rattle.sata_disk_laws.specs.{Calls.{AreCalls, Call}, Laws.reached}
+use Rattle.ahci_machine.specs.{States.{IsOpeningMachine, MachineState, bay_at}, declared.bay.Unit.TheVariants.Disk}
 use Rattle.ahci_machine.specs.declared.act.Act.TheVariants as act
-use Rattle.ahci_machine.specs.declared.bay.Unit.TheVariants.{Disk}
-use Rattle.machine_laws.specs.ControllerLaws.{ControllerRuns, RunsRuled, calls_in}
-use Rattle.machine_laws.specs.Deeds.{Deed, Does, Moved}
-use Rattle.machine_laws.specs.Rising.{came_by, is_over, is_reset, on_way, sent_by}
-use Rattle.machine_theorem.specs.Identity.{IsThere, calls_of, is_left}
-use Rattle.machine_theorem.specs.Following.{AllHeardWell}
+use Rattle.machine_laws.specs.{ControllerLaws.{ControllerRuns, RunsRuled, calls_in}, Deeds.{Deed, Does, Moved}, Rising.{came_by, is_over, is_reset}}
+use Rattle.machine_laws.specs.Rising.{on_way, sent_by}
+use Rattle.machine_theorem.specs.{Identity.{IsThere, calls_of, is_left}, Following.AllHeardWell}
 
 -- a FIS is of a connection of a port
 abbrev pub is_of : (n c : ℕ) → Stamped → Bool

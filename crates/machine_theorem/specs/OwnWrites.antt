@@ -3,30 +3,21 @@
 -- each stretch of a run that begins while nothing is set up, in which the connection lasts, no FIS of the disk is lost or at fault, and the disk serves
 -- queued commands alone.
 use Rattle.std.specs.Prelude.{ℕ, ◌≡◌, ◌<◌, ◌==◌, Bool, true, List, [], ◌∷◌, ◌++◌, Some, Ok}
-use Rattle.fis_view.specs.Frames.{Stamped}
-use Rattle.fis_view.specs.Seen.{seen}
+use Rattle.fis_view.specs.{Frames.Stamped, Seen.seen}
 use Rattle.fis_view.specs.declared.view.Fis.TheVariants as view
-use Rattle.ahci_controller.specs.declared.feeding.Fed.TheVariants.{Goes}
-use Rattle.ahci_controller.specs.declared.latch.Edge.{Edge}
+use Rattle.ahci_controller.specs.declared.{feeding.Fed.TheVariants.Goes, latch.Edge.Edge}
 use Rattle.block_queue.specs.Line.{command_at}
 use Rattle.controller_laws.specs.Events as call
 use Rattle.controller_laws.specs.Events.{Event}
 use Rattle.disk_pages.specs.declared.profile.Profile.{Profile}
-use Rattle.sata_disk.specs.Hearing.{receives}
-use Rattle.sata_disk.specs.State.{commands, new_disk}
+use Rattle.sata_disk.specs.{Hearing.receives, State.{commands, new_disk}}
 use Rattle.sata_disk_books.specs.InTurn.{AreOfQueue, AwaitsNone}
-use Rattle.sata_disk_laws.specs.Calls.{AreCalls, Call}
-use Rattle.sata_disk_laws.specs.Laws.{reached}
-use Rattle.ahci_machine.specs.Gathers.{host_stamp}
-use Rattle.ahci_machine.specs.States.{IsOpeningMachine, MachineState, bay_at}
+use Rattle.sata_disk_laws.specs.{Calls.{AreCalls, Call}, Laws.reached}
+use Rattle.ahci_machine.specs.{Gathers.host_stamp, States.{IsOpeningMachine, MachineState, bay_at}}
 use Rattle.ahci_machine.specs.declared.act.Act.TheVariants as act
-use Rattle.machine_laws.specs.ControllerLaws.{RunsRuled, calls_in}
-use Rattle.machine_laws.specs.Deeds.{Deed, Does, Moved}
-use Rattle.machine_laws.specs.Falling.{AllLast, HasLink, leaving, way_to}
-use Rattle.machine_theorem.specs.Brought.{AllTakenWell}
-use Rattle.machine_theorem.specs.Crossing.{GoToPlace}
-use Rattle.machine_theorem.specs.Identity.{calls_of, heard_as, is_for}
-use Rattle.machine_theorem.specs.OwnSlots.{AllKeepLine, BeginsClear, NoneLost}
+use Rattle.machine_laws.specs.{ControllerLaws.{RunsRuled, calls_in}, Deeds.{Deed, Does, Moved}, Falling.{AllLast, HasLink, leaving, way_to}}
+use Rattle.machine_theorem.specs.{Brought.AllTakenWell, Crossing.GoToPlace, Identity.{calls_of, heard_as, is_for}, OwnSlots.AllKeepLine}
+use Rattle.machine_theorem.specs.OwnSlots.{BeginsClear, NoneLost}
 
 -- ---- a stretch
 

@@ -7,19 +7,14 @@ use Rattle.multiplier.specs.State.{pm_port}
 use Rattle.block_command.specs.Laws.{Ledger}
 use Rattle.guest_fetch.specs.declared.moves.Move.{Move}
 use Rattle.ahci_controller.specs.declared.next.Next.TheVariants as next
-use Rattle.ahci_controller.specs.declared.taking.Took.{Took}
+use Rattle.ahci_controller.specs.{declared.taking.Took.Took, Taking.hindrance}
 use Rattle.hba_fbs.specs.declared.report.Wrote.{Wrote}
-use Rattle.ahci_controller.specs.Taking.{hindrance}
-use Rattle.controller_laws.specs.Carrying.{AreNumbered, Carrying, IsOwnData, IsSaid, carrying_after, first_of, placed_of, said_of}
-use Rattle.controller_laws.specs.Places.{IsPlaced}
+use Rattle.controller_laws.specs.{Carrying.{AreNumbered, Carrying, IsOwnData, IsSaid, carrying_after, first_of, placed_of, said_of}, Places.IsPlaced}
 use Rattle.controller_laws.specs.Sources.{Source, command_of, no_sources, sources_after, unmoved}
 use Rattle.sata_disk_books.specs.Books.{AreNext}
-use Rattle.ahci_machine.specs.Registers.{lent_bytes, part_of}
-use Rattle.ahci_machine.specs.States.{HasRules, IsOpeningMachine, MachineState}
+use Rattle.ahci_machine.specs.{Registers.{lent_bytes, part_of}, States.{HasRules, IsOpeningMachine, MachineState}}
 use Rattle.ahci_machine.specs.declared.act.Act.TheVariants as act
-use Rattle.machine_laws.specs.ControllerLaws.{ControllerRuns, RunsRuled, calls_in}
-use Rattle.machine_laws.specs.Deeds.{Deed, Does, Moved}
-use Rattle.machine_laws.specs.Rising.{is_multiplier}
+use Rattle.machine_laws.specs.{ControllerLaws.{ControllerRuns, RunsRuled, calls_in}, Deeds.{Deed, Does, Moved}, Rising.is_multiplier}
 use Rattle.machine_theorem.specs.Origins.{IsSentIn}
 
 -- The bytes of the FIS have the offsets in the command that the controller told of as it took the FIS, in order.

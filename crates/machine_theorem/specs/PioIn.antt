@@ -7,31 +7,20 @@ use Rattle.std.specs.Prelude.{ℕ, ◌≡◌, ◌<◌, Bool, true, false, List, 
 use Rattle.fis_view.specs.Frames.{Stamped}
 use Rattle.slots.specs.Slots.{Issue, context_of, has_bit, is_pio, is_queued_issue, issue_at}
 use Rattle.ahci_registers.specs.declared.register.Register.TheVariants.{PxCi, PxSact}
-use Rattle.ahci_controller.specs.Reading.{shown}
-use Rattle.ahci_controller.specs.States.{ControllerState}
-use Rattle.ahci_controller.specs.declared.taking.Took.{Took}
+use Rattle.ahci_controller.specs.{Reading.shown, States.ControllerState, declared.taking.Took.Took}
 use Rattle.controller_laws.specs.Events.{Event, Runs}
 use Rattle.ata_reply.specs.declared.reply.Reply.TheVariants as replies
 use Rattle.disk_pages.specs.declared.profile.Profile.{Profile}
-use Rattle.sata_disk.specs.State.{new_disk}
-use Rattle.sata_disk.specs.declared.out.Out.{Out}
+use Rattle.sata_disk.specs.{State.new_disk, declared.out.Out.Out}
 use Rattle.sata_disk.specs.declared.out.Out.TheVariants as out
-use Rattle.sata_disk_laws.specs.Calls.{AreCalls, Call}
-use Rattle.sata_disk_laws.specs.Laws.{reached}
-use Rattle.sata_disk_laws.specs.Once.{ForLast, host_of, new_host}
+use Rattle.sata_disk_laws.specs.{Calls.{AreCalls, Call}, Laws.reached, Once.{ForLast, host_of, new_host}}
 use Rattle.ahci_machine.specs.States.{HasRules, IsOpeningMachine, MachineState}
 use Rattle.ahci_machine.specs.declared.act.Act.TheVariants as act
-use Rattle.machine_laws.specs.ControllerLaws.{ControllerRuns, RunsRuled, calls_in}
-use Rattle.machine_laws.specs.Deeds.{Deed, Does, Moved}
-use Rattle.machine_laws.specs.Falling.{AllLast, HasLink}
+use Rattle.machine_laws.specs.{ControllerLaws.{ControllerRuns, RunsRuled, calls_in}, Deeds.{Deed, Does, Moved}, Falling.{AllLast, HasLink}}
 use Rattle.machine_laws.specs.Rising.{sent_by}
-use Rattle.machine_theorem.specs.Ending.{AllKeepEnding, AllUnqueued}
-use Rattle.machine_theorem.specs.Identity.{calls_of}
-use Rattle.machine_theorem.specs.InTurn.{AreKeptOn, IsIdle, heard_in, is_answer, is_answering}
-use Rattle.machine_theorem.specs.OwnSlots.{AllKeepLine, is_of}
-use Rattle.machine_theorem.specs.Settled.{IsSettledLast, IsUnsettled, IsWholeInTurn, is_data}
-use Rattle.machine_theorem.specs.Singles.{AllOfDevice, BeginsIdle, IsFromSlot, IsSlots}
-use Rattle.machine_theorem.specs.Transfers.{is_transferring}
+use Rattle.machine_theorem.specs.{Ending.{AllKeepEnding, AllUnqueued}, Identity.calls_of, InTurn.{AreKeptOn, IsIdle, heard_in, is_answer}}
+use Rattle.machine_theorem.specs.{InTurn.is_answering, OwnSlots.{AllKeepLine, is_of}, Settled.{IsSettledLast, IsUnsettled, IsWholeInTurn, is_data}}
+use Rattle.machine_theorem.specs.{Singles.{AllOfDevice, BeginsIdle, IsFromSlot, IsSlots}, Transfers.is_transferring}
 
 -- ---- the command whose bit falls
 

@@ -2,31 +2,19 @@
 -- which the guest had supplied for the slot; it is the one of its number that the caller gave for its sectors, and was written at its place (AHCI 1.3.1,
 -- 3.3.13, PxSACT, and 5.3.13; Serial ATA 3.x, 13.6, native command queuing; ACS-3, 4, protocols).
 use Rattle.std.specs.Prelude.{ℕ, ◌≡◌, ◌<◌, ◌&&◌, Bool, true, false, not, List, [], ◌∷◌, ◌++◌, slice_get, Some, Result, Ok}
-use Rattle.fis_view.specs.Frames.{Stamped}
-use Rattle.fis_view.specs.Seen.{seen}
-use Rattle.fis_view.specs.Table.{H2d, Command, field}
-use Rattle.fis_view.specs.declared.view.Fis.{Fis}
+use Rattle.fis_view.specs.{Frames.Stamped, Seen.seen, Table.{H2d, Command, field}, declared.view.{Fis.Fis, FisFault.FisFault}}
 use Rattle.fis_view.specs.declared.view.Fis.TheVariants as view
-use Rattle.fis_view.specs.declared.view.FisFault.{FisFault}
 use Rattle.slots.specs.Slots.{Issue}
 use Rattle.controller_laws.specs.Events as call
 use Rattle.controller_laws.specs.Sources.{command_of, unmoved}
-use Rattle.sata_disk.specs.Hearing.{is_command}
-use Rattle.sata_disk.specs.State.{new_disk}
+use Rattle.sata_disk.specs.{Hearing.is_command, State.new_disk}
 use Rattle.sata_disk.specs.declared.out.Out.TheVariants as out
-use Rattle.sata_disk_laws.specs.Calls.{AreCalls}
-use Rattle.sata_disk_laws.specs.Laws.{reached}
-use Rattle.sata_disk_laws.specs.Once.{host_of, is_queued_code, new_host}
+use Rattle.sata_disk_laws.specs.{Calls.AreCalls, Laws.reached, Once.{host_of, is_queued_code, new_host}}
 use Rattle.ahci_machine.specs.States.{IsOpeningMachine, MachineState}
 use Rattle.ahci_machine.specs.declared.act.Act.TheVariants as act
-use Rattle.machine_laws.specs.ControllerLaws.{RunsRuled, calls_in}
-use Rattle.machine_laws.specs.Deeds.{Deed, Does, Moved}
-use Rattle.machine_laws.specs.Falling.{AllLast, HasLink, sent_in}
-use Rattle.machine_laws.specs.Rising.{sent_by}
-use Rattle.machine_theorem.specs.Brought.{AllTakenWell, ByteIsBrought, DiskStretch, IsItsByte, IsReadDone}
-use Rattle.machine_theorem.specs.Identity.{AllKeep, IsAtRest, heard_as, is_for, own_of}
-use Rattle.machine_theorem.specs.OwnSlots.{AllKeepLine, BeginsClear, NoneLost}
-use Rattle.machine_theorem.specs.ReadsWritten.{IsWritten}
+use Rattle.machine_laws.specs.{ControllerLaws.{RunsRuled, calls_in}, Deeds.{Deed, Does, Moved}, Falling.{AllLast, HasLink, sent_in}, Rising.sent_by}
+use Rattle.machine_theorem.specs.{Brought.{AllTakenWell, ByteIsBrought, DiskStretch, IsItsByte, IsReadDone}, Identity.{AllKeep, IsAtRest, heard_as}}
+use Rattle.machine_theorem.specs.{Identity.{is_for, own_of}, OwnSlots.{AllKeepLine, BeginsClear, NoneLost}, ReadsWritten.IsWritten}
 
 -- ---- the guest
 

@@ -2,39 +2,23 @@
 -- it takes each command that it hears. So what it takes for a queued write is what the caller had supplied for the slot of its tag, each byte at its number
 -- (AHCI 1.3.1, 4.2.3.3 and 5.3; Serial ATA 3.x, 10.5, Data, and 13.6, native command queuing; ACS-3, 4, protocols).
 use Rattle.std.specs.Prelude.{ℕ, ◌≡◌, ◌<◌, Bool, true, List, [], ◌∷◌, ◌++◌, drop, Some, Result, Ok}
-use Rattle.fis_view.specs.Frames.{Stamped}
-use Rattle.fis_view.specs.Seen.{seen}
-use Rattle.fis_view.specs.declared.view.Fis.{Fis}
+use Rattle.fis_view.specs.{Frames.Stamped, Seen.seen, declared.view.{Fis.Fis, FisFault.FisFault}}
 use Rattle.fis_view.specs.declared.view.Fis.TheVariants as view
-use Rattle.fis_view.specs.declared.view.FisFault.{FisFault}
-use Rattle.slots.specs.Slots.{Issue, is_queued_issue, issue_at}
-use Rattle.slots.specs.declared.work.Kind.TheVariants.{QueuedWrite}
+use Rattle.slots.specs.{Slots.{Issue, is_queued_issue, issue_at}, declared.work.Kind.TheVariants.QueuedWrite}
 use Rattle.hba_fbs.specs.declared.turn.Turn.TheVariants.{Feeds}
-use Rattle.ahci_controller.specs.Next.{turn_to}
-use Rattle.ahci_controller.specs.States.{ControllerState}
-use Rattle.ahci_controller.specs.declared.feeding.Fed.TheVariants.{Goes}
-use Rattle.ahci_controller.specs.declared.latch.Edge.{Edge}
+use Rattle.ahci_controller.specs.{Next.turn_to, States.ControllerState, declared.{feeding.Fed.TheVariants.Goes, latch.Edge.Edge}}
 use Rattle.ata_front.specs.declared.task.Act.TheVariants as front_act
 use Rattle.ata_front.specs.declared.task.Task.TheVariants.{Idle}
 use Rattle.block_command.specs.declared.command.Command.{Command}
 use Rattle.block_queue.specs.Line.{command_at}
-use Rattle.sata_disk.specs.Hearing.{receives, register_told}
-use Rattle.sata_disk.specs.State.{DiskState, commands, new_disk}
+use Rattle.sata_disk.specs.{Hearing.{receives, register_told}, State.{DiskState, commands, new_disk}}
 use Rattle.sata_disk_books.specs.InTurn.{AreOfQueue, AwaitsNone}
-use Rattle.sata_disk_laws.specs.Calls.{AreCalls, Call, Hears, Plugs, after_call}
-use Rattle.sata_disk_laws.specs.Laws.{reached}
+use Rattle.sata_disk_laws.specs.{Calls.{AreCalls, Call, Hears, Plugs, after_call}, Laws.reached}
 use Rattle.ahci_machine.specs.States.{IsOpeningMachine, MachineState, bay_at}
 use Rattle.ahci_machine.specs.declared.act.Act.TheVariants as act
-use Rattle.machine_laws.specs.ControllerLaws.{RunsRuled, calls_in}
-use Rattle.machine_laws.specs.Deeds.{Deed, Does, Moved}
-use Rattle.machine_laws.specs.Falling.{AllLast, HasLink}
-use Rattle.machine_laws.specs.Feeding.{came_in}
-use Rattle.machine_theorem.specs.Brought.{AllTakenWell, DiskStretch}
-use Rattle.machine_theorem.specs.Crossing.{IsForPlace}
-use Rattle.machine_theorem.specs.Identity.{AllKeep, IsAtRest, calls_of}
-use Rattle.machine_theorem.specs.OwnSlots.{AllKeepLine, BeginsClear, NoneLost}
-use Rattle.machine_theorem.specs.OwnWrites.{AreOwnData}
-use Rattle.machine_theorem.specs.QueuedOnly.{SendsQueued}
+use Rattle.machine_laws.specs.{ControllerLaws.{RunsRuled, calls_in}, Deeds.{Deed, Does, Moved}, Falling.{AllLast, HasLink}, Feeding.came_in}
+use Rattle.machine_theorem.specs.{Brought.{AllTakenWell, DiskStretch}, Crossing.IsForPlace, Identity.{AllKeep, IsAtRest, calls_of}}
+use Rattle.machine_theorem.specs.{OwnSlots.{AllKeepLine, BeginsClear, NoneLost}, OwnWrites.AreOwnData, QueuedOnly.SendsQueued}
 use Rattle.machine_theorem.specs.TakenWrites.{IsSuppliedWrite}
 
 -- ---- the guest

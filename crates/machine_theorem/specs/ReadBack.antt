@@ -4,40 +4,25 @@
 -- standard (Identity) and no FIS of the disk is lost or at fault (OwnSlots), if the medium gives what it was last told to keep (`sata_disk_media`).
 use Rattle.std.specs.Prelude.{ℕ, zero, suc, ◌≡◌, ◌⊎◌, ◌<◌, Bool, true, false, List, [], ◌∷◌, ◌++◌, drop, Some}
 use Rattle.fis_view.specs.Frames.{Stamped}
-use Rattle.slots.specs.Slots.{Issue, has_bit, issue_at}
-use Rattle.slots.specs.declared.work.Kind.TheVariants.{QueuedRead}
+use Rattle.slots.specs.{Slots.{Issue, has_bit, issue_at}, declared.work.Kind.TheVariants.QueuedRead}
 use Rattle.ahci_registers.specs.declared.register.Register.TheVariants.{PxSact}
-use Rattle.hba_fbs.specs.Taking.{port_of}
-use Rattle.hba_fbs.specs.declared.report.Wrote.{Wrote}
-use Rattle.ahci_controller.specs.Reading.{shown}
-use Rattle.ahci_controller.specs.Taking.{is_overflow}
-use Rattle.ahci_controller.specs.declared.taking.Took.{Took}
+use Rattle.hba_fbs.specs.{Taking.port_of, declared.report.Wrote.Wrote}
+use Rattle.ahci_controller.specs.{Reading.shown, Taking.is_overflow, declared.taking.Took.Took}
 use Rattle.controller_laws.specs.Events.{Event}
 use Rattle.block_disk.specs.Laws.{Page}
 use Rattle.disk_pages.specs.declared.profile.Profile.{Profile}
 use Rattle.sata_disk.specs.State.{new_disk}
 use Rattle.sata_disk.specs.declared.out.Out.TheVariants as out
 use Rattle.sata_disk_books.specs.Books.{page_in}
-use Rattle.sata_disk_laws.specs.Calls.{AreCalls, Call, Sends}
-use Rattle.sata_disk_laws.specs.Laws.{reached}
-use Rattle.sata_disk_media.specs.Cells.{covers, sector_of}
-use Rattle.sata_disk_media.specs.Laws.{AreSparing, HasSector, IsUndisturbed, sector_in}
-use Rattle.sata_disk_media.specs.Media.{IsHonest}
+use Rattle.sata_disk_laws.specs.{Calls.{AreCalls, Call, Sends}, Laws.reached}
+use Rattle.sata_disk_media.specs.{Cells.{covers, sector_of}, Laws.{AreSparing, HasSector, IsUndisturbed, sector_in}, Media.IsHonest}
 use Rattle.ahci_machine.specs.States.{IsOpeningMachine, MachineState}
 use Rattle.ahci_machine.specs.declared.act.Act.TheVariants as act
-use Rattle.machine_laws.specs.ControllerLaws.{ControllerRuns, RunsRuled, calls_in}
-use Rattle.machine_laws.specs.Deeds.{Deed, Does, Moved}
-use Rattle.machine_laws.specs.Falling.{AllLast, HasLink}
+use Rattle.machine_laws.specs.{ControllerLaws.{ControllerRuns, RunsRuled, calls_in}, Deeds.{Deed, Does, Moved}, Falling.{AllLast, HasLink}}
 use Rattle.machine_laws.specs.Heard.{life_in, no_life}
-use Rattle.machine_theorem.specs.Commands.{IsOfSlot, issues_in}
-use Rattle.machine_theorem.specs.Completions.{IsDone}
-use Rattle.machine_theorem.specs.FirstDeeds.{AtSome, first_deeds, first_run, machine_at}
-use Rattle.machine_theorem.specs.Following.{AllHeardWell}
-use Rattle.machine_theorem.specs.Identity.{AllKeep, IsAtRest, calls_of, own_of}
-use Rattle.machine_theorem.specs.Orders.{standing_in}
-use Rattle.machine_theorem.specs.OwnSlots.{AllKeepLine, BeginsClear, NoneLost, is_of}
-use Rattle.machine_theorem.specs.Reads.{IsBroughtAsRead}
-use Rattle.machine_theorem.specs.Writes.{AreSupplied}
+use Rattle.machine_theorem.specs.{Commands.{IsOfSlot, issues_in}, Completions.IsDone, FirstDeeds.{AtSome, first_deeds, first_run, machine_at}}
+use Rattle.machine_theorem.specs.{Following.AllHeardWell, Identity.{AllKeep, IsAtRest, calls_of, own_of}, Orders.standing_in, OwnSlots.AllKeepLine}
+use Rattle.machine_theorem.specs.{OwnSlots.{BeginsClear, NoneLost, is_of}, Reads.IsBroughtAsRead, Writes.AreSupplied}
 
 -- ---- what the guest sees
 

@@ -3,28 +3,20 @@
 -- to the standard (Identity), and in which no FIS of the disk is lost or at fault (OwnSlots).
 use Rattle.std.specs.Prelude.{ℕ, ◌≡◌, ◌<◌, Bool, true, false, List, ◌∷◌, [], ◌++◌, length, drop, Some}
 use Rattle.fis_view.specs.Frames.{Stamped}
-use Rattle.slots.specs.Slots.{Issue, issue_at}
-use Rattle.slots.specs.declared.work.Kind.TheVariants.{QueuedRead}
-use Rattle.hba_fbs.specs.Taking.{port_of}
-use Rattle.hba_fbs.specs.declared.report.Wrote.{Wrote}
-use Rattle.ahci_controller.specs.Taking.{is_overflow}
-use Rattle.ahci_controller.specs.declared.taking.Took.{Took}
+use Rattle.slots.specs.{Slots.{Issue, issue_at}, declared.work.Kind.TheVariants.QueuedRead}
+use Rattle.hba_fbs.specs.{Taking.port_of, declared.report.Wrote.Wrote}
+use Rattle.ahci_controller.specs.{Taking.is_overflow, declared.taking.Took.Took}
 use Rattle.disk_pages.specs.declared.profile.Profile.{Profile}
 use Rattle.sata_disk.specs.State.{new_disk}
 use Rattle.sata_disk.specs.declared.out.Out.TheVariants as out
 use Rattle.sata_disk_books.specs.Books.{AreNext}
-use Rattle.sata_disk_laws.specs.Calls.{AreCalls, Call}
-use Rattle.sata_disk_laws.specs.Laws.{reached}
+use Rattle.sata_disk_laws.specs.{Calls.{AreCalls, Call}, Laws.reached}
 use Rattle.ahci_machine.specs.States.{IsOpeningMachine, MachineState}
 use Rattle.ahci_machine.specs.declared.act.Act.TheVariants as act
-use Rattle.machine_laws.specs.ControllerLaws.{ControllerRuns, RunsRuled, calls_in}
-use Rattle.machine_laws.specs.Deeds.{Deed, Does, Moved}
-use Rattle.machine_laws.specs.Falling.{AllLast, HasLink}
+use Rattle.machine_laws.specs.{ControllerLaws.{ControllerRuns, RunsRuled, calls_in}, Deeds.{Deed, Does, Moved}, Falling.{AllLast, HasLink}}
 use Rattle.machine_laws.specs.Rising.{sent_by}
-use Rattle.machine_theorem.specs.Following.{AllHeardWell}
-use Rattle.machine_theorem.specs.Given.{IsGivenData}
-use Rattle.machine_theorem.specs.Identity.{AllKeep, IsAtRest}
-use Rattle.machine_theorem.specs.OwnSlots.{AllKeepLine, BeginsClear, NoneLost, is_of}
+use Rattle.machine_theorem.specs.{Following.AllHeardWell, Given.IsGivenData, Identity.{AllKeep, IsAtRest}, OwnSlots.{AllKeepLine, BeginsClear}}
+use Rattle.machine_theorem.specs.OwnSlots.{NoneLost, is_of}
 
 -- The disk at the port sent the FIS for a queued command, whose place is the slot. The command is the one that the guest had supplied for this slot, as it
 -- was issued there last. As many bytes of it were sent before as the number of the FIS's first byte in the slot's command, and the bytes are those that the

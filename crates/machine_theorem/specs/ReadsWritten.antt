@@ -1,18 +1,13 @@
 -- Each byte of a queued read that the guest sees completed was written before, at the place that the table of the slot's command names for it (AHCI 1.3.1,
 -- 3.3.13, PxSACT, 4.2.3.3, physical region descriptors, and 5.3.13, a port takes a FIS).
 use Rattle.std.specs.Prelude.{ℕ, ◌≡◌, ◌<◌, ◌-◌, Bool, List, [], ◌∷◌, ◌++◌, drop, slice_get, Some}
-use Rattle.guest_fetch.specs.Commands.{Fetched}
-use Rattle.guest_fetch.specs.Places.{named, place, single, singles}
-use Rattle.guest_fetch.specs.declared.moves.Move.{Move}
+use Rattle.guest_fetch.specs.{Commands.Fetched, Places.{named, place, single, singles}, declared.moves.Move.Move}
 use Rattle.slots.specs.Slots.{Issue}
 use Rattle.ahci_controller.specs.States.{kept}
-use Rattle.controller_laws.specs.Carrying.{moves_in, moves_said}
+use Rattle.controller_laws.specs.{Carrying.{moves_in, moves_said}, Events.Event, Sources.{Source, command_of, no_sources, sources_after, unmoved}}
 use Rattle.controller_laws.specs.Events as call
-use Rattle.controller_laws.specs.Events.{Event}
-use Rattle.controller_laws.specs.Sources.{Source, command_of, no_sources, sources_after, unmoved}
 use Rattle.ahci_machine.specs.States.{IsOpeningMachine, MachineState}
-use Rattle.machine_laws.specs.ControllerLaws.{ControllerRuns, RunsRuled, calls_in}
-use Rattle.machine_laws.specs.Deeds.{Deed}
+use Rattle.machine_laws.specs.{ControllerLaws.{ControllerRuns, RunsRuled, calls_in}, Deeds.Deed}
 use Rattle.machine_theorem.specs.Brought.{ByteIsBrought, IsReadDone}
 
 -- what the caller is told to write of payload by some calls, in order

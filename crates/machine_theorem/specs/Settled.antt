@@ -7,18 +7,11 @@ use Rattle.block_command.specs.declared.command.Command.{Command}
 use Rattle.block_disk.specs.Laws.{Page}
 use Rattle.ata_reply.specs.declared.reply.Reply.TheVariants as replies
 use Rattle.disk_pages.specs.declared.profile.Profile.{Profile}
-use Rattle.sata_disk.specs.Sending.{IsOut}
-use Rattle.sata_disk.specs.State.{new_disk}
-use Rattle.sata_disk.specs.declared.out.Out.{Out}
+use Rattle.sata_disk.specs.{Sending.IsOut, State.new_disk, declared.out.Out.Out}
 use Rattle.sata_disk.specs.declared.out.Out.TheVariants as out
-use Rattle.sata_disk_books.specs.Books.{IsAskedFor, page_in}
-use Rattle.sata_disk_books.specs.LastData.{IsReadWhole, sets_up_last}
-use Rattle.sata_disk_laws.specs.Calls.{AreCalls, Call, Hears, Sends}
-use Rattle.sata_disk_laws.specs.Laws.{reached}
-use Rattle.sata_disk_laws.specs.Once.{ForLast, ForNothing, Host, host_of, new_host}
-use Rattle.machine_theorem.specs.InTurn.{AreKeptOn, IsIdle, heard_in, is_answer, is_asking}
-use Rattle.machine_theorem.specs.Tags.{once_if}
-use Rattle.machine_theorem.specs.Transfers.{is_transferring}
+use Rattle.sata_disk_books.specs.{Books.{IsAskedFor, page_in}, LastData.{IsReadWhole, sets_up_last}}
+use Rattle.sata_disk_laws.specs.{Calls.{AreCalls, Call, Hears, Sends}, Laws.reached, Once.{ForLast, ForNothing, Host, host_of, new_host}}
+use Rattle.machine_theorem.specs.{InTurn.{AreKeptOn, IsIdle, heard_in, is_answer, is_asking}, Tags.once_if, Transfers.is_transferring}
 
 -- ---- what is counted
 

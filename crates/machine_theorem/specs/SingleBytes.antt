@@ -8,28 +8,16 @@ use Rattle.slots.specs.Slots.{Issue, is_pio}
 use Rattle.controller_laws.specs.Events.{Runs}
 use Rattle.block_disk.specs.Laws.{Page}
 use Rattle.disk_pages.specs.declared.profile.Profile.{Profile}
-use Rattle.sata_disk.specs.Sending.{IsOut}
-use Rattle.sata_disk.specs.State.{new_disk}
-use Rattle.sata_disk.specs.declared.out.Out.{Out}
+use Rattle.sata_disk.specs.{Sending.IsOut, State.new_disk, declared.out.Out.Out}
 use Rattle.sata_disk.specs.declared.out.Out.TheVariants as out
 use Rattle.sata_disk_books.specs.Books.{AreNext, IsAskedFor, page_in}
-use Rattle.sata_disk_laws.specs.Calls.{AreCalls, Call}
-use Rattle.sata_disk_laws.specs.Laws.{reached}
-use Rattle.sata_disk_laws.specs.Once.{host_of, new_host}
+use Rattle.sata_disk_laws.specs.{Calls.{AreCalls, Call}, Laws.reached, Once.{host_of, new_host}}
 use Rattle.ahci_machine.specs.States.{IsOpeningMachine, MachineState}
 use Rattle.ahci_machine.specs.declared.act.Act.TheVariants as act
-use Rattle.machine_laws.specs.ControllerLaws.{RunsRuled}
-use Rattle.machine_laws.specs.Controllers.{deed_calls}
-use Rattle.machine_laws.specs.Deeds.{Deed, Does, Moved}
-use Rattle.machine_laws.specs.Falling.{AllLast, HasLink}
+use Rattle.machine_laws.specs.{ControllerLaws.RunsRuled, Controllers.deed_calls, Deeds.{Deed, Does, Moved}, Falling.{AllLast, HasLink}}
 use Rattle.machine_laws.specs.Rising.{sent_by}
-use Rattle.machine_theorem.specs.Brought.{DiskStretch}
-use Rattle.machine_theorem.specs.Identity.{calls_of}
-use Rattle.machine_theorem.specs.InTurn.{AreKeptOn, IsIdle, IsInTurn}
-use Rattle.machine_theorem.specs.OwnSlots.{AllKeepLine, is_of}
-use Rattle.machine_theorem.specs.SingleReads.{IsSingleDone, SingleIsBrought}
-use Rattle.machine_theorem.specs.Singles.{AllOfDevice, BeginsIdle, IsFromSlot}
-use Rattle.machine_theorem.specs.Waits.{AllPlain}
+use Rattle.machine_theorem.specs.{Brought.DiskStretch, Identity.calls_of, InTurn.{AreKeptOn, IsIdle, IsInTurn}, OwnSlots.{AllKeepLine, is_of}}
+use Rattle.machine_theorem.specs.{SingleReads.{IsSingleDone, SingleIsBrought}, Singles.{AllOfDevice, BeginsIdle, IsFromSlot}, Waits.AllPlain}
 
 -- ---- a disk alone
 

@@ -2,21 +2,14 @@
 -- that went since it was sent (AHCI 1.3.1, 5.3 and 9.3, what a port sends; Serial ATA 3.x, 10.5, DMA Activate, PIO Setup and Data; ACS-3, 4, DMA and PIO
 -- data-out protocols).
 use Rattle.std.specs.Prelude.{ℕ, ◌≡◌, ◌<◌, ◌≤◌, ◌+◌, ◌==◌, Bool, true, false, List, [], ◌∷◌, drop, length, is_some, Some, if◌then◌else◌}
-use Rattle.slots.specs.Slots.{Issue, is_queued_issue, issue_at}
-use Rattle.slots.specs.Work.{is_read}
-use Rattle.hba_fbs.specs.Views.{view_of}
-use Rattle.hba_fbs.specs.declared.turn.Turn.TheVariants.{Feeds}
-use Rattle.hba_laws.specs.Agreement.{IsTold}
-use Rattle.hba_laws.specs.History.{History}
-use Rattle.ahci_controller.specs.Next.{turn_to}
-use Rattle.ahci_controller.specs.States.{ControllerState}
-use Rattle.ahci_controller.specs.declared.feeding.Fed.TheVariants.{Goes}
-use Rattle.ahci_controller.specs.declared.latch.Edge.{Edge}
+use Rattle.slots.specs.{Slots.{Issue, is_queued_issue, issue_at}, Work.is_read}
+use Rattle.hba_fbs.specs.{Views.view_of, declared.turn.Turn.TheVariants.Feeds}
+use Rattle.hba_laws.specs.{Agreement.IsTold, History.History}
+use Rattle.ahci_controller.specs.{Next.turn_to, States.ControllerState, declared.{feeding.Fed.TheVariants.Goes, latch.Edge.Edge}}
 use Rattle.ahci_controller.specs.declared.next.Next.TheVariants as next
 use Rattle.controller_laws.specs.Events as call
 use Rattle.controller_laws.specs.Events.{Does, Event, Runs}
-use Rattle.machine_theorem.specs.Commands.{AreNotIssued}
-use Rattle.machine_theorem.specs.Waits.{is_commanded}
+use Rattle.machine_theorem.specs.{Commands.AreNotIssued, Waits.is_commanded}
 
 -- ---- what goes
 

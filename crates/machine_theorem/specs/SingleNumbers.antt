@@ -1,45 +1,27 @@
 -- The number of each byte of a READ DMA that the guest sees completed: byte k of the slot's command is byte k of those that the caller gave for the sectors of the
 -- disk's command. Nothing in a Data FIS says it; both sides count from the command on (Serial ATA 3.x, 10.5, Data; ACS-3, 4, DMA data-in protocol; AHCI 1.3.1,
 -- 5.3.13, a port takes a FIS).
-use Rattle.std.specs.Prelude.{ℕ, ◌≡◌, ◌<◌, ◌≤◌, ◌+◌, ◌-◌, ◌==◌, ◌&&◌, if◌then◌else◌, suc, Bool, true, false, List, [], ◌∷◌, ◌++◌, length, slice_get, Some, Result, Ok}
-use Rattle.fis_view.specs.Frames.{Stamped}
-use Rattle.fis_view.specs.Seen.{seen}
-use Rattle.fis_view.specs.Table.{H2d, Command, field}
-use Rattle.fis_view.specs.declared.view.Fis.{Fis}
+use Rattle.std.specs.Prelude.{ℕ, ◌≡◌, ◌<◌, ◌≤◌, ◌+◌, ◌-◌, ◌==◌, ◌&&◌, if◌then◌else◌, suc, Bool, true, false, List, [], ◌∷◌, ◌++◌, length, slice_get}
+use Rattle.std.specs.Prelude.{Some, Result, Ok}
+use Rattle.fis_view.specs.{Frames.Stamped, Seen.seen, Table.{H2d, Command, field}, declared.view.{Fis.Fis, FisFault.FisFault}}
 use Rattle.fis_view.specs.declared.view.Fis.TheVariants as view
-use Rattle.fis_view.specs.declared.view.FisFault.{FisFault}
 use Rattle.guest_fetch.specs.Commands.{Fetched}
 use Rattle.slots.specs.Slots.{Issue, is_pio}
-use Rattle.hba_fbs.specs.Taking.{port_of}
-use Rattle.hba_fbs.specs.declared.report.Wrote.{Wrote}
+use Rattle.hba_fbs.specs.{Taking.port_of, declared.report.Wrote.Wrote}
 use Rattle.controller_laws.specs.Events as call
-use Rattle.controller_laws.specs.Events.{Event}
-use Rattle.controller_laws.specs.Sources.{command_of, unmoved}
+use Rattle.controller_laws.specs.{Events.Event, Sources.{command_of, unmoved}}
 use Rattle.block_disk.specs.Laws.{Page}
 use Rattle.disk_pages.specs.declared.profile.Profile.{Profile}
-use Rattle.sata_disk.specs.Hearing.{is_command}
-use Rattle.sata_disk.specs.Sending.{IsOut}
-use Rattle.sata_disk.specs.State.{new_disk}
-use Rattle.sata_disk.specs.declared.out.Out.{Out}
+use Rattle.sata_disk.specs.{Hearing.is_command, Sending.IsOut, State.new_disk, declared.out.Out.Out}
 use Rattle.sata_disk.specs.declared.out.Out.TheVariants as out
-use Rattle.sata_disk_books.specs.Books.{page_in}
-use Rattle.sata_disk_books.specs.Fises.{AreFises}
-use Rattle.sata_disk_laws.specs.Calls.{AreCalls, Call, Hears}
-use Rattle.sata_disk_laws.specs.Laws.{reached}
-use Rattle.sata_disk_laws.specs.Once.{Host, host_of, is_queued_code, new_host}
+use Rattle.sata_disk_books.specs.{Books.page_in, Fises.AreFises}
+use Rattle.sata_disk_laws.specs.{Calls.{AreCalls, Call, Hears}, Laws.reached, Once.{Host, host_of, is_queued_code, new_host}}
 use Rattle.ahci_machine.specs.States.{IsOpeningMachine, MachineState}
 use Rattle.ahci_machine.specs.declared.act.Act.TheVariants as act
-use Rattle.machine_laws.specs.ControllerLaws.{RunsRuled, calls_in}
-use Rattle.machine_laws.specs.Deeds.{Deed, Does, Moved}
-use Rattle.machine_laws.specs.Falling.{AllLast, HasLink, sent_in}
-use Rattle.machine_laws.specs.Rising.{sent_by}
-use Rattle.machine_theorem.specs.Brought.{AllTakenWell, DiskStretch}
-use Rattle.machine_theorem.specs.Identity.{calls_of, heard_as, is_for}
-use Rattle.machine_theorem.specs.InTurn.{AreKeptOn, IsIdle, answered_in, heard_in}
-use Rattle.machine_theorem.specs.OwnSlots.{AllKeepLine, NoneLost, is_of}
-use Rattle.machine_theorem.specs.SingleBytes.{AllKeepPlain, IsSentFor}
-use Rattle.machine_theorem.specs.SingleReads.{IsSingleDone, IsWrittenThen, SingleIsBrought}
-use Rattle.machine_theorem.specs.Singles.{BeginsIdle}
+use Rattle.machine_laws.specs.{ControllerLaws.{RunsRuled, calls_in}, Deeds.{Deed, Does, Moved}, Falling.{AllLast, HasLink, sent_in}, Rising.sent_by}
+use Rattle.machine_theorem.specs.{Brought.{AllTakenWell, DiskStretch}, Identity.{calls_of, heard_as, is_for}, InTurn.{AreKeptOn, IsIdle, answered_in}}
+use Rattle.machine_theorem.specs.{InTurn.heard_in, OwnSlots.{AllKeepLine, NoneLost, is_of}, SingleBytes.{AllKeepPlain, IsSentFor}}
+use Rattle.machine_theorem.specs.{SingleReads.{IsSingleDone, IsWrittenThen, SingleIsBrought}, Singles.BeginsIdle}
 
 -- ---- what is counted
 

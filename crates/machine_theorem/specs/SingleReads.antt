@@ -2,32 +2,18 @@
 -- and it was written at the place that the table of the slot's command names for it (AHCI 1.3.1, 3.3.14, PxCI, 4.2.3.3, physical region descriptors, and
 -- 5.3.13, a port takes a FIS; Serial ATA 3.x, 10.5, Data, PIO Setup and Register Device to Host; ACS-3, 4, DMA and PIO data-in protocols).
 use Rattle.std.specs.Prelude.{ℕ, ◌≡◌, ◌⊎◌, ◌<◌, ◌≤◌, ◌-◌, ◌+◌, ◌==◌, ◌&&◌, Bool, true, false, not, List, ◌∷◌, ◌++◌, drop, length, slice_get, Some}
-use Rattle.guest_fetch.specs.Commands.{Fetched}
-use Rattle.guest_fetch.specs.Places.{named, place, single, singles}
-use Rattle.slots.specs.Bytes.{is_over}
-use Rattle.slots.specs.Slots.{Issue, has_bit, holds, is_pio, issue_at}
-use Rattle.slots.specs.Work.{is_queued, is_read}
-use Rattle.slots.specs.declared.work.Kind.{Kind}
+use Rattle.guest_fetch.specs.{Commands.Fetched, Places.{named, place, single, singles}}
+use Rattle.slots.specs.{Bytes.is_over, Slots.{Issue, has_bit, holds, is_pio, issue_at}, Work.{is_queued, is_read}, declared.work.Kind.Kind}
 use Rattle.ahci_registers.specs.declared.register.Register.TheVariants.{PxCi, PxSact}
-use Rattle.hba_fbs.specs.Taking.{port_of}
-use Rattle.hba_fbs.specs.Views.{view_of}
-use Rattle.hba_fbs.specs.declared.report.Wrote.{Wrote}
-use Rattle.hba_laws.specs.Agreement.{IsTold}
-use Rattle.hba_laws.specs.History.{History}
-use Rattle.ahci_controller.specs.Reading.{shown}
-use Rattle.ahci_controller.specs.States.{ControllerState, kept}
-use Rattle.ahci_controller.specs.Taking.{is_overflow}
-use Rattle.ahci_controller.specs.declared.taking.Took.{Took}
+use Rattle.hba_fbs.specs.{Taking.port_of, Views.view_of, declared.report.Wrote.Wrote}
+use Rattle.hba_laws.specs.{Agreement.IsTold, History.History}
+use Rattle.ahci_controller.specs.{Reading.shown, States.{ControllerState, kept}, Taking.is_overflow, declared.taking.Took.Took}
 use Rattle.controller_laws.specs.Events as call
-use Rattle.controller_laws.specs.Events.{Event, Runs, Takes}
-use Rattle.controller_laws.specs.Sources.{Source, command_of, no_sources, sources_after, unmoved}
+use Rattle.controller_laws.specs.{Events.{Event, Runs, Takes}, Sources.{Source, command_of, no_sources, sources_after, unmoved}}
 use Rattle.ahci_machine.specs.States.{HasRules, IsOpeningMachine, MachineState}
 use Rattle.ahci_machine.specs.declared.act.Act.TheVariants as act
-use Rattle.machine_laws.specs.ControllerLaws.{ControllerRuns, RunsRuled, calls_in}
-use Rattle.machine_laws.specs.Deeds.{Deed, Does, Moved}
-use Rattle.machine_theorem.specs.Commands.{AreNotIssued}
-use Rattle.machine_theorem.specs.Filled.{AreNotBrought, BringsNot}
-use Rattle.machine_theorem.specs.ReadsWritten.{NoneTaken, told_moves}
+use Rattle.machine_laws.specs.{ControllerLaws.{ControllerRuns, RunsRuled, calls_in}, Deeds.{Deed, Does, Moved}}
+use Rattle.machine_theorem.specs.{Commands.AreNotIssued, Filled.{AreNotBrought, BringsNot}, ReadsWritten.{NoneTaken, told_moves}}
 
 -- READ DMA, READ DMA EXT, and PIO data-in
 abbrev pub is_single_read : Kind → Bool

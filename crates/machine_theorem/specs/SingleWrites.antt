@@ -3,15 +3,10 @@
 -- and Register Device to Host; ACS-3, 4, DMA and PIO data-out protocols). So it is over each stretch of a run as in Singles.
 use Rattle.std.specs.Prelude.{ℕ, ◌≡◌, ◌<◌, ◌≤◌, ◌+◌, ◌==◌, Bool, true, false, List, [], ◌∷◌, ◌++◌, length, map, Some, if◌then◌else◌}
 use Rattle.fis_view.specs.Frames.{Stamped, marked}
-use Rattle.slots.specs.Slots.{Issue, has_bit, issue_at}
-use Rattle.slots.specs.Work.{is_read}
+use Rattle.slots.specs.{Slots.{Issue, has_bit, issue_at}, Work.is_read}
 use Rattle.ahci_registers.specs.declared.register.Register.TheVariants.{PxCi, PxSact}
-use Rattle.ahci_controller.specs.Reading.{shown}
-use Rattle.ahci_controller.specs.States.{ControllerState}
-use Rattle.ahci_controller.specs.declared.feeding.Fed.TheVariants.{Goes}
-use Rattle.ahci_controller.specs.declared.latch.Edge.{Edge}
+use Rattle.ahci_controller.specs.{Reading.shown, States.ControllerState, declared.{feeding.Fed.TheVariants.Goes, latch.Edge.Edge, taking.Took.Took}}
 use Rattle.ahci_controller.specs.declared.next.Next.TheVariants as next
-use Rattle.ahci_controller.specs.declared.taking.Took.{Took}
 use Rattle.ata_reply.specs.declared.reply.Reply.TheVariants as replies
 use Rattle.block_command.specs.Laws.{IsEarned}
 use Rattle.block_disk.specs.Laws.{Page}
@@ -21,26 +16,14 @@ use Rattle.disk_pages.specs.declared.profile.Profile.{Profile}
 use Rattle.sata_disk.specs.State.{new_disk}
 use Rattle.sata_disk.specs.declared.out.Out.TheVariants as out
 use Rattle.sata_disk_books.specs.Books.{IsAskedFor, page_in}
-use Rattle.sata_disk_laws.specs.Calls.{AreCalls, Call}
-use Rattle.sata_disk_laws.specs.Laws.{reached}
-use Rattle.sata_disk_laws.specs.Once.{host_of, new_host}
+use Rattle.sata_disk_laws.specs.{Calls.{AreCalls, Call}, Laws.reached, Once.{host_of, new_host}}
 use Rattle.ahci_machine.specs.States.{HasRules, IsOpeningMachine, MachineState}
 use Rattle.ahci_machine.specs.declared.act.Act.TheVariants as act
-use Rattle.machine_laws.specs.ControllerLaws.{RunsRuled, calls_in}
-use Rattle.machine_laws.specs.Controllers.{deed_calls}
-use Rattle.machine_laws.specs.Deeds.{Deed, Does, Moved, Wrote}
-use Rattle.machine_laws.specs.Falling.{AllLast, HasLink}
-use Rattle.machine_laws.specs.Feeding.{came_by, came_in, data_with}
-use Rattle.machine_theorem.specs.Commands.{AreNotIssued}
-use Rattle.machine_theorem.specs.Crossing.{Within}
-use Rattle.machine_theorem.specs.Identity.{calls_of}
-use Rattle.machine_theorem.specs.InTurn.{AreKeptOn, IsIdle}
-use Rattle.machine_theorem.specs.OwnSlots.{AllKeepLine, is_of}
-use Rattle.machine_theorem.specs.OwnWrites.{AreOwnData}
-use Rattle.machine_theorem.specs.SingleData.{GoesNext, went_in}
-use Rattle.machine_theorem.specs.Singles.{BeginsIdle, IsDoneSingle, IsFromSlot, IsOfDevice}
-use Rattle.machine_theorem.specs.Waits.{HasPlain, waits_in}
-use Rattle.machine_theorem.specs.Writes.{payloads}
+use Rattle.machine_laws.specs.{ControllerLaws.{RunsRuled, calls_in}, Controllers.deed_calls, Deeds.{Deed, Does, Moved, Wrote}, Falling.AllLast}
+use Rattle.machine_laws.specs.{Falling.HasLink, Feeding.{came_by, came_in, data_with}}
+use Rattle.machine_theorem.specs.{Commands.AreNotIssued, Crossing.Within, Identity.calls_of, InTurn.{AreKeptOn, IsIdle}, OwnSlots.AllKeepLine}
+use Rattle.machine_theorem.specs.{OwnSlots.is_of, OwnWrites.AreOwnData, SingleData.{GoesNext, went_in}, Singles.{BeginsIdle, IsDoneSingle}}
+use Rattle.machine_theorem.specs.{Singles.{IsFromSlot, IsOfDevice}, Waits.{HasPlain, waits_in}, Writes.payloads}
 
 -- ---- what the guest keeps to
 

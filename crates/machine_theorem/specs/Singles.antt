@@ -6,39 +6,25 @@ use Rattle.std.specs.Prelude.{ℕ, ◌≡◌, ◌<◌, ◌≤◌, Bool, true, fa
 use Rattle.fis_view.specs.Frames.{Stamped, marked}
 use Rattle.slots.specs.Slots.{Issue, has_bit, is_pio, is_queued_issue, issue_at}
 use Rattle.ahci_registers.specs.declared.register.Register.TheVariants.{PxCi, PxSact}
-use Rattle.ahci_controller.specs.Reading.{shown}
-use Rattle.ahci_controller.specs.States.{ControllerState}
+use Rattle.ahci_controller.specs.{Reading.shown, States.ControllerState, declared.taking.Took.Took}
 use Rattle.ahci_controller.specs.declared.next.Next.TheVariants as next
-use Rattle.ahci_controller.specs.declared.taking.Took.{Took}
 use Rattle.controller_laws.specs.Events as call
 use Rattle.controller_laws.specs.Events.{Event, Runs}
 use Rattle.block_command.specs.Laws.{IsEarned}
 use Rattle.block_disk.specs.Laws.{Page}
 use Rattle.ata_reply.specs.declared.reply.Reply.TheVariants as replies
 use Rattle.disk_pages.specs.declared.profile.Profile.{Profile}
-use Rattle.sata_disk.specs.State.{DiskState, new_disk}
-use Rattle.sata_disk.specs.declared.out.Out.{Out}
+use Rattle.sata_disk.specs.{State.{DiskState, new_disk}, declared.out.Out.Out}
 use Rattle.sata_disk.specs.declared.out.Out.TheVariants as out
 use Rattle.sata_disk_books.specs.Books.{IsAskedFor, page_in}
-use Rattle.sata_disk_laws.specs.Calls.{AreCalls, Call, Sends}
-use Rattle.sata_disk_laws.specs.Laws.{reached}
-use Rattle.sata_disk_laws.specs.Once.{host_of, new_host}
-use Rattle.ahci_machine.specs.Gathers.{host_stamp}
-use Rattle.ahci_machine.specs.States.{HasRules, IsOpeningMachine, MachineState, bay_at}
+use Rattle.sata_disk_laws.specs.{Calls.{AreCalls, Call, Sends}, Laws.reached, Once.{host_of, new_host}}
+use Rattle.ahci_machine.specs.{Gathers.host_stamp, States.{HasRules, IsOpeningMachine, MachineState, bay_at}, declared.bay.Unit.TheVariants.Disk}
 use Rattle.ahci_machine.specs.declared.act.Act.TheVariants as act
-use Rattle.ahci_machine.specs.declared.bay.Unit.TheVariants.{Disk}
-use Rattle.machine_laws.specs.ControllerLaws.{ControllerRuns, RunsRuled, calls_in}
-use Rattle.machine_laws.specs.Deeds.{Deed, Does, Moved}
-use Rattle.machine_laws.specs.Falling.{AllLast, HasLink, leaving, way_to}
-use Rattle.machine_laws.specs.Rising.{is_over, on_way, sent_by}
-use Rattle.machine_theorem.specs.Commands.{AreNotIssued, IsSentFrom}
-use Rattle.machine_theorem.specs.FirstDeeds.{first_deeds, first_run, machine_at}
-use Rattle.machine_theorem.specs.Given.{IsWhole}
-use Rattle.machine_theorem.specs.Identity.{calls_of, is_for}
-use Rattle.machine_theorem.specs.InTurn.{AreKeptOn, IsIdle, IsUnanswered, answered_in, heard_in, is_answer, is_answering, is_asking}
-use Rattle.machine_theorem.specs.OwnSlots.{AllKeepLine, is_of}
-use Rattle.machine_theorem.specs.Standing.{IsAsSupplied}
-use Rattle.machine_theorem.specs.Transfers.{is_transferring}
+use Rattle.machine_laws.specs.{ControllerLaws.{ControllerRuns, RunsRuled, calls_in}, Deeds.{Deed, Does, Moved}, Falling.{AllLast, HasLink, leaving}}
+use Rattle.machine_laws.specs.{Falling.way_to, Rising.{is_over, on_way, sent_by}}
+use Rattle.machine_theorem.specs.{Commands.{AreNotIssued, IsSentFrom}, FirstDeeds.{first_deeds, first_run, machine_at}, Given.IsWhole}
+use Rattle.machine_theorem.specs.{Identity.{calls_of, is_for}, InTurn.{AreKeptOn, IsIdle, IsUnanswered, answered_in, heard_in, is_answer}}
+use Rattle.machine_theorem.specs.{InTurn.{is_answering, is_asking}, OwnSlots.{AllKeepLine, is_of}, Standing.IsAsSupplied, Transfers.is_transferring}
 use Rattle.machine_theorem.specs.Waits.{AllKeepWaiting, AllPlain, is_commanded}
 
 -- ---- the beginning of a stretch

@@ -2,20 +2,14 @@
 -- queued command that of PxSACT, no other is issued there (AHCI 1.3.1, 3.3.13, PxSACT, 3.3.14, PxCI, and 5.3, a port fetches a command).
 use Rattle.std.specs.Prelude.{◌≡◌, ◌⊎◌, ◌<◌, ℕ, Bool, true, List, [], ◌∷◌, length, Some, None}
 use Rattle.slots.specs.Slots.{has_bit, holds, is_queued_issue, issue_at}
-use Rattle.ahci_registers.specs.declared.register.Register.{Register}
-use Rattle.ahci_registers.specs.declared.register.Register.TheVariants.{PxCi, PxSact}
-use Rattle.ahci_controller.specs.Reading.{shown}
-use Rattle.ahci_controller.specs.States.{ControllerState}
+use Rattle.ahci_registers.specs.declared.register.Register.{Register, TheVariants.{PxCi, PxSact}}
+use Rattle.ahci_controller.specs.{Reading.shown, States.ControllerState}
 use Rattle.block_command.specs.declared.command.Command.{Command}
-use Rattle.controller_laws.specs.Events.{Does as Calls, Event, IsController}
-use Rattle.controller_laws.specs.Sources.{Source, command_of, no_sources, sources_after}
+use Rattle.controller_laws.specs.{Events.{Does as Calls, Event, IsController}, Sources.{Source, command_of, no_sources, sources_after}}
 use Rattle.disk_pages.specs.declared.profile.Profile.{Profile}
 use Rattle.sata_disk_laws.specs.Calls.{Call}
 use Rattle.ahci_machine.specs.States.{IsOpeningMachine, MachineState}
-use Rattle.machine_laws.specs.ControllerLaws.{ControllerRuns, RunsRuled, calls_in}
-use Rattle.machine_laws.specs.Controllers.{deed_calls}
-use Rattle.machine_laws.specs.Deeds.{Deed, Does}
-use Rattle.machine_laws.specs.Feeding.{IsFisOf}
+use Rattle.machine_laws.specs.{ControllerLaws.{ControllerRuns, RunsRuled, calls_in}, Controllers.deed_calls, Deeds.{Deed, Does}, Feeding.IsFisOf}
 use Rattle.machine_theorem.specs.Commands.{AreNotIssued, IsOfSlot, issues_in}
 
 -- ---- a call that issues

@@ -6,28 +6,18 @@ use Rattle.std.specs.Prelude.{ℕ, ◌≡◌, ◌+◌, ◌-◌, ◌<◌, ◌≤�
 use Rattle.fis_view.specs.Frames.{Stamped}
 use Rattle.slots.specs.Slots.{Issue, has_bit, issue_at}
 use Rattle.ahci_registers.specs.declared.register.Register.TheVariants.{PxSact}
-use Rattle.ahci_controller.specs.Reading.{shown}
+use Rattle.ahci_controller.specs.{Reading.shown, declared.taking.Took.Took}
 use Rattle.ahci_controller.specs.declared.next.Next.TheVariants as next
-use Rattle.ahci_controller.specs.declared.taking.Took.{Took}
 use Rattle.block_command.specs.Laws.{WriteIsEarned}
-use Rattle.sata_disk.specs.State.{new_disk}
-use Rattle.sata_disk.specs.declared.unheard.Unheard.{Unheard}
+use Rattle.sata_disk.specs.{State.new_disk, declared.unheard.Unheard.Unheard}
 use Rattle.sata_disk_books.specs.InTurn.{AwaitsNone}
-use Rattle.sata_disk_laws.specs.Calls.{AreCalls}
-use Rattle.sata_disk_laws.specs.Laws.{reached}
+use Rattle.sata_disk_laws.specs.{Calls.AreCalls, Laws.reached}
 use Rattle.ahci_machine.specs.States.{HasRules, IsOpeningMachine, MachineState, bay_at}
 use Rattle.ahci_machine.specs.declared.act.Act.TheVariants as act
-use Rattle.machine_laws.specs.ControllerLaws.{RunsRuled, calls_in}
-use Rattle.machine_laws.specs.Deeds.{Deed, Does, Moved}
-use Rattle.machine_laws.specs.Falling.{AllLast, HasLink}
-use Rattle.machine_laws.specs.Feeding.{came_in}
-use Rattle.machine_theorem.specs.Brought.{AllTakenWell, DiskStretch}
-use Rattle.machine_theorem.specs.Completions.{IsDone}
-use Rattle.machine_theorem.specs.Identity.{AllKeep, IsAtRest, calls_of, own_of}
-use Rattle.machine_theorem.specs.OwnSlots.{AllKeepLine, BeginsClear, NoneLost}
-use Rattle.machine_theorem.specs.OwnWrites.{AreOwnData}
-use Rattle.machine_theorem.specs.QueuedOnly.{SendsQueued}
-use Rattle.machine_theorem.specs.QueuedWrites.{AllQueued, IsFedWrite, OwesNothing, TakesAll}
+use Rattle.machine_laws.specs.{ControllerLaws.{RunsRuled, calls_in}, Deeds.{Deed, Does, Moved}, Falling.{AllLast, HasLink}, Feeding.came_in}
+use Rattle.machine_theorem.specs.{Brought.{AllTakenWell, DiskStretch}, Completions.IsDone, Identity.{AllKeep, IsAtRest, calls_of, own_of}}
+use Rattle.machine_theorem.specs.{OwnSlots.{AllKeepLine, BeginsClear, NoneLost}, OwnWrites.AreOwnData, QueuedOnly.SendsQueued, QueuedWrites.AllQueued}
+use Rattle.machine_theorem.specs.QueuedWrites.{IsFedWrite, OwesNothing, TakesAll}
 
 -- a stretch until a moment of it
 abbrev pub up_to : (s : DiskStretch) → (sooner : List Deed) → (mid : MachineState) → RunsRuled s.at sooner mid → DiskStretch

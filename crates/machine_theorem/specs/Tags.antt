@@ -2,28 +2,18 @@
 -- that is under way at the tag was asked for behind all those that ended (Serial ATA 3.x, 10.5, Register Host to Device and Set Device Bits, and
 -- 13.6, native command queuing).
 use Rattle.std.specs.Prelude.{ℕ, suc, ◌≡◌, ◌<◌, ◌≤◌, ◌+◌, ◌==◌, ◌&&◌, Bool, true, false, List, [], ◌∷◌, Some, Result, Ok, if◌then◌else◌}
-use Rattle.fis_view.specs.Seen.{seen}
-use Rattle.fis_view.specs.declared.view.Fis.{Fis}
+use Rattle.fis_view.specs.{Seen.seen, declared.view.{Fis.Fis, FisFault.FisFault}}
 use Rattle.fis_view.specs.declared.view.Fis.TheVariants as view
-use Rattle.fis_view.specs.declared.view.FisFault.{FisFault}
-use Rattle.block_command.specs.declared.command.Command.{Command}
-use Rattle.block_command.specs.Moments.{Moment}
-use Rattle.block_disk.specs.Laws.{Page}
-use Rattle.block_disk.specs.Table.{is_under_way}
+use Rattle.block_command.specs.{declared.command.Command.Command, Moments.Moment}
+use Rattle.block_disk.specs.{Laws.Page, Table.is_under_way}
 use Rattle.block_queue.specs.Line.{command_at, has_bit}
 use Rattle.disk_pages.specs.declared.profile.Profile.{Profile}
-use Rattle.sata_disk.specs.Hearing.{is_command}
-use Rattle.sata_disk.specs.State.{DiskState, commands, new_disk}
+use Rattle.sata_disk.specs.{Hearing.is_command, State.{DiskState, commands, new_disk}}
 use Rattle.sata_disk.specs.declared.out.Out.TheVariants as out
 use Rattle.sata_disk_books.specs.Books.{IsAskedFor, page_in}
-use Rattle.sata_disk_laws.specs.Calls.{AreCalls, Call, Hears, Sends}
-use Rattle.sata_disk_laws.specs.Laws.{reached}
-use Rattle.sata_disk_laws.specs.Once.{place_in}
-use Rattle.ahci_machine.specs.States.{IsOpeningMachine, MachineState, bay_at}
-use Rattle.ahci_machine.specs.declared.bay.Unit.TheVariants.{Disk}
-use Rattle.machine_laws.specs.ControllerLaws.{RunsRuled}
-use Rattle.machine_laws.specs.Deeds.{Deed}
-use Rattle.machine_laws.specs.Heard.{HasLived, life_in, no_life}
+use Rattle.sata_disk_laws.specs.{Calls.{AreCalls, Call, Hears, Sends}, Laws.reached, Once.place_in}
+use Rattle.ahci_machine.specs.{States.{IsOpeningMachine, MachineState, bay_at}, declared.bay.Unit.TheVariants.Disk}
+use Rattle.machine_laws.specs.{ControllerLaws.RunsRuled, Deeds.Deed, Heard.{HasLived, life_in, no_life}}
 
 -- ---- what is counted
 

@@ -2,29 +2,19 @@
 -- Serial ATA 3.x, 10.5, Data, and 13.6, native command queuing). So it is over each stretch of a run that begins at rest, in which the guest keeps to the
 -- standard (Identity), in which no FIS of the disk is lost or at fault, and the disk serves queued commands alone (OwnWrites).
 use Rattle.std.specs.Prelude.{ℕ, ◌≡◌, ◌<◌, Bool, true, List, [], ◌++◌, drop, Some, Ok}
-use Rattle.fis_view.specs.Frames.{Stamped}
-use Rattle.fis_view.specs.Seen.{seen}
+use Rattle.fis_view.specs.{Frames.Stamped, Seen.seen}
 use Rattle.fis_view.specs.declared.view.Fis.TheVariants as view
 use Rattle.slots.specs.declared.work.Kind.TheVariants.{QueuedWrite}
 use Rattle.block_command.specs.Moments.{Moment}
 use Rattle.block_queue.specs.Line.{command_at}
 use Rattle.disk_pages.specs.declared.profile.Profile.{Profile}
-use Rattle.sata_disk.specs.Hearing.{receives}
-use Rattle.sata_disk.specs.State.{commands, new_disk}
+use Rattle.sata_disk.specs.{Hearing.receives, State.{commands, new_disk}}
 use Rattle.sata_disk_books.specs.InTurn.{AreOfQueue, AwaitsNone}
-use Rattle.sata_disk_laws.specs.Calls.{AreCalls, Call}
-use Rattle.sata_disk_laws.specs.Laws.{reached}
+use Rattle.sata_disk_laws.specs.{Calls.{AreCalls, Call}, Laws.reached}
 use Rattle.ahci_machine.specs.States.{IsOpeningMachine, MachineState, bay_at}
-use Rattle.machine_laws.specs.ControllerLaws.{RunsRuled, calls_in}
-use Rattle.machine_laws.specs.Deeds.{Deed}
-use Rattle.machine_laws.specs.Falling.{AllLast, HasLink}
-use Rattle.machine_laws.specs.Feeding.{came_in}
-use Rattle.machine_theorem.specs.Brought.{AllTakenWell}
-use Rattle.machine_theorem.specs.Fed.{IsFedFor}
-use Rattle.machine_theorem.specs.Given.{IsGiven, IsWhole}
-use Rattle.machine_theorem.specs.Identity.{AllKeep, IsAtRest, calls_of}
-use Rattle.machine_theorem.specs.OwnSlots.{AllKeepLine, BeginsClear, NoneLost}
-use Rattle.machine_theorem.specs.OwnWrites.{AreOwnData, WentForPlace}
+use Rattle.machine_laws.specs.{ControllerLaws.{RunsRuled, calls_in}, Deeds.Deed, Falling.{AllLast, HasLink}, Feeding.came_in}
+use Rattle.machine_theorem.specs.{Brought.AllTakenWell, Fed.IsFedFor, Given.{IsGiven, IsWhole}, Identity.{AllKeep, IsAtRest, calls_of}}
+use Rattle.machine_theorem.specs.{OwnSlots.{AllKeepLine, BeginsClear, NoneLost}, OwnWrites.{AreOwnData, WentForPlace}}
 
 -- A disk is to hear this Data FIS for its command under the tag.
 pub record IsSuppliedWrite (many : Bool) (n dev tag : ℕ) (old : MachineState) (before : List Deed) (at : MachineState) (first : RunsRuled old before at)

@@ -1,25 +1,16 @@
 -- A command that moves sectors, and is not queued, is answered only by its end, or by an error (ACS-3, 4, protocols; Serial ATA 3.x, 10.5, Register Device to
 -- Host).
 use Rattle.std.specs.Prelude.{ℕ, ◌≡◌, ◌⊎◌, ◌&&◌, Bool, true, false, List, ◌∷◌, ◌++◌, Some, Result, Ok}
-use Rattle.fis_view.specs.Seen.{seen}
-use Rattle.fis_view.specs.Table.{H2d, Command, field}
-use Rattle.fis_view.specs.declared.view.Fis.{Fis}
+use Rattle.fis_view.specs.{Seen.seen, Table.{H2d, Command, field}, declared.view.{Fis.Fis, FisFault.FisFault}}
 use Rattle.fis_view.specs.declared.view.Fis.TheVariants as view
-use Rattle.fis_view.specs.declared.view.FisFault.{FisFault}
-use Rattle.ata_command.specs.Opcodes.{opcode_of}
-use Rattle.ata_command.specs.declared.opcode.Opcode.{Opcode}
+use Rattle.ata_command.specs.{Opcodes.opcode_of, declared.opcode.Opcode.Opcode}
 use Rattle.ata_command.specs.declared.opcode.Opcode.TheVariants as code
 use Rattle.ata_reply.specs.declared.reply.Reply.{Reply}
 use Rattle.ata_reply.specs.declared.reply.Reply.TheVariants as replies
 use Rattle.disk_pages.specs.declared.profile.Profile.{Profile}
-use Rattle.sata_disk.specs.Hearing.{is_command}
-use Rattle.sata_disk.specs.Sending.{IsOut}
-use Rattle.sata_disk.specs.State.{new_disk}
-use Rattle.sata_disk.specs.declared.out.Out.{Out}
+use Rattle.sata_disk.specs.{Hearing.is_command, Sending.IsOut, State.new_disk, declared.out.Out.Out}
 use Rattle.sata_disk.specs.declared.out.Out.TheVariants as out
-use Rattle.sata_disk_laws.specs.Calls.{AreCalls, Call, Hears}
-use Rattle.sata_disk_laws.specs.Laws.{reached}
-use Rattle.sata_disk_laws.specs.Once.{host_of, new_host}
+use Rattle.sata_disk_laws.specs.{Calls.{AreCalls, Call, Hears}, Laws.reached, Once.{host_of, new_host}}
 use Rattle.machine_theorem.specs.InTurn.{AreKeptOn, IsIdle, answered_in, heard_in, is_answer}
 
 -- READ DMA, WRITE DMA, READ SECTOR(S), WRITE SECTOR(S), READ MULTIPLE, WRITE MULTIPLE and READ VERIFY SECTOR(S), with their EXT and FUA forms

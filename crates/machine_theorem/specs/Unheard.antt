@@ -2,33 +2,23 @@
 -- (ACS-3, 7, write commands and DATA SET MANAGEMENT; Serial ATA 3.x, 10.5, Register Host to Device; AHCI 1.3.1, 5.3). `disks_hear_their_guest` says that each FIS
 -- that a disk hears is that of a slot's command, as it was supplied for the slot, or a Data FIS.
 use Rattle.std.specs.Prelude.{ℕ, ◌≡◌, ◌<◌, Bool, true, false, List, [], ◌∷◌, ◌++◌, Some, Ok}
-use Rattle.fis_view.specs.Frames.{marked}
-use Rattle.fis_view.specs.Seen.{seen}
+use Rattle.fis_view.specs.{Frames.marked, Seen.seen}
 use Rattle.fis_view.specs.declared.view.Fis.TheVariants as view
 use Rattle.block_command.specs.Moments.{Moment}
 use Rattle.block_disk.specs.Table.{is_under_way}
-use Rattle.block_engine.specs.Aside.{is_waiting}
-use Rattle.block_engine.specs.Engine.{is_discard}
+use Rattle.block_engine.specs.{Aside.is_waiting, Engine.is_discard}
 use Rattle.block_queue.specs.Line.{command_at}
 use Rattle.ata_command.specs.declared.asked.Asked.{Asked}
 use Rattle.ata_command.specs.declared.asked.Asked.TheVariants as ask
 use Rattle.ata_front.specs.declared.task.Task.{Task}
 use Rattle.ata_front.specs.declared.task.Task.TheVariants as tasks
 use Rattle.disk_pages.specs.declared.profile.Profile.{Profile}
-use Rattle.sata_disk.specs.Hearing.{asked_of, is_command}
-use Rattle.sata_disk.specs.State.{DiskState, commands, new_disk}
-use Rattle.sata_disk_laws.specs.Calls.{AreCalls, Call, Hears, after_call}
-use Rattle.sata_disk_laws.specs.Laws.{reached}
-use Rattle.sata_disk_media.specs.Cells.{covers}
-use Rattle.sata_disk_media.specs.Laws.{AreSparing}
+use Rattle.sata_disk.specs.{Hearing.{asked_of, is_command}, State.{DiskState, commands, new_disk}}
+use Rattle.sata_disk_laws.specs.{Calls.{AreCalls, Call, Hears, after_call}, Laws.reached}
+use Rattle.sata_disk_media.specs.{Cells.covers, Laws.AreSparing}
 use Rattle.ahci_machine.specs.States.{IsOpeningMachine, MachineState}
-use Rattle.machine_laws.specs.ControllerLaws.{RunsRuled}
-use Rattle.machine_laws.specs.Deeds.{Deed}
-use Rattle.machine_laws.specs.Falling.{AllLast, HasLink}
-use Rattle.machine_theorem.specs.Given.{IsWhole}
-use Rattle.machine_theorem.specs.Identity.{AllKeep, IsAtRest, calls_of, own_of}
-use Rattle.machine_theorem.specs.Orders.{standing_in}
-use Rattle.machine_theorem.specs.Standing.{IsAsSupplied}
+use Rattle.machine_laws.specs.{ControllerLaws.RunsRuled, Deeds.Deed, Falling.{AllLast, HasLink}}
+use Rattle.machine_theorem.specs.{Given.IsWhole, Identity.{AllKeep, IsAtRest, calls_of, own_of}, Orders.standing_in, Standing.IsAsSupplied}
 
 -- ---- what a FIS asks for
 

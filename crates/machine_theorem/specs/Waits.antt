@@ -2,17 +2,13 @@
 -- that was sent last (AHCI 1.3.1, 5.3.8 and 5.3.13, a port sends a command and takes a Register FIS, and 9.3, FIS-based Switching).
 use Rattle.std.specs.Prelude.{ℕ, ◌≡◌, ◌<◌, ◌≤◌, ◌+◌, ◌==◌, ◌&&◌, Bool, true, false, not, is_some, List, [], ◌∷◌, Some}
 use Rattle.slots.specs.Slots.{Issue, holds, is_control, is_pio, is_queued_issue, is_waiting, issue_at, slots_of, waiting}
-use Rattle.hba_fbs.specs.Taking.{port_of}
-use Rattle.hba_fbs.specs.Views.{view_of}
-use Rattle.hba_laws.specs.Agreement.{IsTold}
-use Rattle.hba_laws.specs.History.{History}
+use Rattle.hba_fbs.specs.{Taking.port_of, Views.view_of}
+use Rattle.hba_laws.specs.{Agreement.IsTold, History.History}
 use Rattle.ahci_controller.specs.States.{ControllerState}
 use Rattle.ahci_controller.specs.declared.next.Next.TheVariants as next
 use Rattle.controller_laws.specs.Events as call
 use Rattle.controller_laws.specs.Events.{Event, Runs}
-use Rattle.machine_theorem.specs.Commands.{AreNotIssued}
-use Rattle.machine_theorem.specs.InTurn.{is_answering}
-use Rattle.machine_theorem.specs.Tags.{once_if}
+use Rattle.machine_theorem.specs.{Commands.AreNotIssued, InTurn.is_answering, Tags.once_if}
 
 -- ---- what is counted
 

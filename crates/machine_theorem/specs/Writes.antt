@@ -1,15 +1,13 @@
 -- A write of the guest: the bytes that the caller is asked to store are those of Data FISes that went with what it had supplied for
 -- them, and the write ends well only once these were stored (AHCI 1.3.1, 5.3 and 9.3, what a port sends, and 3.3.14, PxCI; Serial ATA
 -- 3.x, 10.5, Data and Register Device to Host, and 13.6, native command queuing).
-use Rattle.std.specs.Prelude.{◌≡◌, ◌<◌, ◌*◌, ℕ, Bool, true, false, List, [], ◌∷◌, ◌++◌, drop, length, slice_index, Some}
-use Rattle.std.specs.List.{All}
+use Rattle.std.specs.{Prelude.{◌≡◌, ◌<◌, ◌*◌, ℕ, Bool, true, false, List, [], ◌∷◌, ◌++◌, drop, length, slice_index, Some}, List.All}
 use Rattle.fis_view.specs.Frames.{Stamped}
 use Rattle.slots.specs.Slots.{has_bit as is_named}
 use Rattle.fan_out.specs.declared.fan_out.FanOut.{FanOut}
 use Rattle.ahci_registers.specs.declared.register.Register.TheVariants.{PxCi, PxSact}
 use Rattle.hba_fbs.specs.Taking.{port_of}
-use Rattle.ahci_controller.specs.Reading.{shown}
-use Rattle.ahci_controller.specs.declared.taking.Took.{Took}
+use Rattle.ahci_controller.specs.{Reading.shown, declared.taking.Took.Took}
 use Rattle.block_command.specs.Laws.{AskedStore}
 use Rattle.block_disk.specs.Laws.{Page}
 use Rattle.block_engine.specs.declared.request.Request.{Request}
@@ -19,21 +17,13 @@ use Rattle.ata_reply.specs.declared.reply.Reply.TheVariants as replies
 use Rattle.disk_pages.specs.declared.profile.Profile.{Profile}
 use Rattle.sata_disk.specs.State.{DiskState, new_disk}
 use Rattle.sata_disk.specs.declared.out.Out.TheVariants as out
-use Rattle.sata_disk_laws.specs.Calls.{Call, Hears}
-use Rattle.sata_disk_laws.specs.Stores.{IsWhatCame}
-use Rattle.ahci_machine.specs.Answers.{Holds}
-use Rattle.ahci_machine.specs.States.{HasRules, IsOpeningMachine, MachineState, bay_at}
-use Rattle.ahci_machine.specs.declared.act.Act.TheVariants as act
-use Rattle.ahci_machine.specs.declared.bay.Unit.TheVariants.{Disk}
+use Rattle.sata_disk_laws.specs.{Calls.{Call, Hears}, Stores.IsWhatCame}
+use Rattle.ahci_machine.specs.{Answers.Holds, States.{HasRules, IsOpeningMachine, MachineState, bay_at}, declared.bay.Unit.TheVariants.Disk}
 use Rattle.ahci_machine.specs.declared.request.MediumId.{MediumId}
-use Rattle.machine_laws.specs.ControllerLaws.{RunsRuled}
-use Rattle.machine_laws.specs.Deeds.{Deed, Does, Moved}
-use Rattle.machine_laws.specs.Heard.{AllHeard, HasLived, life_in, no_life}
+use Rattle.ahci_machine.specs.declared.act.Act.TheVariants as act
+use Rattle.machine_laws.specs.{ControllerLaws.RunsRuled, Deeds.{Deed, Does, Moved}, Heard.{AllHeard, HasLived, life_in, no_life}}
 use Rattle.machine_laws.specs.Rising.{is_multiplier}
-use Rattle.machine_theorem.specs.Completed.{IsCompletedBy, IsFisBy}
-use Rattle.machine_theorem.specs.Ends.{IsEndBy, IsEnded}
-use Rattle.machine_theorem.specs.Guest.{IsFed}
-use Rattle.machine_theorem.specs.Moments.{Earns, HasCommand, Moment}
+use Rattle.machine_theorem.specs.{Completed.{IsCompletedBy, IsFisBy}, Ends.{IsEndBy, IsEnded}, Guest.IsFed, Moments.{Earns, HasCommand, Moment}}
 
 -- ---- the Data of the guest
 

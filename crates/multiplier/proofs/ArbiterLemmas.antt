@@ -1,8 +1,7 @@
 -- The arbiter's law, over the definitions alone.
-use Rattle.std.proofs.Common.{◌≡◌, ◌≢◌, ℕ, zero, suc, ◌+◌, ◌-◌, ◌<◌, ◌≤◌, Bool, true, false, cond, IsTrue, List, [], ◌∷◌, ◌++◌, All, length, Option, Some, None, refl, arith, ◌⊎◌, inl, inr, ◌∙◌, sym, ap}
-use Rattle.std.specs.List.{range_with_len, find}
-use Rattle.std.specs.Option.{option_or}
-use Rattle.std.proofs.lemmas.List.Folds.{find-append}
+use Rattle.std.proofs.Common.{◌≡◌, ◌≢◌, ℕ, zero, suc, ◌+◌, ◌-◌, ◌<◌, ◌≤◌, Bool, true, false, cond, IsTrue, List, [], ◌∷◌, ◌++◌, All, length, Option}
+use Rattle.std.proofs.{Common.{Some, None, refl, arith, ◌⊎◌, inl, inr, ◌∙◌, sym, ap}, lemmas.List.Folds.{find-append}}
+use Rattle.std.specs.{List.{range_with_len, find}, Option.option_or}
 use Rattle.multiplier.specs.Arbiter.{control_port, circle_after, next_served, IsServedInTurn, StaysReady, IsPassedOver}
 
 more_or_not : (m n : ℕ) → (m ≤ n) ⊎ (n < m)

@@ -1,9 +1,7 @@
 -- A port that forwards has a connection.
-use Rattle.std.proofs.Common.{◌≡◌, ℕ, ◌==◌, ◌&&◌, true, sym, ◌∙◌}
+use Rattle.std.proofs.{Common.{◌≡◌, ℕ, ◌==◌, ◌&&◌, true, sym, ◌∙◌}, lemmas.Bool.{eqb-true}}
 use Rattle.std.specs.Prelude.{bit_and, is_some, nat_lt}
-use Rattle.std.proofs.lemmas.Bool.{eqb-true}
-use Rattle.pm_registers.specs.declared.port.PortRegisters.{PortRegisters}
-use Rattle.pm_registers.specs.Port.{bit_x, det, is_open, passes}
+use Rattle.pm_registers.specs.{declared.port.PortRegisters.PortRegisters, Port.{bit_x, det, is_open, passes}}
 use Rattle.pm_registers.specs.RegisterMap as map
 use Rattle.multiplier.specs.State.{PmState, IsSound, port_at}
 use Rattle.multiplier.proofs.UpSteps.{both_by}

@@ -1,21 +1,16 @@
 -- What the calls that give a frame leave: a sound multiplier, with its ports.
-use Rattle.std.proofs.Common.{◌≡◌, ◌≢◌, ℕ, ◌<◌, ◌≤◌, ◌==◌, Bool, true, false, Option, Some, None, Result, Ok, Err, MatchOption, refl, sym, ap, ◌∙◌, subst, arith}
-use Rattle.std.specs.Prelude.{slice_set, slice_index_or}
-use Rattle.std.specs.Bool.{MatchBool}
-use Rattle.std.proofs.lemmas.Bool.{eqb-true, eqb-false}
-use Rattle.std.specs.declared.alloc.AllocError.{AllocError}
+use Rattle.std.proofs.Common.{◌≡◌, ◌≢◌, ℕ, ◌<◌, ◌≤◌, ◌==◌, Bool, true, false, Option, Some, None, Result, Ok, Err, MatchOption, refl, sym, ap, ◌∙◌}
+use Rattle.std.proofs.{Common.{subst, arith}, lemmas.Bool.{eqb-true, eqb-false}}
+use Rattle.std.specs.{Prelude.{slice_set, slice_index_or}, Bool.MatchBool, declared.alloc.AllocError.AllocError}
 use Rattle.fis_view.specs.Frames.{Stamped}
 use Rattle.pm_registers.specs.RegisterMap as map
 use Rattle.pm_control.specs.Answers.{IsNotice}
 use Rattle.pm_ports.specs.Port as port
-use Rattle.multiplier.specs.Arbiter.{control_port}
-use Rattle.multiplier.specs.State.{PmState, IsSound, port_at, with_port, held, ready, rising, next_place, control_stamp, counted}
-use Rattle.multiplier.specs.Rules.{NextUpRule, PlaceGives, ControlGives, PortGives, NextDownRule, KeepsPorts, held_source, may_go_back}
+use Rattle.multiplier.specs.{Arbiter.control_port, State.{PmState, IsSound, port_at, with_port, held, ready, rising, next_place, control_stamp}}
+use Rattle.multiplier.specs.{State.counted, Rules.{NextUpRule, PlaceGives, ControlGives, PortGives, NextDownRule, KeepsPorts, held_source}}
+use Rattle.multiplier.specs.{Rules.may_go_back, Between.{Answer, FromPort, Gives, Notice, lowered}}
 use Rattle.multiplier.specs.declared.given.Source.TheVariants as source
-use Rattle.multiplier.specs.Between.{Answer, FromPort, Gives, Notice, lowered}
-use Rattle.multiplier.proofs.ArbiterLemmas.{served_below}
-use Rattle.multiplier.proofs.Ports.{kept_part}
-use Rattle.multiplier.proofs.Sound.{up_sound, down_sound, rest_sound, due_sound}
+use Rattle.multiplier.proofs.{ArbiterLemmas.served_below, Ports.kept_part, Sound.{up_sound, down_sound, rest_sound, due_sound}}
 
 -- a frame that leaves a place of a port keeps the ports
 pub KeepsPorts-same : (old new : PmState) → new ≡ old → KeepsPorts old new

@@ -1,16 +1,13 @@
 -- Which connections of a port are gone, and what a removal leaves in its places.
-use Rattle.std.proofs.Common.{◌≡◌, ℕ, zero, suc, ◌<◌, ◌≤◌, Bool, true, false, not, [], ◌∷◌, map, slice_index, Option, Some, None, refl, sym, ap, ◌∙◌, arith, inl, inr}
-use Rattle.std.specs.Prelude.{if◌then◌else◌, nat_lt, nat_le, is_some}
-use Rattle.std.proofs.lemmas.Bool.{and_parts, cases_Bool, eqb-true, ltb-true, lt-ltb, leb-true, le-leb, leb-false}
+use Rattle.std.proofs.Common.{◌≡◌, ℕ, zero, suc, ◌<◌, ◌≤◌, Bool, true, false, not, [], ◌∷◌, map, slice_index, Option, Some, None, refl, sym, ap, ◌∙◌}
+use Rattle.std.proofs.{Common.{arith, inl, inr}, lemmas.Bool.{and_parts, cases_Bool, eqb-true, ltb-true, lt-ltb, leb-true, le-leb, leb-false}}
 use Rattle.std.proofs.lemmas.Option.{same_Some}
+use Rattle.std.specs.Prelude.{if◌then◌else◌, nat_lt, nat_le, is_some}
 use Rattle.fis_view.specs.Frames.{Stamped}
 use Rattle.pm_ports.specs.Port as port
-use Rattle.pm_ports.specs.declared.port.GoneError.{GoneError}
-use Rattle.pm_ports.specs.declared.port.GoneError.TheVariants.{NotThere}
-use Rattle.pm_ports.specs.declared.port.PortError.{PortError}
-use Rattle.pm_ports.specs.declared.port.PortError.TheVariants.{AlreadyThere, OldConnection}
-use Rattle.multiplier.specs.State.{IsSoundPort}
-use Rattle.multiplier.specs.Between.{Ports, at}
+use Rattle.pm_ports.specs.declared.port.{GoneError.{GoneError, TheVariants.NotThere}, PortError.{PortError, TheVariants.AlreadyThere}}
+use Rattle.pm_ports.specs.declared.port.PortError.TheVariants.{OldConnection}
+use Rattle.multiplier.specs.{State.IsSoundPort, Between.{Ports, at}}
 
 -- ---- connections up to one
 

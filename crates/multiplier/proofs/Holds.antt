@@ -1,10 +1,9 @@
 -- A port that does not forward gives nothing.
 use Rattle.std.proofs.Common.{◌≡◌, ◌<◌, ◌==◌, ◌&&◌, ◌||◌, if◌then◌else◌, ℕ, arith, Bool, true, false, Option, Some, None, refl, ◌∙◌}
-use Rattle.std.specs.Prelude.{is_some}
 use Rattle.std.proofs.lemmas.Bool.{eqb-true}
+use Rattle.std.specs.Prelude.{is_some}
 use Rattle.fis_view.specs.Frames.{Stamped}
-use Rattle.multiplier.specs.Arbiter.{control_port}
-use Rattle.multiplier.specs.State.{PmState, held, ready}
+use Rattle.multiplier.specs.{Arbiter.control_port, State.{PmState, held, ready}}
 use Rattle.pm_ports.specs.Port.{PortState, rises, next_up}
 
 and_true : (b : Bool) → b ≡ (b && true)

@@ -1,21 +1,14 @@
 -- A port that was lent to a call on it, and came back as it was or as another one.
 use Rattle.std.proofs.Common.{◌≡◌, ℕ, ◌<◌, ◌≤◌, true, false, Option, Some, None, Result, Ok, Err, refl, sym, ap, ◌∙◌, subst, arith}
+use Rattle.std.proofs.lemmas.{List.{set-get_or}, Option.same_Some}
 use Rattle.std.specs.Prelude.{is_some, slice_index_or, slice_set}
-use Rattle.std.proofs.lemmas.List.{set-get_or}
-use Rattle.std.proofs.lemmas.Option.{same_Some}
-use Rattle.fis_view.specs.Frames.{Stamped}
-use Rattle.fis_view.specs.declared.frame.Stamp.{Stamp}
+use Rattle.fis_view.specs.{Frames.Stamped, declared.frame.Stamp.Stamp}
 use Rattle.pm_registers.specs.RegisterMap as map
 use Rattle.pm_ports.specs.Port as port
-use Rattle.pm_ports.specs.Offering.{IsOffered}
-use Rattle.pm_ports.specs.declared.port.Offered.{Offered}
-use Rattle.pm_ports.specs.declared.port.Offered.TheVariants.{Held, Dropped}
-use Rattle.multiplier.specs.declared.given.Given.{Given}
-use Rattle.multiplier.specs.declared.given.Given.TheVariants.{Down}
-use Rattle.multiplier.specs.State.{PmState, IsSound, port_at, stamped, with_port}
+use Rattle.pm_ports.specs.{Offering.IsOffered, declared.port.Offered.{Offered, TheVariants.{Held, Dropped}}}
+use Rattle.multiplier.specs.{declared.given.Given.{Given, TheVariants.Down}, State.{PmState, IsSound, port_at, stamped, with_port}}
 use Rattle.multiplier.specs.Rules.{FromDeviceRule, KeepsPorts, NextDownRule, with_device}
-use Rattle.multiplier.proofs.Sound.{at_default, came_sound, down_sound, kept_sound, up_sound}
-use Rattle.multiplier.proofs.GiveLemmas.{KeepsPorts-same, keeps_set}
+use Rattle.multiplier.proofs.{Sound.{at_default, came_sound, down_sound, kept_sound, up_sound}, GiveLemmas.{KeepsPorts-same, keeps_set}}
 
 -- The multiplier that a call got, old, was opened as pm, and its port n was lent at the index m, as p.
 pub record Lent (pm old : PmState) (n m : ℕ) (p : port.PortState) : Type 0 where

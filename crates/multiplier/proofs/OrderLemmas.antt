@@ -1,9 +1,8 @@
 -- Lists of FISes that are in order, and one that is one longer or shorter.
-use Rattle.std.proofs.Common.{◌≡◌, ◌==◌, ◌≤◌, ◌<◌, ℕ, ◌+◌, ◌⊎◌, Bool, true, false, List, [], ◌∷◌, ◌++◌, length, map, drop, refl, sym, ap, subst, ◌∙◌, inl, inr, append_assoc, length-append, arith}
+use Rattle.std.proofs.Common.{◌≡◌, ◌==◌, ◌≤◌, ◌<◌, ℕ, ◌+◌, ◌⊎◌, Bool, true, false, List, [], ◌∷◌, ◌++◌, length, map, drop, refl, sym, ap, subst, ◌∙◌}
+use Rattle.std.proofs.{Common.{inl, inr, append_assoc, length-append, arith}, lemmas.{Bool.{eqb-true}, List.Elements.{All-append, All-nil, All-cons}}}
+use Rattle.std.proofs.{lemmas.List.Elements.{All-take}, Math.Seq.{take-append_seam}}
 use Rattle.std.specs.Prelude.{All, slice_index, if◌then◌else◌}
-use Rattle.std.proofs.lemmas.Bool.{eqb-true}
-use Rattle.std.proofs.lemmas.List.Elements.{All-append, All-nil, All-cons, All-take}
-use Rattle.std.proofs.Math.Seq.{take-append_seam}
 use Rattle.fis_view.specs.Frames.{Stamped}
 use Rattle.multiplier.specs.Orders.{of_connection, control_port, InDeviceOrder, IsNextAtHost, InStampedOrder, IsWithin}
 

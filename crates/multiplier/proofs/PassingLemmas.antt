@@ -1,40 +1,28 @@
 -- What each call does to the frames that passed, and so the order in which frames pass.
-use Rattle.std.proofs.Common.{◌≡◌, ◌≢◌, ℕ, ◌+◌, ◌-◌, ◌<◌, ◌≤◌, ◌==◌, ◌&&◌, Bool, true, false, cond, List, [], ◌∷◌, ◌++◌, append_assoc, All, length, map, take, get_or, Option, Some, None, Result, Ok, Err, MatchOption, refl, sym, ap, ◌∙◌, subst, arith, inl, inr}
-use Rattle.std.specs.Prelude.{if◌then◌else◌, is_some}
-use Rattle.std.specs.Bool.{MatchBool}
-use Rattle.std.specs.List.{filter}
-use Rattle.std.specs.List.Sorted.{IsNonDecreasingBy}
-use Rattle.std.specs.Option.{option_to_list}
-use Rattle.std.proofs.lemmas.Bool.{cases_eq, eq-eqb, ne_eqb, eqb-true, eqb-false}
-use Rattle.std.proofs.lemmas.Option.{same_Some}
-use Rattle.std.proofs.lemmas.List.{append-nil, length-append, map-append}
-use Rattle.std.proofs.lemmas.List.Elements.{All-append, All-cons, All-nil, All-take, filter-append}
-use Rattle.std.proofs.lemmas.List.Sorted.{IsNonDecreasingBy-push, IsNonDecreasingBy-take}
-use Rattle.std.proofs.Math.Seq.{take-append_seam}
+use Rattle.std.proofs.Common.{◌≡◌, ◌≢◌, ℕ, ◌+◌, ◌-◌, ◌<◌, ◌≤◌, ◌==◌, ◌&&◌, Bool, true, false, cond, List, [], ◌∷◌, ◌++◌, append_assoc, All, length}
+use Rattle.std.proofs.Common.{map, take, get_or, Option, Some, None, Result, Ok, Err, MatchOption, refl, sym, ap, ◌∙◌, subst, arith, inl, inr}
+use Rattle.std.proofs.lemmas.{Bool.{cases_eq, eq-eqb, ne_eqb, eqb-true, eqb-false}, Option.same_Some, List.{append-nil, length-append, map-append}}
+use Rattle.std.proofs.lemmas.List.{Elements.{All-append, All-cons, All-nil, All-take, filter-append}, Sorted.{IsNonDecreasingBy-push}}
+use Rattle.std.proofs.{lemmas.List.Sorted.{IsNonDecreasingBy-take}, Math.Seq.{take-append_seam}}
+use Rattle.std.specs.{Prelude.{if◌then◌else◌, is_some}, Bool.MatchBool, List.{filter, Sorted.IsNonDecreasingBy}, Option.option_to_list}
 use Rattle.std.specs.declared.alloc.AllocError.{AllocError}
-use Rattle.fis_view.specs.Frames.{Stamped}
-use Rattle.fis_view.specs.declared.frame.Stamp.{Stamp}
-use Rattle.fis_view.specs.declared.build.D2hFields.{D2hFields}
+use Rattle.fis_view.specs.{Frames.Stamped, declared.{frame.Stamp.Stamp, build.D2hFields.D2hFields}}
 use Rattle.pm_registers.specs.RegisterMap as map
 use Rattle.pm_control.specs.Answers.{IsAnswer, answer_to}
 use Rattle.pm_ports.specs.Port as port
-use Rattle.pm_ports.specs.declared.port.Offered.{Offered}
+use Rattle.pm_ports.specs.declared.port.{Offered.Offered, PortError.PortError}
 use Rattle.pm_ports.specs.declared.port.Offered.TheVariants as offered
-use Rattle.pm_ports.specs.declared.port.PortError.{PortError}
-use Rattle.multiplier.specs.Arbiter.{control_port}
-use Rattle.multiplier.specs.State.{PmState, IsSound, port_at, with_port, settled, stamped, rising, falling, control_stamp, counted, pm_port, passes_to, is_answer, is_notice}
-use Rattle.multiplier.specs.Rules.{FromHostRule, FromDeviceRule, CameRule, NextUpRule, NextDownRule, ToControl, ToDevice, ToNobody, CanPutBackUp, UndoesUp, with_device}
-use Rattle.multiplier.specs.declared.multiplier.Passed.{Passed}
-use Rattle.multiplier.specs.declared.multiplier.Passed.TheVariants as passed
-use Rattle.multiplier.specs.declared.multiplier.PmRefusal.{PmRefusal}
-use Rattle.multiplier.specs.Passing.{Call, FromHost, FromDevice, Came, NextUp, PutBackUp, NextDown, PutBackDown, Past, Suits, EndsWith, past_after, but_last, made_by, of_conn, held_of, of_port, came_by, NeverFall, NeverFallTo, to_port, falls_to, passed_by, present_after, answers, answer_by, AreNumbered}
+use Rattle.multiplier.specs.{Arbiter.control_port, State.{PmState, IsSound, port_at, with_port, settled, stamped, rising, falling, control_stamp}}
+use Rattle.multiplier.specs.{State.{counted, pm_port, passes_to, is_answer, is_notice}, Rules.{FromHostRule, FromDeviceRule, CameRule, NextUpRule}}
+use Rattle.multiplier.specs.Rules.{NextDownRule, ToControl, ToDevice, ToNobody, CanPutBackUp, UndoesUp, with_device}
+use Rattle.multiplier.specs.{declared.multiplier.{Passed.Passed, PmRefusal.PmRefusal}, Passing.{Call, FromHost, FromDevice, Came, NextUp, PutBackUp}}
+use Rattle.multiplier.specs.Passing.{NextDown, PutBackDown, Past, Suits, EndsWith, past_after, but_last, made_by, of_conn, held_of, of_port, came_by}
+use Rattle.multiplier.specs.Passing.{NeverFall, NeverFallTo, to_port, falls_to, passed_by, present_after, answers, answer_by, AreNumbered}
 use Rattle.multiplier.specs.Between.{Ports, at}
-use Rattle.multiplier.proofs.ArbiterLemmas.{different}
-use Rattle.multiplier.proofs.Ports.{kept_part, this_port, other_port, has_down}
-use Rattle.multiplier.proofs.Gone.{accepted}
-use Rattle.multiplier.proofs.Sound.{answered_sound, answer_is, answer_shows, stamp_shows, came_sound, down_sound, kept_sound, rest_sound, settled_sound}
-use Rattle.multiplier.proofs.GiveLemmas.{gives, given_sound, down_rule_sound}
-use Rattle.multiplier.proofs.UpSteps.{IsUpStep, up_step}
+use Rattle.multiplier.specs.declared.multiplier.Passed.TheVariants as passed
+use Rattle.multiplier.proofs.{ArbiterLemmas.different, Ports.{kept_part, this_port, other_port, has_down}, Gone.accepted, Sound.answered_sound}
+use Rattle.multiplier.proofs.Sound.{answer_is, answer_shows, stamp_shows, came_sound, down_sound, kept_sound, rest_sound, settled_sound}
+use Rattle.multiplier.proofs.{GiveLemmas.{gives, given_sound, down_rule_sound}, UpSteps.{IsUpStep, up_step}}
 
 -- One call that drops nothing: what it gave, and then what waits, is what waited and then what it took in.
 pub record IsPlain (past : Past) (old : PmState) (call : Call) (new : PmState) : Type 0 where

@@ -1,21 +1,17 @@
 -- Putting a frame back undoes the call that gave it.
-use Rattle.std.proofs.Common.{◌≡◌, ℕ, ◌+◌, ◌*◌, ◌/◌, ◌%◌, ◌<◌, ◌≤◌, ◌&&◌, Bool, true, false, List, [], ◌∷◌, length, slice_index, Option, Some, None, Ok, refl, sym, ap, ◌∙◌, subst, arith}
+use Rattle.std.proofs.Common.{◌≡◌, ℕ, ◌+◌, ◌*◌, ◌/◌, ◌%◌, ◌<◌, ◌≤◌, ◌&&◌, Bool, true, false, List, [], ◌∷◌, length, slice_index, Option, Some, None}
+use Rattle.std.proofs.{Common.{Ok, refl, sym, ap, ◌∙◌, subst, arith}, lemmas.List.{set-set, set-get_or, get_or-set_same}}
 use Rattle.std.specs.Prelude.{slice_set, slice_index_or}
-use Rattle.std.proofs.lemmas.List.{set-set, set-get_or, get_or-set_same}
-use Rattle.fis_view.specs.Frames.{Stamped, marked}
-use Rattle.fis_view.specs.declared.frame.Stamp.{Stamp}
+use Rattle.fis_view.specs.{Frames.{Stamped, marked}, declared.frame.Stamp.Stamp}
 use Rattle.pm_ports.specs.Port as port
 use Rattle.pm_control.specs.Answers.{IsNotice}
 use Rattle.pm_registers.specs.RegisterMap as map
-use Rattle.multiplier.specs.Arbiter.{control_port}
-use Rattle.multiplier.specs.State.{PmState, IsSound, port_at, with_port, held, rising, control_stamp, counted, pm_port, settled}
-use Rattle.multiplier.specs.Rules.{CanPutBackUp, CanPutBackDown, UndoesUp, UndoesDown, KeepsPorts, HasRoomFor, put_back, held_source, may_go_back}
-use Rattle.multiplier.specs.declared.given.Given.{Given}
+use Rattle.multiplier.specs.{Arbiter.control_port, State.{PmState, IsSound, port_at, with_port, held, rising, control_stamp, counted, pm_port}}
+use Rattle.multiplier.specs.{State.settled, Rules.{CanPutBackUp, CanPutBackDown, UndoesUp, UndoesDown, KeepsPorts, HasRoomFor, put_back, held_source}}
+use Rattle.multiplier.specs.{Rules.may_go_back, declared.given.Given.Given, Between.{Answer, FromPort, Gives, Notice, lowered}}
 use Rattle.multiplier.specs.declared.given.Source.TheVariants as source
-use Rattle.multiplier.specs.Between.{Answer, FromPort, Gives, Notice, lowered}
-use Rattle.multiplier.proofs.ArbiterLemmas.{different}
-use Rattle.multiplier.proofs.Ports.{has_down, has_up}
-use Rattle.multiplier.proofs.GiveLemmas.{gives, given_keeps, given_sound, place_small, up_rule_keeps, down_rule_keeps}
+use Rattle.multiplier.proofs.{ArbiterLemmas.different, Ports.{has_down, has_up}, GiveLemmas.{gives, given_keeps, given_sound, place_small}}
+use Rattle.multiplier.proofs.GiveLemmas.{up_rule_keeps, down_rule_keeps}
 
 gives_only : (test : Bool) (frame was : Stamped) → port.only_if test frame ≡ Some was → Some frame ≡ Some was
 gives_only true frame was e = e

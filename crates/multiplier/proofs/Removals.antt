@@ -1,26 +1,22 @@
 -- What removals drop, each call, and all calls.
-use Rattle.std.proofs.Common.{◌≡◌, ◌≢◌, ℕ, ◌<◌, ◌≤◌, ◌==◌, ◌&&◌, max, Bool, true, false, not, List, [], ◌∷◌, ◌++◌, append_assoc, length, map, Option, Some, None, Result, Ok, Err, refl, sym, ap, ◌∙◌, subst, arith, inl, inr}
-use Rattle.std.specs.Prelude.{if◌then◌else◌}
-use Rattle.std.specs.Option.{option_to_list}
-use Rattle.std.proofs.lemmas.Bool.{cases_eq, cases_Bool, eq-eqb, ne_eqb}
-use Rattle.std.proofs.lemmas.List.{append-nil, map-append}
-use Rattle.std.proofs.lemmas.List.Elements.{filter-append}
+use Rattle.std.proofs.Common.{◌≡◌, ◌≢◌, ℕ, ◌<◌, ◌≤◌, ◌==◌, ◌&&◌, max, Bool, true, false, not, List, [], ◌∷◌, ◌++◌, append_assoc, length, map, Option}
+use Rattle.std.proofs.{Common.{Some, None, Result, Ok, Err, refl, sym, ap, ◌∙◌, subst, arith, inl, inr}, lemmas.Bool.{cases_eq, cases_Bool, eq-eqb}}
+use Rattle.std.proofs.lemmas.{Bool.ne_eqb, List.{append-nil, map-append, Elements.{filter-append}}}
+use Rattle.std.specs.{Prelude.{if◌then◌else◌}, Option.option_to_list}
 use Rattle.fis_view.specs.Frames.{Stamped}
 use Rattle.pm_ports.specs.Port as port
-use Rattle.pm_ports.specs.declared.port.GoneError.{GoneError}
-use Rattle.pm_ports.specs.declared.port.Offered.{Offered}
+use Rattle.pm_ports.specs.declared.port.{GoneError.GoneError, Offered.Offered}
 use Rattle.pm_ports.specs.declared.port.Offered.TheVariants as offered
-use Rattle.multiplier.specs.State.{PmState, IsSound, port_at, rising, falling}
-use Rattle.multiplier.specs.Rules.{FromDeviceRule, GoneRule, without_device}
-use Rattle.multiplier.specs.declared.multiplier.Passed.{Passed}
-use Rattle.multiplier.specs.declared.multiplier.Passed.TheVariants as passed
-use Rattle.multiplier.specs.declared.multiplier.PmRefusal.{PmRefusal}
-use Rattle.multiplier.specs.Passing.{Call, FromHost, FromDevice, Came, Gone, NextUp, PutBackUp, NextDown, PutBackDown, Does, DoesAll, Past, Suits, past_after, all_past, lost_from, of_conn, for_conn, held_of, came_by, came_in, lost_up_by, lost_up, to_port, falls_to, falls, passed_by, passed_down, lost_down_by, lost_down, present_after, all_present, gone_by, all_gone, highest, answers, answer_by, answers_made, PassInOrder}
+use Rattle.multiplier.specs.{State.{PmState, IsSound, port_at, rising, falling}, Rules.{FromDeviceRule, GoneRule, without_device}}
+use Rattle.multiplier.specs.{declared.multiplier.{Passed.Passed, PmRefusal.PmRefusal}, Passing.{Call, FromHost, FromDevice, Came, Gone, NextUp}}
+use Rattle.multiplier.specs.Passing.{PutBackUp, NextDown, PutBackDown, Does, DoesAll, Past, Suits, past_after, all_past, lost_from, of_conn, for_conn}
+use Rattle.multiplier.specs.Passing.{held_of, came_by, came_in, lost_up_by, lost_up, to_port, falls_to, falls, passed_by, passed_down, lost_down_by}
+use Rattle.multiplier.specs.Passing.{lost_down, present_after, all_present, gone_by, all_gone, highest, answers, answer_by, answers_made, PassInOrder}
 use Rattle.multiplier.specs.Between.{IsOver, IsStep}
-use Rattle.multiplier.proofs.Ports.{kept_part, this_port, other_port}
-use Rattle.multiplier.proofs.Gone.{up_to_is, still_up_to, never_up_to, goes}
-use Rattle.multiplier.proofs.Sound.{gone_sound}
-use Rattle.multiplier.proofs.PassingLemmas.{IsPlain, same, keep_connections, keep_falling, keep_last, keep_answer, keep_numbers, host_step, offer_step, came_step, turn_step, put_back_step, lower_step, raise_step}
+use Rattle.multiplier.specs.declared.multiplier.Passed.TheVariants as passed
+use Rattle.multiplier.proofs.{Ports.{kept_part, this_port, other_port}, Gone.{up_to_is, still_up_to, never_up_to, goes}, Sound.gone_sound}
+use Rattle.multiplier.proofs.PassingLemmas.{IsPlain, same, keep_connections, keep_falling, keep_last, keep_answer, keep_numbers, host_step}
+use Rattle.multiplier.proofs.PassingLemmas.{offer_step, came_step, turn_step, put_back_step, lower_step, raise_step}
 
 -- ---- one call
 

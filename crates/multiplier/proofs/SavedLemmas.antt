@@ -1,26 +1,18 @@
 -- The rule of a restored multiplier: what fits is sound.
-use Rattle.std.proofs.Common.{◌≡◌, ℕ, zero, suc, ◌+◌, ◌<◌, ◌≤◌, ◌==◌, ◌&&◌, Bool, true, false, not, List, [], ◌∷◌, length, slice_index, Option, Some, None, Err, refl, sym, ap, ◌∙◌, subst, arith, inl, inr}
-use Rattle.std.specs.Prelude.{is_some, nat_le}
-use Rattle.std.specs.Bool.{beq}
-use Rattle.std.specs.List.{AllByRecursion, list_all, range_with_len}
-use Rattle.std.proofs.Math.ListN.{get_or-eq_default}
-use Rattle.std.proofs.lemmas.Bool.{and_from, and_parts, cases_Bool, cases_eq, cases_lt, eq-eqb, eqb-true, le-leb, leb-true}
-use Rattle.saved_state.specs.State.{KeepsOption, NotSaved, Restores}
-use Rattle.saved_state.specs.declared.words.RestoreError.{RestoreError}
-use Rattle.saved_state.specs.declared.words.RestoreError.TheVariants.{OutOfMemory}
-use Rattle.fis_view.specs.Frames.{Stamped}
-use Rattle.fis_view.specs.Saved.{KeepsFrame}
+use Rattle.std.proofs.Common.{◌≡◌, ℕ, zero, suc, ◌+◌, ◌<◌, ◌≤◌, ◌==◌, ◌&&◌, Bool, true, false, not, List, [], ◌∷◌, length, slice_index, Option, Some}
+use Rattle.std.proofs.{Common.{None, Err, refl, sym, ap, ◌∙◌, subst, arith, inl, inr}, Math.ListN.{get_or-eq_default}, lemmas.Bool.and_from}
+use Rattle.std.proofs.lemmas.Bool.{and_parts, cases_Bool, cases_eq, cases_lt, eq-eqb, eqb-true, le-leb, leb-true}
+use Rattle.std.specs.{Prelude.{is_some, nat_le}, Bool.beq, List.{AllByRecursion, list_all, range_with_len}}
+use Rattle.saved_state.specs.{State.{KeepsOption, NotSaved, Restores}, declared.words.RestoreError.{RestoreError, TheVariants.OutOfMemory}}
+use Rattle.fis_view.specs.{Frames.Stamped, Saved.KeepsFrame}
 use Rattle.pm_registers.specs.RegisterMap as map
-use Rattle.pm_registers.specs.Port.{opening_port}
-use Rattle.pm_registers.specs.declared.port.PortRegisters.{PortRegisters}
+use Rattle.pm_registers.specs.{Port.opening_port, declared.port.PortRegisters.PortRegisters}
 use Rattle.pm_ports.specs.Port as port
 use Rattle.pm_ports.specs.Saved.{KeepsPort}
-use Rattle.multiplier.specs.Arbiter.{control_port}
-use Rattle.multiplier.specs.Between.{Ports, at}
-use Rattle.multiplier.specs.State.{IsPlace, IsSound, IsSoundPort, PmState, is_answer}
-use Rattle.multiplier.specs.Saved.{KeepsDown, KeepsGiven, KeepsParts, KeepsUp, answer_fits, down_fits, fits, fits_at, given_fits, parts_of, port_fits, ports_fit, put_down, put_given, put_up, removal_fits, removals_fit, up_fits}
-use Rattle.multiplier.specs.declared.given.Given.{Given}
-use Rattle.multiplier.specs.declared.given.Given.TheVariants.{Up, Down}
+use Rattle.multiplier.specs.{Arbiter.control_port, Between.{Ports, at}, State.{IsPlace, IsSound, IsSoundPort, PmState, is_answer}, Saved.KeepsDown}
+use Rattle.multiplier.specs.Saved.{KeepsGiven, KeepsParts, KeepsUp, answer_fits, down_fits, fits, fits_at, given_fits, parts_of, port_fits, ports_fit}
+use Rattle.multiplier.specs.{Saved.{put_down, put_given, put_up, removal_fits, removals_fit, up_fits}, declared.given.Given.{Given, TheVariants.Up}}
+use Rattle.multiplier.specs.declared.given.Given.TheVariants.{Down}
 
 -- ---- tests
 

@@ -1,34 +1,22 @@
 -- Each call leaves a sound multiplier.
-use Rattle.std.proofs.Common.{◌≡◌, ◌≢◌, ℕ, zero, suc, ◌<◌, ◌≤◌, ◌==◌, ◌&&◌, Bool, true, false, List, length, replicate, slice_index, Option, Some, None, Result, Ok, Err, refl, sym, ap, ◌∙◌, subst, arith, inl, inr}
+use Rattle.std.proofs.Common.{◌≡◌, ◌≢◌, ℕ, zero, suc, ◌<◌, ◌≤◌, ◌==◌, ◌&&◌, Bool, true, false, List, length, replicate, slice_index, Option, Some}
+use Rattle.std.proofs.{Common.{None, Result, Ok, Err, refl, sym, ap, ◌∙◌, subst, arith, inl, inr}, lemmas.Bool.{cases_eq, eq-eqb, ne_eqb}}
+use Rattle.std.proofs.lemmas.{Option.same_Some, List.{length-set, get_or-set_other, get_or_read}}
 use Rattle.std.specs.Prelude.{if◌then◌else◌, slice_set, slice_index_or, is_some}
-use Rattle.std.proofs.lemmas.Bool.{cases_eq, eq-eqb, ne_eqb}
-use Rattle.std.proofs.lemmas.Option.{same_Some}
-use Rattle.std.proofs.lemmas.List.{length-set, get_or-set_other, get_or_read}
-use Rattle.fis_view.specs.Frames.{Stamped}
-use Rattle.fis_view.specs.declared.frame.Stamp.{Stamp}
-use Rattle.fis_view.specs.declared.build.D2hFields.{D2hFields}
-use Rattle.fis_view.specs.declared.view.Fis.{Fis}
+use Rattle.fis_view.specs.{Frames.Stamped, declared.{frame.Stamp.Stamp, build.D2hFields.D2hFields, view.{Fis.Fis, FisFault.FisFault}}, Table.Kind}
+use Rattle.fis_view.specs.{Table.{H2d, D2h, Activate, Setup, Data, Pio, Bits, Other}, Seen.{seen, kind_of, kind_of_type, may_have, view_as}}
 use Rattle.fis_view.specs.declared.view.Fis.TheVariants as view
-use Rattle.fis_view.specs.declared.view.FisFault.{FisFault}
-use Rattle.fis_view.specs.Table.{Kind, H2d, D2h, Activate, Setup, Data, Pio, Bits, Other}
-use Rattle.fis_view.specs.Seen.{seen, kind_of, kind_of_type, may_have, view_as}
 use Rattle.pm_registers.specs.RegisterMap as map
-use Rattle.pm_registers.specs.Port.{opening_port, open_port, inserted, removed, ShowsTruly}
-use Rattle.pm_registers.specs.declared.port.PortRegisters.{PortRegisters}
-use Rattle.pm_registers.proofs.Door.{keeps_sound, sound_set, write_devices, write_sound}
+use Rattle.pm_registers.specs.{Port.{opening_port, open_port, inserted, removed, ShowsTruly}, declared.port.PortRegisters.PortRegisters}
 use Rattle.pm_registers.specs.Calls.{Inserts, Removes}
-use Rattle.pm_control.specs.Answers.{IsAnswer, IsNotice, registers_left, registers_after_request}
-use Rattle.pm_control.specs.Requests.{request_in}
-use Rattle.pm_control.specs.declared.request.Request.{Request}
-use Rattle.pm_control.specs.declared.request.Request.TheVariants.{Write}
+use Rattle.pm_registers.proofs.Door.{keeps_sound, sound_set, write_devices, write_sound}
+use Rattle.pm_control.specs.{Answers.{IsAnswer, IsNotice, registers_left, registers_after_request}, Requests.request_in}
+use Rattle.pm_control.specs.declared.request.Request.{Request, TheVariants.Write}
 use Rattle.pm_ports.specs.Port as port
-use Rattle.multiplier.specs.Arbiter.{control_port}
-use Rattle.multiplier.specs.State.{PmState, IsSound, IsSoundPort, IsPlace, ShowsRecorded, control_stamp, is_answer, is_notice, port_at, with_port, settled, stamped, opening, opening_with_port_0, first_port}
-use Rattle.multiplier.specs.Rules.{with_device, without_device}
-use Rattle.multiplier.specs.declared.given.Given.{Given}
-use Rattle.multiplier.specs.Between.{at}
-use Rattle.multiplier.proofs.Ports.{each_port, this_port, other_port}
-use Rattle.multiplier.proofs.Gone.{accepted, came_port, goes, gone_port, removal_at}
+use Rattle.multiplier.specs.{Arbiter.control_port, State.{PmState, IsSound, IsSoundPort, IsPlace, ShowsRecorded, control_stamp, is_answer, is_notice}}
+use Rattle.multiplier.specs.{State.{port_at, with_port, settled, stamped, opening, opening_with_port_0, first_port}, Rules.with_device}
+use Rattle.multiplier.specs.{Rules.without_device, declared.given.Given.Given, Between.at}
+use Rattle.multiplier.proofs.{Ports.{each_port, this_port, other_port}, Gone.{accepted, came_port, goes, gone_port, removal_at}}
 
 -- ---- types of FIS
 

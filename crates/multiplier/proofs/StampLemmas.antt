@@ -1,34 +1,23 @@
 -- What goes up is in stamped order, and a FIS of the control port shows what is gone.
-use Rattle.std.proofs.Common.{◌≡◌, ◌≢◌, ℕ, ◌<◌, ◌==◌, Bool, true, false, List, [], ◌∷◌, ◌++◌, append_assoc, map, slice_index, Option, Some, None, Result, Ok, Err, MatchOption, refl, sym, ap, ◌∙◌, subst, arith, inl, inr}
-use Rattle.std.specs.Prelude.{if◌then◌else◌}
-use Rattle.std.specs.Bool.{MatchBool}
-use Rattle.std.specs.Option.{option_to_list}
-use Rattle.std.proofs.lemmas.Bool.{cases_eq, eq-eqb, ne_eqb}
-use Rattle.std.proofs.lemmas.Option.{same_Some}
-use Rattle.std.proofs.lemmas.List.{append-nil, map-append}
-use Rattle.std.proofs.lemmas.List.Elements.{filter-append}
-use Rattle.fis_view.specs.Frames.{Stamped}
-use Rattle.fis_view.specs.declared.build.D2hFields.{D2hFields}
-use Rattle.fis_view.specs.declared.frame.Stamp.{Stamp}
+use Rattle.std.proofs.Common.{◌≡◌, ◌≢◌, ℕ, ◌<◌, ◌==◌, Bool, true, false, List, [], ◌∷◌, ◌++◌, append_assoc, map, slice_index, Option, Some, None}
+use Rattle.std.proofs.{Common.{Result, Ok, Err, MatchOption, refl, sym, ap, ◌∙◌, subst, arith, inl, inr}, lemmas.Bool.{cases_eq, eq-eqb, ne_eqb}}
+use Rattle.std.proofs.lemmas.{Option.same_Some, List.{append-nil, map-append, Elements.{filter-append}}}
+use Rattle.std.specs.{Prelude.{if◌then◌else◌}, Bool.MatchBool, Option.option_to_list}
+use Rattle.fis_view.specs.{Frames.Stamped, declared.{build.D2hFields.D2hFields, frame.Stamp.Stamp}}
 use Rattle.pm_control.specs.Answers.{IsAnswer, answer_to}
 use Rattle.pm_ports.specs.Port as port
 use Rattle.pm_ports.specs.declared.port.Offered.TheVariants as offered
-use Rattle.multiplier.specs.Arbiter.{control_port}
-use Rattle.multiplier.specs.Orders.{InDeviceOrder, InStampedOrder, IsNextAtHost, IsWithin, of_connection}
-use Rattle.multiplier.specs.State.{PmState, IsSound, control_stamp, is_notice, passes_to, pm_port, port_at, rising}
-use Rattle.multiplier.specs.Rules.{FromHostRule, ToControl, ToDevice, ToNobody}
-use Rattle.multiplier.specs.declared.multiplier.Passed.{Passed}
+use Rattle.multiplier.specs.{Arbiter.control_port, Orders.{InDeviceOrder, InStampedOrder, IsNextAtHost, IsWithin, of_connection}, State.PmState}
+use Rattle.multiplier.specs.{State.{IsSound, control_stamp, is_notice, passes_to, pm_port, port_at, rising}, Rules.{FromHostRule, ToControl}}
+use Rattle.multiplier.specs.{Rules.{ToDevice, ToNobody}, declared.multiplier.{Passed.Passed, PmRefusal.PmRefusal}, Passing.{Call, FromHost}}
+use Rattle.multiplier.specs.Passing.{FromDevice, NextUp, PutBackUp, NextDown, Does, DoesAll, Past, Suits, past_after, but_last, made_by, made_in}
+use Rattle.multiplier.specs.{Passing.{of_conn, held_of, came_by, ShowsRemovals}, Stamping.{taken_by, taken_of, IsStamped, GoesUpStamped}}
+use Rattle.multiplier.specs.{Stamping.BeginsStamped, Between.{Answer, FromPort, Gives, IsStep, Notice}}
 use Rattle.multiplier.specs.declared.multiplier.Passed.TheVariants as passed
-use Rattle.multiplier.specs.declared.multiplier.PmRefusal.{PmRefusal}
-use Rattle.multiplier.specs.Passing.{Call, FromHost, FromDevice, NextUp, PutBackUp, NextDown, Does, DoesAll, Past, Suits, past_after, but_last, made_by, made_in, of_conn, held_of, came_by, ShowsRemovals}
-use Rattle.multiplier.specs.Stamping.{taken_by, taken_of, IsStamped, GoesUpStamped, BeginsStamped}
-use Rattle.multiplier.specs.Between.{Answer, FromPort, Gives, IsStep, Notice}
-use Rattle.multiplier.proofs.Gone.{never_up_to, not_up_to, removal_at}
-use Rattle.multiplier.proofs.GiveLemmas.{gives}
-use Rattle.multiplier.proofs.UpSteps.{IsUpStep, up_step, no_notice, answer_no_notice}
-use Rattle.multiplier.proofs.PassingLemmas.{last_gone}
-use Rattle.multiplier.proofs.Removals.{one_step, step_gone, apart, pass_in_order}
-use Rattle.multiplier.proofs.OrderLemmas.{device_prefixes, stamped_starts, stamped_prefixes, stamped_more, within_none, within_rises, within_more, within_less, number_is}
+use Rattle.multiplier.proofs.{Gone.{never_up_to, not_up_to, removal_at}, GiveLemmas.gives, UpSteps.{IsUpStep, up_step, no_notice, answer_no_notice}}
+use Rattle.multiplier.proofs.{PassingLemmas.last_gone, Removals.{one_step, step_gone, apart, pass_in_order}, OrderLemmas.device_prefixes}
+use Rattle.multiplier.proofs.OrderLemmas.{stamped_starts, stamped_prefixes, stamped_more, within_none, within_rises, within_more, within_less}
+use Rattle.multiplier.proofs.OrderLemmas.{number_is}
 
 -- ---- what was taken, as it goes up
 

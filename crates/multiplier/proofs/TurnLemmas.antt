@@ -1,28 +1,17 @@
 -- A place that is ready at each turn is passed over at most fifteen times, over any calls.
-use Rattle.std.proofs.Common.{◌≡◌, ◌≢◌, ℕ, ◌+◌, ◌<◌, ◌≤◌, ◌==◌, Bool, true, false, List, [], ◌∷◌, ◌++◌, length, Option, Some, None, Result, Ok, Err, MatchOption, sym, ap, ◌∙◌, subst, arith}
+use Rattle.std.proofs.Common.{◌≡◌, ◌≢◌, ℕ, ◌+◌, ◌<◌, ◌≤◌, ◌==◌, Bool, true, false, List, [], ◌∷◌, ◌++◌, length, Option, Some, None, Result, Ok, Err}
+use Rattle.std.proofs.{Common.{MatchOption, sym, ap, ◌∙◌, subst, arith}, lemmas.List.{length-append}}
 use Rattle.std.specs.Bool.{MatchBool}
-use Rattle.std.proofs.lemmas.List.{length-append}
-use Rattle.fis_view.specs.Frames.{Stamped}
-use Rattle.fis_view.specs.declared.frame.Stamp.{Stamp}
-use Rattle.pm_ports.specs.declared.port.Offered.{Offered}
+use Rattle.fis_view.specs.{Frames.Stamped, declared.frame.Stamp.Stamp}
+use Rattle.pm_ports.specs.declared.port.{Offered.Offered, GoneError.GoneError, PortError.PortError}
 use Rattle.pm_ports.specs.declared.port.Offered.TheVariants as offered
-use Rattle.pm_ports.specs.declared.port.GoneError.{GoneError}
-use Rattle.pm_ports.specs.declared.port.PortError.{PortError}
-use Rattle.multiplier.specs.Arbiter.{control_port}
-use Rattle.multiplier.specs.State.{PmState, IsSound, IsPlace, ready, next_place, passes_to, pm_port, settled}
+use Rattle.multiplier.specs.{Arbiter.control_port, State.{PmState, IsSound, IsPlace, ready, next_place, passes_to, pm_port, settled}}
 use Rattle.multiplier.specs.Rules.{FromHostRule, FromDeviceRule, CameRule, GoneRule, NextDownRule, ToControl, ToDevice, ToNobody}
-use Rattle.multiplier.specs.declared.given.Given.{Given}
-use Rattle.multiplier.specs.declared.given.Given.TheVariants.{Up, Down}
-use Rattle.multiplier.specs.declared.given.Source.{Source}
-use Rattle.multiplier.specs.declared.multiplier.Passed.{Passed}
+use Rattle.multiplier.specs.declared.{given.{Given.{Given, TheVariants.{Up, Down}}, Source.Source}, multiplier.{Passed.Passed, PmRefusal.PmRefusal}}
+use Rattle.multiplier.specs.Passing.{Call, FromHost, FromDevice, Came, Gone, NextUp, PutBackUp, NextDown, PutBackDown, Does, Runs, Past, Suits}
+use Rattle.multiplier.specs.{Passing.{PassesOver, past_after, all_past, but_last}, Between.{Answer, FromPort, Gives, IsStep, Notice}}
 use Rattle.multiplier.specs.declared.multiplier.Passed.TheVariants as passed
-use Rattle.multiplier.specs.declared.multiplier.PmRefusal.{PmRefusal}
-use Rattle.multiplier.specs.Passing.{Call, FromHost, FromDevice, Came, Gone, NextUp, PutBackUp, NextDown, PutBackDown, Does, Runs, Past, Suits, PassesOver, past_after, all_past, but_last}
-use Rattle.multiplier.specs.Between.{Answer, FromPort, Gives, IsStep, Notice}
-use Rattle.multiplier.proofs.ArbiterLemmas.{WaitsAtMost, waits_some, Nearer, nearer}
-use Rattle.multiplier.proofs.GiveLemmas.{gives}
-use Rattle.multiplier.proofs.PassingLemmas.{last_gone}
-use Rattle.multiplier.proofs.Removals.{one_step}
+use Rattle.multiplier.proofs.{ArbiterLemmas.{WaitsAtMost, waits_some, Nearer, nearer}, GiveLemmas.gives, PassingLemmas.last_gone, Removals.one_step}
 
 -- so many frames went up; with the turns of others that can pass before the place is served they are within the limit,
 -- and so they are once the last one is put back

@@ -1,24 +1,15 @@
 -- What a frame that goes up is to those that went up before, and to what waits. The step back is the same, read backwards.
-use Rattle.std.proofs.Common.{◌≡◌, ◌≢◌, ℕ, ◌<◌, ◌==◌, ◌&&◌, Bool, true, false, List, [], ◌∷◌, ◌++◌, map, slice_index, Option, Some, None, refl, sym, ap, ◌∙◌, subst, arith, inl, inr}
-use Rattle.std.specs.Prelude.{if◌then◌else◌}
-use Rattle.std.specs.Option.{option_to_list}
-use Rattle.std.proofs.lemmas.Bool.{cases_eq, ne_eqb, eqb-true}
-use Rattle.std.proofs.lemmas.Option.{same_Some}
-use Rattle.std.proofs.lemmas.List.{append-nil}
-use Rattle.fis_view.specs.Frames.{Stamped}
-use Rattle.fis_view.specs.declared.frame.Stamp.{Stamp}
+use Rattle.std.proofs.Common.{◌≡◌, ◌≢◌, ℕ, ◌<◌, ◌==◌, ◌&&◌, Bool, true, false, List, [], ◌∷◌, ◌++◌, map, slice_index, Option, Some, None, refl, sym}
+use Rattle.std.proofs.{Common.{ap, ◌∙◌, subst, arith, inl, inr}, lemmas.{Bool.{cases_eq, ne_eqb, eqb-true}, Option.same_Some, List.{append-nil}}}
+use Rattle.std.specs.{Prelude.{if◌then◌else◌}, Option.option_to_list}
+use Rattle.fis_view.specs.{Frames.Stamped, declared.frame.Stamp.Stamp}
 use Rattle.pm_registers.specs.RegisterMap as map
 use Rattle.pm_ports.specs.Port as port
-use Rattle.multiplier.specs.Arbiter.{control_port}
-use Rattle.multiplier.specs.State.{PmState, IsSound, ShowsRecorded, port_at, held, rising, control_stamp, counted, is_answer, is_notice}
-use Rattle.multiplier.specs.Rules.{KeepsPorts, held_source, may_go_back}
-use Rattle.multiplier.specs.Passing.{of_conn, held_of, falls_to, answers}
+use Rattle.multiplier.specs.{Arbiter.control_port, State.{PmState, IsSound, ShowsRecorded, port_at, held, rising, control_stamp, counted, is_answer}}
+use Rattle.multiplier.specs.{State.is_notice, Rules.{KeepsPorts, held_source, may_go_back}, Passing.{of_conn, held_of, falls_to, answers}}
 use Rattle.multiplier.specs.Between.{Answer, FromPort, Gives, Notice, Ports, at, lowered}
-use Rattle.multiplier.proofs.ArbiterLemmas.{different}
-use Rattle.multiplier.proofs.Ports.{kept_part, this_port, other_port, has_up}
-use Rattle.multiplier.proofs.Sound.{notice_is, notice_is_no_answer, stamp_shows}
-use Rattle.multiplier.proofs.GiveLemmas.{given_keeps, place_small}
-use Rattle.multiplier.proofs.PutBack.{gives_held}
+use Rattle.multiplier.proofs.{ArbiterLemmas.different, Ports.{kept_part, this_port, other_port, has_up}, Sound.{notice_is, notice_is_no_answer}}
+use Rattle.multiplier.proofs.{Sound.stamp_shows, GiveLemmas.{given_keeps, place_small}, PutBack.gives_held}
 
 pub record IsUpStep (old : PmState) (frame : Stamped) (new : PmState) : Type 0 where
   -- of a device port, the frame is the one that was held

@@ -1,7 +1,6 @@
 -- Which place is served next (Serial ATA 3.x, 16.3, port multiplier: frame transmission; the policy for
 -- frames to the host must be fair). The places are the device ports 0 to 14 and the control port Fh, 15.
-use Rattle.std.specs.Prelude.{◌≡◌, ◌≢◌, ℕ, ◌+◌, ◌-◌, Bool, IsTrue, List, [], ◌∷◌, ◌++◌, All, Option, Some}
-use Rattle.std.specs.List.{range_with_len, find}
+use Rattle.std.specs.{Prelude.{◌≡◌, ◌≢◌, ℕ, ◌+◌, ◌-◌, Bool, IsTrue, List, [], ◌∷◌, ◌++◌, All, Option, Some}, List.{range_with_len, find}}
 -- the control port's PM Port
 pub use Rattle.pm_registers.specs.RegisterMap.{control_port}
 

@@ -1,18 +1,15 @@
 -- The words in which lemmas are stated that proofs of other crates use (`proofs/Door.antt`), and the words that these need.
 -- No clause says them.
-use Rattle.std.specs.Prelude.{List, None, Option, Some, false, slice_index_or, true, ℕ, ◌++◌, ◌<◌, ◌≡◌, ◌≢◌, ◌≤◌, []}
-use Rattle.std.specs.Option.{option_to_list}
+use Rattle.std.specs.{Prelude.{List, None, Option, Some, false, slice_index_or, true, ℕ, ◌++◌, ◌<◌, ◌≡◌, ◌≢◌, ◌≤◌, []}, Option.option_to_list}
 use Rattle.fis_view.specs.Frames.{Stamped}
 use Rattle.pm_registers.specs.RegisterMap as map
 use Rattle.pm_control.specs.Answers.{IsNotice}
 use Rattle.pm_ports.specs.Port as port
 use Rattle.multiplier.specs.declared.given.Source.TheVariants as source
-use Rattle.multiplier.specs.Arbiter.{control_port}
-use Rattle.multiplier.specs.Passing.{AreNumbered, Call, NeverFall, NeverFallTo, Past, answer_by, answers, came_by, falls_to}
-use Rattle.multiplier.specs.Passing.{for_conn, gone_by, held_of, highest, lost_down, lost_down_by, lost_up_by, of_conn}
-use Rattle.multiplier.specs.Passing.{passed_by, past_after, present_after, to_port}
-use Rattle.multiplier.specs.Rules.{held_source, may_go_back}
-use Rattle.multiplier.specs.State.{IsSound, PmState, control_stamp, counted, held, next_place, port_at, rising, with_port}
+use Rattle.multiplier.specs.{Arbiter.control_port, Passing.{AreNumbered, Call, NeverFall, NeverFallTo, Past, answer_by, answers, came_by, falls_to}}
+use Rattle.multiplier.specs.Passing.{for_conn, gone_by, held_of, highest, lost_down, lost_down_by, lost_up_by, of_conn, passed_by, past_after}
+use Rattle.multiplier.specs.{Passing.{present_after, to_port}, Rules.{held_source, may_go_back}, State.{IsSound, PmState, control_stamp, counted}}
+use Rattle.multiplier.specs.State.{held, next_place, port_at, rising, with_port}
 
 -- the ports of a multiplier, by their numbers
 abbrev pub Ports : Type 0

@@ -1,25 +1,14 @@
 -- Frames pass a multiplier in order, and what it took is passed, held or dropped by a removal (Serial ATA 3.x,
 -- 16.3, port multiplier: frame transmission). This holds for any sound multiplier, whatever frames passed before.
-use Rattle.std.specs.Prelude.{◌≡◌, ◌≢◌, ℕ, ◌-◌, ◌<◌, ◌≤◌, ◌==◌, ◌&&◌, max, false, true, if◌then◌else◌, List}
-use Rattle.std.specs.Prelude.{[], ◌∷◌, ◌++◌, All, length, map, slice_index, take, Option, Some, None, Result}
-use Rattle.std.specs.Prelude.{Ok}
-use Rattle.std.specs.List.{filter, flat_map}
-use Rattle.std.specs.List.Sorted.{IsNonDecreasingBy}
-use Rattle.std.specs.Option.{option_to_list}
-use Rattle.std.specs.declared.alloc.AllocError.{AllocError}
+use Rattle.std.specs.Prelude.{◌≡◌, ◌≢◌, ℕ, ◌-◌, ◌<◌, ◌≤◌, ◌==◌, ◌&&◌, max, false, true, if◌then◌else◌, List, [], ◌∷◌, ◌++◌, All, length, map}
+use Rattle.std.specs.{Prelude.{slice_index, take, Option, Some, None, Result, Ok}, List.{filter, flat_map, Sorted.IsNonDecreasingBy}}
+use Rattle.std.specs.{Option.option_to_list, declared.alloc.AllocError.AllocError}
 use Rattle.fis_view.specs.Frames.{Stamped}
-use Rattle.pm_ports.specs.declared.port.Offered.{Offered}
-use Rattle.pm_ports.specs.declared.port.Offered.TheVariants.{Held as Kept}
-use Rattle.pm_ports.specs.Port.{is_gone}
-use Rattle.pm_ports.specs.declared.port.GoneError.{GoneError}
-use Rattle.pm_ports.specs.declared.port.PortError.{PortError}
-use Rattle.multiplier.specs.State.{PmState, IsSound, counted, falling, is_answer, is_notice, port_at, ready}
-use Rattle.multiplier.specs.State.{rising}
-use Rattle.multiplier.specs.Rules.{CameRule, CanPutBackDown, CanPutBackUp, FromDeviceRule, FromHostRule}
-use Rattle.multiplier.specs.Rules.{GoneRule, NextDownRule, NextUpRule, UndoesDown, UndoesUp}
-use Rattle.multiplier.specs.declared.multiplier.Passed.{Passed}
+use Rattle.pm_ports.specs.{declared.port.{Offered.{Offered, TheVariants.Held as Kept}, GoneError.GoneError, PortError.PortError}, Port.is_gone}
+use Rattle.multiplier.specs.{State.{PmState, IsSound, counted, falling, is_answer, is_notice, port_at, ready, rising}, Rules.CameRule}
+use Rattle.multiplier.specs.Rules.{CanPutBackDown, CanPutBackUp, FromDeviceRule, FromHostRule, GoneRule, NextDownRule, NextUpRule, UndoesDown}
+use Rattle.multiplier.specs.{Rules.UndoesUp, declared.multiplier.{Passed.Passed, PmRefusal.PmRefusal}}
 use Rattle.multiplier.specs.declared.multiplier.Passed.TheVariants as passed
-use Rattle.multiplier.specs.declared.multiplier.PmRefusal.{PmRefusal}
 
 -- ---- calls
 

@@ -1,30 +1,18 @@
 -- What each call does (Serial ATA 3.x, 16.3, port multiplier: frame transmission). The frame given last may
 -- be put back until a call changes anything. A call that gives a frame grants this permission for its own
 -- frame.
-use Rattle.std.specs.Prelude.{◌≡◌, ◌≢◌, ◌↔◌, ℕ, ◌<◌, ◌≤◌, ◌==◌, true, false, if◌then◌else◌, Option, Some}
-use Rattle.std.specs.Prelude.{None, is_some, MatchOption, MatchResult, Result, Ok, Err}
-use Rattle.std.specs.Bool.{MatchBool}
-use Rattle.std.specs.Result.{result_err}
-use Rattle.std.specs.declared.alloc.AllocError.{AllocError}
+use Rattle.std.specs.Prelude.{◌≡◌, ◌≢◌, ◌↔◌, ℕ, ◌<◌, ◌≤◌, ◌==◌, true, false, if◌then◌else◌, Option, Some, None, is_some, MatchOption, MatchResult}
+use Rattle.std.specs.{Prelude.{Result, Ok, Err}, Bool.MatchBool, Result.result_err, declared.alloc.AllocError.AllocError}
 use Rattle.fis_view.specs.Frames.{Stamped, marked}
 use Rattle.pm_registers.specs.RegisterMap as map
 use Rattle.pm_control.specs.Answers.{IsAnswer, IsNotice, answer_to, registers_left, mark_left}
 use Rattle.pm_ports.specs.Port as port
-use Rattle.pm_ports.specs.declared.port.GoneError.{GoneError}
-use Rattle.pm_ports.specs.declared.port.PortError.{PortError}
-use Rattle.pm_ports.specs.declared.port.Offered.{Offered}
-use Rattle.pm_ports.specs.declared.port.Offered.TheVariants.{Held as Kept, Dropped as LetGo}
-use Rattle.multiplier.specs.Arbiter.{control_port}
-use Rattle.multiplier.specs.State.{PmState, IsSound, ShowsRecorded, is_answer, port_at, with_port, settled}
-use Rattle.multiplier.specs.State.{held, rising, stamped, next_place, control_stamp, counted, pm_port}
-use Rattle.multiplier.specs.State.{passes_to, falling}
-use Rattle.multiplier.specs.declared.given.Given.{Given}
-use Rattle.multiplier.specs.declared.given.Given.TheVariants.{Up, Down}
-use Rattle.multiplier.specs.declared.given.Source.{Source}
+use Rattle.pm_ports.specs.declared.port.{GoneError.GoneError, PortError.PortError, Offered.{Offered, TheVariants.{Held as Kept, Dropped as LetGo}}}
+use Rattle.multiplier.specs.{Arbiter.control_port, State.{PmState, IsSound, ShowsRecorded, is_answer, port_at, with_port, settled, held, rising}}
+use Rattle.multiplier.specs.{State.{stamped, next_place, control_stamp, counted, pm_port, passes_to, falling}, declared.given.Given.Given}
+use Rattle.multiplier.specs.declared.{given.{Given.TheVariants.{Up, Down}, Source.Source}, multiplier.{Passed.Passed, PmRefusal.PmRefusal}}
 use Rattle.multiplier.specs.declared.given.Source.TheVariants as source
-use Rattle.multiplier.specs.declared.multiplier.Passed.{Passed}
 use Rattle.multiplier.specs.declared.multiplier.Passed.TheVariants as passed
-use Rattle.multiplier.specs.declared.multiplier.PmRefusal.{PmRefusal}
 use Rattle.multiplier.specs.declared.multiplier.PmRefusal.TheVariants as refusal
 
 -- the ports stay: their number, which connection is present at each, which was the last, and which are gone

@@ -1,22 +1,16 @@
 -- A multiplier as words.
-use Rattle.std.specs.Prelude.{◌≡◌, ℕ, ◌<◌, ◌^◌, ◌==◌, ◌&&◌, not, nat_le, List, ◌∷◌, length, slice_index, slice_index_or, Bool, true, false, Option, Some, None, is_some, refl}
-use Rattle.std.specs.Bool.{beq}
-use Rattle.std.specs.List.{AllByRecursion, list_all, range_with_len}
+use Rattle.std.specs.Prelude.{◌≡◌, ℕ, ◌<◌, ◌^◌, ◌==◌, ◌&&◌, not, nat_le, List, ◌∷◌, length, slice_index, slice_index_or, Bool, true, false, Option}
+use Rattle.std.specs.{Prelude.{Some, None, is_some, refl}, Bool.beq, List.{AllByRecursion, list_all, range_with_len}}
 use Rattle.std.proofs.Common.{ap, sym, ◌∙◌}
-use Rattle.saved_state.specs.State.{IsToldApart, KeepsOption, put_all, put_bool, put_number, put_option, put_pair, put_three, number_apart, bool_apart, all_apart, option_apart, pair_apart, three_apart, parts_apart}
-use Rattle.fis_view.specs.Frames.{Stamped}
-use Rattle.fis_view.specs.Saved.{KeepsFrame, KeepsStamp, frame_apart, put_frame, put_stamp, stamp_apart}
-use Rattle.fis_view.specs.declared.frame.Stamp.{Stamp}
+use Rattle.saved_state.specs.State.{IsToldApart, KeepsOption, put_all, put_bool, put_number, put_option, put_pair, put_three, number_apart}
+use Rattle.saved_state.specs.State.{bool_apart, all_apart, option_apart, pair_apart, three_apart, parts_apart}
+use Rattle.fis_view.specs.{Frames.Stamped, Saved.{KeepsFrame, KeepsStamp, frame_apart, put_frame, put_stamp, stamp_apart}, declared.frame.Stamp.Stamp}
 use Rattle.pm_registers.specs.RegisterMap as map
 use Rattle.pm_registers.specs.Saved.{KeepsRegisters, put_registers, registers_apart}
 use Rattle.pm_ports.specs.Port as port
 use Rattle.pm_ports.specs.Saved.{KeepsPort, port_apart, put_port}
-use Rattle.multiplier.specs.Arbiter.{control_port}
-use Rattle.multiplier.specs.State.{IsSound, PmState, is_answer}
-use Rattle.multiplier.specs.declared.given.Given.{Given}
-use Rattle.multiplier.specs.declared.given.Given.TheVariants.{Up, Down}
-use Rattle.multiplier.specs.declared.given.Source.{Source}
-use Rattle.multiplier.specs.declared.given.Source.TheVariants.{Held, Answer, Notice}
+use Rattle.multiplier.specs.{Arbiter.control_port, State.{IsSound, PmState, is_answer}, declared.given.Given.{Given, TheVariants.{Up, Down}}}
+use Rattle.multiplier.specs.declared.given.Source.{Source, TheVariants.{Held, Answer, Notice}}
 
 -- ---- the frame that was given last
 

@@ -1,12 +1,9 @@
 -- What goes up is in stamped order, if what was taken from each device is in order. The stamps are our own.
-use Rattle.std.specs.Prelude.{◌≡◌, ℕ, ◌<◌, ◌==◌, false, if◌then◌else◌, List, [], ◌∷◌, ◌++◌, map, Ok}
-use Rattle.std.specs.List.{flat_map}
-use Rattle.std.specs.Option.{option_to_list}
+use Rattle.std.specs.{Prelude.{◌≡◌, ℕ, ◌<◌, ◌==◌, false, if◌then◌else◌, List, [], ◌∷◌, ◌++◌, map, Ok}, List.flat_map, Option.option_to_list}
 use Rattle.fis_view.specs.Frames.{Stamped}
 use Rattle.pm_ports.specs.Port.{is_gone}
-use Rattle.multiplier.specs.Orders.{InDeviceOrder, InStampedOrder, IsWithin, of_connection}
-use Rattle.multiplier.specs.State.{PmState, IsSound, port_at, rising}
-use Rattle.multiplier.specs.Passing.{Call, FromDevice, DoesAll, Past, all_past, held_of, of_conn}
+use Rattle.multiplier.specs.{Orders.{InDeviceOrder, InStampedOrder, IsWithin, of_connection}, State.{PmState, IsSound, port_at, rising}, Passing.Call}
+use Rattle.multiplier.specs.Passing.{FromDevice, DoesAll, Past, all_past, held_of, of_conn}
 
 -- the frame that a call took from the device at port n, whether it was held or dropped
 abbrev pub taken_by : ℕ → Call → List Stamped

@@ -1,15 +1,11 @@
 -- What a port multiplier holds (Serial ATA 3.x, 16.3, port multiplier): its registers (16.4), its device
 -- ports, and what its control port has to transmit.
-use Rattle.std.specs.Prelude.{◌≡◌, ℕ, ◌+◌, ◌%◌, ◌==◌, ◌≤◌, ◌&&◌, ◌||◌, min, Bool, false, true, if◌then◌else◌}
-use Rattle.std.specs.Prelude.{List, length, map, replicate, slice_index, slice_index_or, slice_set, Option}
-use Rattle.std.specs.Prelude.{None, Some, is_some}
-use Rattle.fis_view.specs.Frames.{Stamped, marked}
-use Rattle.fis_view.specs.declared.frame.Stamp.{Stamp}
+use Rattle.std.specs.Prelude.{◌≡◌, ℕ, ◌+◌, ◌%◌, ◌==◌, ◌≤◌, ◌&&◌, ◌||◌, min, Bool, false, true, if◌then◌else◌, List, length, map, replicate}
+use Rattle.std.specs.Prelude.{slice_index, slice_index_or, slice_set, Option, None, Some, is_some}
+use Rattle.fis_view.specs.{Frames.{Stamped, marked}, declared.frame.Stamp.Stamp}
 use Rattle.pm_registers.specs.RegisterMap as map
 use Rattle.pm_ports.specs.Port as port
-use Rattle.multiplier.specs.Arbiter.{control_port, next_served}
-use Rattle.multiplier.specs.declared.given.Given.{Given}
-use Rattle.multiplier.specs.declared.given.Given.TheVariants.{Up, Down}
+use Rattle.multiplier.specs.{Arbiter.{control_port, next_served}, declared.given.Given.{Given, TheVariants.{Up, Down}}}
 
 -- a multiplier, as contracts see it
 pub record PmState : Type 0 where

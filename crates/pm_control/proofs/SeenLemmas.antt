@@ -1,21 +1,13 @@
 -- A write that was done is seen by the next read.
-use Rattle.std.proofs.Common.{◌≡◌, ℕ, ◌%◌, Bool, nat_lt, List, Option, Some, None, Result, Ok, Err, IfSome, unwrap_or, refl, sym, ap, subst, ◌∙◌, arith, inl, inr}
+use Rattle.std.proofs.Common.{◌≡◌, ℕ, ◌%◌, Bool, nat_lt, List, Option, Some, None, Result, Ok, Err, IfSome, unwrap_or, refl, sym, ap, subst, ◌∙◌}
+use Rattle.std.proofs.{Common.{arith, inl, inr}, lemmas.Bool.cases_Bool}
 use Rattle.std.specs.Prelude.{◌==◌, ok_or}
-use Rattle.std.proofs.lemmas.Bool.{cases_Bool}
-use Rattle.fis_view.specs.Frames.{Stamped}
-use Rattle.fis_view.specs.Table.{D2h, Status, places, field}
-use Rattle.fis_view.specs.Built.{IsBuilt, cut, d2h_given}
-use Rattle.fis_view.specs.declared.build.D2hFields.{D2hFields}
+use Rattle.fis_view.specs.{Frames.Stamped, Table.{D2h, Status, places, field}, Built.{IsBuilt, cut, d2h_given}, declared.build.D2hFields.D2hFields}
 use Rattle.fis_view.specs.declared.frame.Stamp.{Stamp}
-use Rattle.pm_registers.specs.RegisterMap.{RegisterMap, after_rule, control_port, has_port, read_at, register_at, write_rule}
-use Rattle.pm_registers.specs.Calls.{value_at}
-use Rattle.pm_registers.specs.declared.words.RegisterError.{RegisterError}
-use Rattle.pm_registers.specs.declared.words.RegisterError.TheVariants.{NoPort, NoRegister}
-use Rattle.pm_control.specs.declared.request.Address.{Address}
-use Rattle.pm_control.specs.declared.request.Request.{Request}
-use Rattle.pm_control.specs.declared.request.Request.TheVariants.{Read, Write}
-use Rattle.pm_control.specs.Requests.{request_in}
-use Rattle.pm_control.specs.Answers.{IsAnswer, IsSeenNext, ReadsBack, answer_of, answer_to, value_answer, write_answer}
+use Rattle.pm_registers.specs.{RegisterMap.{RegisterMap, after_rule, control_port, has_port, read_at, register_at, write_rule}, Calls.value_at}
+use Rattle.pm_registers.specs.declared.words.RegisterError.{RegisterError, TheVariants.{NoPort, NoRegister}}
+use Rattle.pm_control.specs.{declared.request.{Address.Address, Request.{Request, TheVariants.{Read, Write}}}, Requests.request_in, Answers.IsAnswer}
+use Rattle.pm_control.specs.Answers.{IsSeenNext, ReadsBack, answer_of, answer_to, value_answer, write_answer}
 
 -- a register that has a value is read
 read_some : (m : RegisterMap) (port register x : ℕ) → register_at m port register ≡ Some x → read_at m port register ≡ Ok x

@@ -1,22 +1,12 @@
 -- How the control port answers, and what an answer leaves (Serial ATA 3.x, 16.2: READ PORT MULTIPLIER and
 -- WRITE PORT MULTIPLIER, software reset of the control port; 16.3: asynchronous notification; 16.4: the
 -- registers).
-use Rattle.std.specs.Prelude.{◌≡◌, ℕ, ◌/◌, ◌%◌, Bool, true, false, if◌then◌else◌, List, Option, Some, None}
-use Rattle.std.specs.Prelude.{IsSome, Result, Ok, Err}
-use Rattle.fis_view.specs.Frames.{Stamped}
-use Rattle.fis_view.specs.Table.{D2h, Bits}
-use Rattle.fis_view.specs.Built.{IsBuilt, d2h_given, set_bits_given}
-use Rattle.fis_view.specs.declared.build.D2hFields.{D2hFields}
-use Rattle.fis_view.specs.declared.build.SetBitsFields.{SetBitsFields}
-use Rattle.fis_view.specs.declared.frame.Stamp.{Stamp}
-use Rattle.pm_registers.specs.RegisterMap.{RegisterMap, register_at, read_at, after_rule, after_write}
-use Rattle.pm_registers.specs.RegisterMap.{write_rule}
-use Rattle.pm_registers.specs.Calls.{value_at}
-use Rattle.pm_registers.specs.declared.words.RegisterError.{RegisterError}
-use Rattle.pm_registers.specs.declared.words.RegisterError.TheVariants.{NoPort, NoRegister}
-use Rattle.pm_control.specs.declared.request.Address.{Address}
-use Rattle.pm_control.specs.declared.request.Request.{Request}
-use Rattle.pm_control.specs.declared.request.Request.TheVariants.{Read, Write, Unknown, Reset, EndReset}
+use Rattle.std.specs.Prelude.{◌≡◌, ℕ, ◌/◌, ◌%◌, Bool, true, false, if◌then◌else◌, List, Option, Some, None, IsSome, Result, Ok, Err}
+use Rattle.fis_view.specs.{Frames.Stamped, Table.{D2h, Bits}, Built.{IsBuilt, d2h_given, set_bits_given}, declared.build.D2hFields.D2hFields}
+use Rattle.fis_view.specs.declared.{build.SetBitsFields.SetBitsFields, frame.Stamp.Stamp}
+use Rattle.pm_registers.specs.{RegisterMap.{RegisterMap, register_at, read_at, after_rule, after_write, write_rule}, Calls.value_at}
+use Rattle.pm_registers.specs.declared.words.RegisterError.{RegisterError, TheVariants.{NoPort, NoRegister}}
+use Rattle.pm_control.specs.declared.request.{Address.Address, Request.{Request, TheVariants.{Read, Write, Unknown, Reset, EndReset}}}
 use Rattle.pm_control.specs.Requests.{IsCommand, request_in}
 
 -- ---- the fields of the answers, which are Register Device to Host FISes from PM Port Fh with I set

@@ -1,15 +1,10 @@
 -- What a FIS to the control port requests (Serial ATA 3.x, 16.2: READ PORT MULTIPLIER, WRITE PORT MULTIPLIER;
 -- software reset of the control port).
-use Rattle.std.specs.Prelude.{◌≡◌, ℕ, ◌+◌, ◌*◌, ◌%◌, ◌==◌, if◌then◌else◌, bit_and, List, Option, Some, None}
-use Rattle.std.specs.Prelude.{Result, Ok, Err}
-use Rattle.fis_view.specs.Table.{H2d, C, Command, Features, Device, Lba, Count, Control, field}
-use Rattle.fis_view.specs.Seen.{seen}
-use Rattle.fis_view.specs.declared.view.Fis.{Fis}
-use Rattle.fis_view.specs.declared.view.Fis.TheVariants as view
+use Rattle.std.specs.Prelude.{◌≡◌, ℕ, ◌+◌, ◌*◌, ◌%◌, ◌==◌, if◌then◌else◌, bit_and, List, Option, Some, None, Result, Ok, Err}
+use Rattle.fis_view.specs.{Table.{H2d, C, Command, Features, Device, Lba, Count, Control, field}, Seen.seen, declared.view.Fis.Fis}
 use Rattle.fis_view.specs.declared.view.FisFault.{FisFault}
-use Rattle.pm_control.specs.declared.request.Address.{Address}
-use Rattle.pm_control.specs.declared.request.Request.{Request}
-use Rattle.pm_control.specs.declared.request.Request.TheVariants.{Read, Write, Unknown, Reset, EndReset}
+use Rattle.fis_view.specs.declared.view.Fis.TheVariants as view
+use Rattle.pm_control.specs.declared.request.{Address.Address, Request.{Request, TheVariants.{Read, Write, Unknown, Reset, EndReset}}}
 
 -- the port is in Device 3:0, the number of the register in Features
 abbrev pub address_in : List ℕ → Address

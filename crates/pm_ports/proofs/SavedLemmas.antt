@@ -1,10 +1,8 @@
 -- The rule of a restored port: what fits is sound.
-use Rattle.std.proofs.Common.{◌≡◌, ℕ, ◌<◌, ◌==◌, ◌&&◌, true, refl, arith}
+use Rattle.std.proofs.{Common.{◌≡◌, ℕ, ◌<◌, ◌==◌, ◌&&◌, true, refl, arith}, lemmas.Bool.{and_parts, and_from, eq-eqb, eqb-true, lt-ltb, ltb-true}}
 use Rattle.std.specs.Prelude.{nat_lt, Option, Some, None}
-use Rattle.std.proofs.lemmas.Bool.{and_parts, and_from, eq-eqb, eqb-true, lt-ltb, ltb-true}
 use Rattle.fis_view.specs.Frames.{Stamped}
-use Rattle.pm_ports.specs.Port.{IsSound}
-use Rattle.pm_ports.specs.Saved.{fits}
+use Rattle.pm_ports.specs.{Port.IsSound, Saved.fits}
 
 pub fit_sound : (present : Option ℕ) (last gone : ℕ) (up down : Option Stamped) → fits present last gone ≡ true
     → IsSound (record { present = present; last = last; gone = gone; up = up; down = down })

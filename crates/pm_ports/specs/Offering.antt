@@ -2,9 +2,7 @@
 -- it is kept, dropped because its connection is gone, or given back.
 use Rattle.std.specs.Prelude.{◌≡◌, true, false, Some, None, is_some, Result, Ok, Err}
 use Rattle.fis_view.specs.Frames.{Stamped}
-use Rattle.pm_ports.specs.Port.{PortState, is_gone, with_up, with_down}
-use Rattle.pm_ports.specs.declared.port.Offered.{Offered}
-use Rattle.pm_ports.specs.declared.port.Offered.TheVariants.{Held, Dropped}
+use Rattle.pm_ports.specs.{Port.{PortState, is_gone, with_up, with_down}, declared.port.Offered.{Offered, TheVariants.{Held, Dropped}}}
 
 -- a frame of the device is offered: dropped where its connection is gone, else held in the upward place if
 -- that is empty, else given back

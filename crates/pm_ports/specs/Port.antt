@@ -1,13 +1,10 @@
 -- What one fan-out port of a port multiplier holds: a frame on its way up, a frame on its way down, and which
 -- connection of its device is present (Serial ATA 3.x, 16.3, port multiplier: frame transmission, which
 -- buffers one FIS at a time in each direction).
-use Rattle.std.specs.Prelude.{◌≡◌, ℕ, ◌<◌, Bool, false, not, nat_le, nat_lt, ◌==◌, ◌&&◌, if◌then◌else◌}
-use Rattle.std.specs.Prelude.{Option, Some, None, is_some}
+use Rattle.std.specs.Prelude.{◌≡◌, ℕ, ◌<◌, Bool, false, not, nat_le, nat_lt, ◌==◌, ◌&&◌, if◌then◌else◌, Option, Some, None, is_some}
 use Rattle.fis_view.specs.Frames.{Stamped}
-use Rattle.pm_ports.specs.declared.port.GoneError.{GoneError}
-use Rattle.pm_ports.specs.declared.port.GoneError.TheVariants.{NotThere}
-use Rattle.pm_ports.specs.declared.port.PortError.{PortError}
-use Rattle.pm_ports.specs.declared.port.PortError.TheVariants.{AlreadyThere, OldConnection}
+use Rattle.pm_ports.specs.declared.port.{GoneError.{GoneError, TheVariants.NotThere}, PortError.{PortError, TheVariants.AlreadyThere}}
+use Rattle.pm_ports.specs.declared.port.PortError.TheVariants.{OldConnection}
 
 -- a port, as contracts see it
 pub record PortState : Type 0 where

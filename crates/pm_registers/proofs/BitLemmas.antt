@@ -1,13 +1,10 @@
 -- Numbers as sets of bits: what is left without some, and the number of a test.
-use Rattle.std.proofs.Common.{◌≡◌, ◌≢◌, ℕ, zero, suc, ◌+◌, ◌-◌, ◌*◌, ◌%◌, ◌^◌, ◌<◌, min, Bool, true, false, refl, sym, ap, ◌∙◌, arith, w32, bit_and, bit_or, if◌then◌else◌, not, List, length, slice_index_or}
-use Rattle.std.proofs.lemmas.Bool.{ne_eqb, eq-eqb}
-use Rattle.std.proofs.lemmas.List.{get_or_default}
+use Rattle.std.proofs.Common.{◌≡◌, ◌≢◌, ℕ, zero, suc, ◌+◌, ◌-◌, ◌*◌, ◌%◌, ◌^◌, ◌<◌, min, Bool, true, false, refl, sym, ap, ◌∙◌, arith, w32, bit_and}
+use Rattle.std.proofs.{Common.{bit_or, if◌then◌else◌, not, List, length, slice_index_or}, lemmas.{Bool.{ne_eqb, eq-eqb}, List.get_or_default}}
+use Rattle.std.proofs.lemmas.Nat.{and_le_l, xor_lt, or_comm, or_shifted, one_shl, Bits.{bit_at-lt, bit_at_and, bit_at_xor, bit_at_not}}
+use Rattle.std.proofs.lemmas.Nat.Bits.{same_from_bits_below}
 use Rattle.std.specs.Int.{bit_at}
-use Rattle.std.proofs.lemmas.Nat.{and_le_l, xor_lt, or_comm, or_shifted, one_shl}
-use Rattle.std.proofs.lemmas.Nat.Bits.{bit_at-lt, bit_at_and, bit_at_xor, bit_at_not, same_from_bits_below}
-use Rattle.pm_registers.specs.Bits.{without, shares, bits_where}
-use Rattle.pm_registers.specs.declared.port.PortRegisters.{PortRegisters}
-use Rattle.pm_registers.specs.Port.{opening_port}
+use Rattle.pm_registers.specs.{Bits.{without, shares, bits_where}, declared.port.PortRegisters.PortRegisters, Port.opening_port}
 
 one_bit : (x y : ℕ) → x < 2 → y < 2 → min x (1 - y) ≡ (x + min x y) % 2
 one_bit x y small other = omega arith

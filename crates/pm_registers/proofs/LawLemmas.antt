@@ -1,18 +1,17 @@
 -- What is true after any list of calls.
-use Rattle.std.proofs.Common.{◌≡◌, ◌≢◌, ◌⊎◌, ◌↔◌, ℕ, zero, suc, ◌+◌, ◌-◌, ◌*◌, ◌/◌, ◌%◌, ◌^◌, ◌<◌, ◌≤◌, min, max, Bool, true, false, not, ◌==◌, ◌&&◌, ◌||◌, if◌then◌else◌, List, [], ◌∷◌, ◌++◌, All, length, refl, sym, ap, ◌∙◌, subst, arith, inl, inr, Option, is_some, bit_and, bit_or, get_or-set_other, get_or-set_same, slice_index_or}
-use Rattle.std.specs.Prelude.{unwrap_or}
-use Rattle.std.specs.Int.{bit_at}
-use Rattle.std.proofs.lemmas.Bool.{cases_eq, cases_lt, ne_eqb, eqb-false, not-true, both_ways}
-use Rattle.std.proofs.lemmas.Nat.Bits.{bit_at_lowest, bit_at-suc, bit_at-zero, bit_at-lt, bit_at_and, bit_at_or, bit_at_xor, bit_at_above, bit_at_cat_low, bit_at_cat_high, and_pow}
-use Rattle.std.proofs.lemmas.List.Elements.{All-nil, All-cons, All-head, All-tail}
-use Rattle.std.proofs.lemmas.List.{set_past}
-use Rattle.pm_registers.specs.declared.port.PortRegisters.{PortRegisters}
-use Rattle.pm_registers.specs.Bits.{without, shares, rises, bits_where}
-use Rattle.pm_registers.specs.Port.{opening_port, bit_n, bit_x, port_written, controlled, inserted, removed, raised, met, opened, is_open, det}
-use Rattle.pm_registers.specs.RegisterMap.{RegisterMap, port_at, asks, summary, register_at, with_port, notifies, settled, control_written, written}
-use Rattle.pm_registers.specs.Calls.{Call, Writes, Inserts, Removes, Raises, Notices, Restores, called, after, value_at, HasBit, SummaryAgrees, Notifies, MakesDue, NotifiedSince, ClearedByOnes}
-use Rattle.pm_registers.proofs.BitLemmas.{bits_where_fits}
-use Rattle.pm_registers.proofs.RegisterLemmas.{either, register_of_device, write_ports, written_due, control_bank}
+use Rattle.std.proofs.Common.{◌≡◌, ◌≢◌, ◌⊎◌, ◌↔◌, ℕ, zero, suc, ◌+◌, ◌-◌, ◌*◌, ◌/◌, ◌%◌, ◌^◌, ◌<◌, ◌≤◌, min, max, Bool, true, false, not, ◌==◌, ◌&&◌}
+use Rattle.std.proofs.Common.{◌||◌, if◌then◌else◌, List, [], ◌∷◌, ◌++◌, All, length, refl, sym, ap, ◌∙◌, subst, arith, inl, inr, Option, is_some}
+use Rattle.std.proofs.{Common.{bit_and, bit_or, get_or-set_other, get_or-set_same, slice_index_or}, lemmas.Bool.{cases_eq, cases_lt, ne_eqb}}
+use Rattle.std.proofs.lemmas.{Bool.{eqb-false, not-true, both_ways}, Nat.Bits.{bit_at_lowest, bit_at-suc, bit_at-zero, bit_at-lt, bit_at_and}}
+use Rattle.std.proofs.lemmas.{Nat.Bits.{bit_at_or, bit_at_xor, bit_at_above, bit_at_cat_low, bit_at_cat_high, and_pow}, List.Elements.{All-nil}}
+use Rattle.std.proofs.lemmas.List.{Elements.{All-cons, All-head, All-tail}, set_past}
+use Rattle.std.specs.{Prelude.unwrap_or, Int.bit_at}
+use Rattle.pm_registers.specs.{declared.port.PortRegisters.PortRegisters, Bits.{without, shares, rises, bits_where}, Port.{opening_port, bit_n}}
+use Rattle.pm_registers.specs.{Port.{bit_x, port_written, controlled, inserted, removed, raised, met, opened, is_open, det}, RegisterMap.RegisterMap}
+use Rattle.pm_registers.specs.{RegisterMap.{port_at, asks, summary, register_at, with_port, notifies, settled, control_written, written}, Calls.Call}
+use Rattle.pm_registers.specs.Calls.{Writes, Inserts, Removes, Raises, Notices, Restores, called, after, value_at, HasBit, SummaryAgrees, Notifies}
+use Rattle.pm_registers.specs.Calls.{MakesDue, NotifiedSince, ClearedByOnes}
+use Rattle.pm_registers.proofs.{BitLemmas.bits_where_fits, RegisterLemmas.{either, register_of_device, write_ports, written_due, control_bank}}
 
 -- ---- bits
 

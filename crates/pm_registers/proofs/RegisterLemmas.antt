@@ -1,12 +1,10 @@
 -- What a write changes, and what it leaves.
-use Rattle.std.proofs.Common.{◌≡◌, ◌≢◌, ◌⊎◌, ℕ, ◌%◌, ◌^◌, ◌<◌, ◌≤◌, Bool, true, false, ◌==◌, if◌then◌else◌, List, refl, sym, ap, ◌∙◌, subst, arith, inl, inr, Option, Some, None, is_some, bit_and, get_or-set_other, slice_index_or}
-use Rattle.std.proofs.lemmas.Bool.{cases_eq, cases_lt, ne_eqb, lt-ltb, le-ltb}
-use Rattle.std.proofs.lemmas.Bool.Decides.{nat_tests}
-use Rattle.std.proofs.lemmas.Nat.{and_mask}
-use Rattle.pm_registers.specs.declared.port.PortRegisters.{PortRegisters}
-use Rattle.pm_registers.specs.Bits.{without}
-use Rattle.pm_registers.specs.Port.{opening_port, pscr, port_written, controlled, is_open, met, opened, det}
-use Rattle.pm_registers.specs.RegisterMap.{RegisterMap, port_at, gscr, summary, register_at, WriteRule, ReadOnly, Stores, OnesClear, write_rule, after_rule, may_change, with_port, settled, control_written, written, after_write}
+use Rattle.std.proofs.Common.{◌≡◌, ◌≢◌, ◌⊎◌, ℕ, ◌%◌, ◌^◌, ◌<◌, ◌≤◌, Bool, true, false, ◌==◌, if◌then◌else◌, List, refl, sym, ap, ◌∙◌, subst, arith}
+use Rattle.std.proofs.{Common.{inl, inr, Option, Some, None, is_some, bit_and, get_or-set_other, slice_index_or}, lemmas.Bool.{cases_eq, cases_lt}}
+use Rattle.std.proofs.lemmas.{Bool.{ne_eqb, lt-ltb, le-ltb, Decides.nat_tests}, Nat.and_mask}
+use Rattle.pm_registers.specs.{declared.port.PortRegisters.PortRegisters, Bits.without, Port.{opening_port, pscr, port_written, controlled, is_open}}
+use Rattle.pm_registers.specs.{Port.{met, opened, det}, RegisterMap.{RegisterMap, port_at, gscr, summary, register_at, WriteRule, ReadOnly, Stores}}
+use Rattle.pm_registers.specs.RegisterMap.{OnesClear, write_rule, after_rule, may_change, with_port, settled, control_written, written, after_write}
 
 -- a value of 32 bits, through the mask of all
 pub all_bits : (x : ℕ) → x < 2 ^ 32 → bit_and x 0xFFFFFFFF ≡ x

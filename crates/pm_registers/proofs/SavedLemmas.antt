@@ -1,12 +1,9 @@
 -- The rule of restored registers: what fits is sound.
 use Rattle.std.proofs.Common.{◌≡◌, ℕ, zero, suc, Bool, true, false, ◌==◌, ◌&&◌, ◌||◌, List, [], ◌∷◌, length, slice_index_or, refl, arith}
-use Rattle.std.specs.Prelude.{not, nat_le}
-use Rattle.std.specs.List.{list_all}
 use Rattle.std.proofs.lemmas.Bool.{and_parts, and_from, eq-eqb, eqb-true, leb-true, le-leb}
-use Rattle.pm_registers.specs.declared.port.PortRegisters.{PortRegisters}
-use Rattle.pm_registers.specs.Port.{ShowsTruly, det, is_open, opening_port}
-use Rattle.pm_registers.specs.RegisterMap.{IsSound, RegisterMap}
-use Rattle.pm_registers.specs.Saved.{fits, shows_truly}
+use Rattle.std.specs.{Prelude.{not, nat_le}, List.list_all}
+use Rattle.pm_registers.specs.{declared.port.PortRegisters.PortRegisters, Port.{ShowsTruly, det, is_open, opening_port}, RegisterMap.IsSound}
+use Rattle.pm_registers.specs.{RegisterMap.RegisterMap, Saved.{fits, shows_truly}}
 
 -- one port
 

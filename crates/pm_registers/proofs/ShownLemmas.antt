@@ -1,12 +1,11 @@
 -- Each call leaves a port that shows its device truly, and knows at which ports a device is present.
-use Rattle.std.proofs.Common.{◌≡◌, ℕ, zero, suc, ◌<◌, Bool, true, false, ◌==◌, if◌then◌else◌, List, [], ◌∷◌, length, slice_index_or, refl, sym, ap, ◌∙◌, arith, inl, inr, get_or-set_other, get_or-set_same}
+use Rattle.std.proofs.Common.{◌≡◌, ℕ, zero, suc, ◌<◌, Bool, true, false, ◌==◌, if◌then◌else◌, List, [], ◌∷◌, length, slice_index_or, refl, sym, ap}
+use Rattle.std.proofs.{Common.{◌∙◌, arith, inl, inr, get_or-set_other, get_or-set_same}, lemmas.{Bool.{cases_eq, ne_eqb, eq-eqb}, List.{length-set}}}
 use Rattle.std.specs.Prelude.{slice_set, is_some}
-use Rattle.std.proofs.lemmas.Bool.{cases_eq, ne_eqb, eq-eqb}
-use Rattle.std.proofs.lemmas.List.{length-set}
-use Rattle.pm_registers.specs.declared.port.PortRegisters.{PortRegisters}
-use Rattle.pm_registers.specs.Port.{ShowsTruly, opening_port, controlled, det, inserted, is_open, met, opened, port_written, raised, removed}
-use Rattle.pm_registers.specs.RegisterMap.{RegisterMap, IsSound, port_at, with_port, settled, summary, control_written, written, after_write, register_at, control_port}
-use Rattle.pm_registers.specs.Calls.{Call, Writes, Inserts, Removes, Raises, Notices, Restores, called, device_after, KeepsSound}
+use Rattle.pm_registers.specs.{declared.port.PortRegisters.PortRegisters, Port.{ShowsTruly, opening_port, controlled, det, inserted, is_open, met}}
+use Rattle.pm_registers.specs.{Port.{opened, port_written, raised, removed}, RegisterMap.{RegisterMap, IsSound, port_at, with_port, settled, summary}}
+use Rattle.pm_registers.specs.{RegisterMap.{control_written, written, after_write, register_at, control_port}, Calls.{Call, Writes, Inserts, Removes}}
+use Rattle.pm_registers.specs.Calls.{Raises, Notices, Restores, called, device_after, KeepsSound}
 use Rattle.pm_registers.proofs.RegisterLemmas.{either}
 
 -- ---- one port

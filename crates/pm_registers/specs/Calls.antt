@@ -1,11 +1,8 @@
 -- What holds after any list of calls, by the calls alone (Serial ATA 3.x, 16.4.1: GSCR[32] shows the ports
 -- with an error that the mask GSCR[33] lets through; 16.3.4: asynchronous notification).
-use Rattle.std.specs.Prelude.{◌≡◌, ◌≢◌, ℕ, ◌<◌, ◌==◌, ◌↔◌, ◌⊎◌, Bool, true, false, if◌then◌else◌, List, []}
-use Rattle.std.specs.Prelude.{◌∷◌, ◌++◌, All, unwrap_or}
-use Rattle.std.specs.Int.{bit_at}
-use Rattle.pm_registers.specs.RegisterMap.{RegisterMap, IsSound, port_at, register_at, after_write}
-use Rattle.pm_registers.specs.RegisterMap.{after_insert, after_remove, after_raise, after_notice}
-use Rattle.pm_registers.specs.RegisterMap.{after_restore}
+use Rattle.std.specs.{Prelude.{◌≡◌, ◌≢◌, ℕ, ◌<◌, ◌==◌, ◌↔◌, ◌⊎◌, Bool, true, false, if◌then◌else◌, List, [], ◌∷◌, ◌++◌, All, unwrap_or}, Int.bit_at}
+use Rattle.pm_registers.specs.RegisterMap.{RegisterMap, IsSound, port_at, register_at, after_write, after_insert, after_remove, after_raise}
+use Rattle.pm_registers.specs.RegisterMap.{after_notice, after_restore}
 
 -- a call that changes the registers
 pub data Call : Type 0 where

@@ -1,10 +1,8 @@
 -- The registers of one device port (Serial ATA 3.x, 14.1: SStatus, SError and SControl; 16.4.2: PSCR[0],
 -- PSCR[1] and PSCR[2] are these three), and what happens to them when a device comes or goes and when
 -- SControl is written.
-use Rattle.std.specs.Prelude.{◌≡◌, ℕ, ◌%◌, Bool, true, false, ◌==◌, ◌&&◌, if◌then◌else◌, bit_and, bit_or}
-use Rattle.std.specs.Prelude.{Option, Some, None}
-use Rattle.pm_registers.specs.Bits.{without}
-use Rattle.pm_registers.specs.declared.port.PortRegisters.{PortRegisters}
+use Rattle.std.specs.Prelude.{◌≡◌, ℕ, ◌%◌, Bool, true, false, ◌==◌, ◌&&◌, if◌then◌else◌, bit_and, bit_or, Option, Some, None}
+use Rattle.pm_registers.specs.{Bits.without, declared.port.PortRegisters.PortRegisters}
 
 -- the field DET, bits 3:0 of SStatus and of SControl
 abbrev pub det : ℕ → ℕ

@@ -1,14 +1,10 @@
 -- The registers of a port multiplier (Serial ATA 3.x, 16.4), as a finite map from a port and a number to a
 -- value.
-use Rattle.std.specs.Prelude.{◌≡◌, ◌≤◌, ℕ, Bool, true, false, not, ◌==◌, ◌&&◌, ◌||◌, nat_lt, if◌then◌else◌}
-use Rattle.std.specs.Prelude.{bit_and, List, length, replicate, slice_set, slice_index_or, Option, Some, None}
-use Rattle.std.specs.Prelude.{ok_or, is_some, Result, Err}
-use Rattle.pm_registers.specs.Bits.{without, shares, rises, bits_where}
-use Rattle.pm_registers.specs.declared.port.PortRegisters.{PortRegisters}
-use Rattle.pm_registers.specs.declared.words.RegisterError.{RegisterError}
-use Rattle.pm_registers.specs.declared.words.RegisterError.TheVariants.{NoPort, NoRegister}
-use Rattle.pm_registers.specs.Port.{opening_port, open_port, pscr, port_written, inserted, removed, raised, passes}
-use Rattle.pm_registers.specs.Port.{ShowsTruly}
+use Rattle.std.specs.Prelude.{◌≡◌, ◌≤◌, ℕ, Bool, true, false, not, ◌==◌, ◌&&◌, ◌||◌, nat_lt, if◌then◌else◌, bit_and, List, length, replicate}
+use Rattle.std.specs.Prelude.{slice_set, slice_index_or, Option, Some, None, ok_or, is_some, Result, Err}
+use Rattle.pm_registers.specs.{Bits.{without, shares, rises, bits_where}, declared.port.PortRegisters.PortRegisters}
+use Rattle.pm_registers.specs.{declared.words.RegisterError.{RegisterError, TheVariants.{NoPort, NoRegister}}, Port.{opening_port, open_port, pscr}}
+use Rattle.pm_registers.specs.Port.{port_written, inserted, removed, raised, passes, ShowsTruly}
 
 -- what a multiplier holds: the number of its device ports, GSCR[33], GSCR[96], the registers of the ports
 -- (those from `ports` on do not exist), and whether a notification is due

@@ -1,11 +1,9 @@
 -- The registers of a multiplier as words.
-use Rattle.std.specs.Prelude.{◌≡◌, ℕ, ◌<◌, ◌^◌, ◌==◌, ◌&&◌, ◌||◌, not, nat_le, List, length, Bool}
-use Rattle.std.specs.List.{AllByRecursion, list_all}
+use Rattle.std.specs.{Prelude.{◌≡◌, ℕ, ◌<◌, ◌^◌, ◌==◌, ◌&&◌, ◌||◌, not, nat_le, List, length, Bool}, List.{AllByRecursion, list_all}}
 use Rattle.std.proofs.Common.{ap, sym, ◌∙◌}
-use Rattle.saved_state.specs.State.{IsToldApart, put_all, put_bool, put_number, put_pair, put_three, number_apart, bool_apart, all_apart, pair_apart, three_apart, parts_apart}
-use Rattle.pm_registers.specs.declared.port.PortRegisters.{PortRegisters}
-use Rattle.pm_registers.specs.Port.{det, is_open}
-use Rattle.pm_registers.specs.RegisterMap.{IsSound, RegisterMap}
+use Rattle.saved_state.specs.State.{IsToldApart, put_all, put_bool, put_number, put_pair, put_three, number_apart, bool_apart, all_apart, pair_apart}
+use Rattle.saved_state.specs.State.{three_apart, parts_apart}
+use Rattle.pm_registers.specs.{declared.port.PortRegisters.PortRegisters, Port.{det, is_open}, RegisterMap.{IsSound, RegisterMap}}
 
 -- ---- one port: SStatus, SError, SControl, and whether a device is present
 

@@ -1,16 +1,11 @@
 -- More calls after others.
-use Rattle.std.proofs.Common.{◌≡◌, ◌==◌, ◌≤◌, ℕ, zero, suc, Bool, true, false, List, [], ◌∷◌, ◌++◌, length, map, None, refl, sym, ap, ◌∙◌, subst, arith}
-use Rattle.std.specs.Prelude.{if◌then◌else◌, replicate, slice_index_or}
-use Rattle.std.specs.Option.{option_to_list}
-use Rattle.std.proofs.lemmas.Grind.{flat_map-append}
-use Rattle.std.proofs.lemmas.List.{map-append}
-use Rattle.std.proofs.lemmas.List.Elements.{filter-append}
+use Rattle.std.proofs.Common.{◌≡◌, ◌==◌, ◌≤◌, ℕ, zero, suc, Bool, true, false, List, [], ◌∷◌, ◌++◌, length, map, None, refl, sym, ap, ◌∙◌, subst}
+use Rattle.std.proofs.{Common.arith, lemmas.{Grind.{flat_map-append}, List.{map-append, Elements.{filter-append}}}}
+use Rattle.std.specs.{Prelude.{if◌then◌else◌, replicate, slice_index_or}, Option.option_to_list}
 use Rattle.fis_view.specs.Frames.{Stamped}
 use Rattle.pm_ports.specs.Port as port
-use Rattle.multiplier.specs.Orders.{InDeviceOrder}
-use Rattle.multiplier.specs.State.{PmState, IsSound as IsSoundPm, opening, port_at}
-use Rattle.multiplier.specs.Passing.{Call, DoesAll, Past, all_past, past_after, to_port}
-use Rattle.multiplier.specs.Stamping.{taken_by, taken_of, IsStamped}
+use Rattle.multiplier.specs.{Orders.InDeviceOrder, State.{PmState, IsSound as IsSoundPm, opening, port_at}, Passing.{Call, DoesAll, Past, all_past}}
+use Rattle.multiplier.specs.{Passing.{past_after, to_port}, Stamping.{taken_by, taken_of, IsStamped}}
 use Rattle.multiplier.proofs.Door.{begins_stamped, goes_up_stamped, opens_sound}
 use Rattle.pm_thread.specs.Runs.{PmView, IsSound, frames_at, presence_at, commands_at, told_by, told_of, heard_by, heard_of, none_past}
 

@@ -1,21 +1,17 @@
 -- What a sound worker tells of each port.
-use Rattle.std.proofs.Common.{◌≡◌, ◌≢◌, ◌==◌, ◌<◌, ℕ, Bool, true, false, List, [], ◌∷◌, ◌++◌, length, map, Option, Ok, Err, refl, sym, ap, ◌∙◌, subst, inl, inr, append_assoc}
-use Rattle.std.specs.Prelude.{if◌then◌else◌, ◌&&◌}
-use Rattle.std.specs.Option.{option_to_list}
-use Rattle.std.proofs.lemmas.Bool.{cases_Bool, eq-eqb, eqb-true, ne_eqb}
-use Rattle.std.proofs.lemmas.List.{map-append}
+use Rattle.std.proofs.Common.{◌≡◌, ◌≢◌, ◌==◌, ◌<◌, ℕ, Bool, true, false, List, [], ◌∷◌, ◌++◌, length, map, Option, Ok, Err, refl, sym, ap, ◌∙◌, subst}
+use Rattle.std.proofs.{Common.{inl, inr, append_assoc}, lemmas.{Bool.{cases_Bool, eq-eqb, eqb-true, ne_eqb}, List.{map-append}}}
 use Rattle.std.proofs.lemmas.List.Elements.{filter-append}
+use Rattle.std.specs.{Prelude.{if◌then◌else◌, ◌&&◌}, Option.option_to_list}
 use Rattle.fis_view.specs.Frames.{Stamped}
 use Rattle.ruled_links.specs.Lists.{IsPrefixOf}
 use Rattle.pm_ports.specs.Port as port
 use Rattle.pm_ports.specs.declared.port.Offered.TheVariants as offered
-use Rattle.multiplier.specs.Orders.{InDeviceOrder, InStampedOrder, of_connection}
-use Rattle.multiplier.specs.State.{PmState, IsSound as IsSoundPm, opening, port_at, rising}
-use Rattle.multiplier.specs.Passing.{Call, FromHost, FromDevice, Came, Gone, NextUp, PutBackUp, NextDown, PutBackDown, Does, DoesAll, Past, Suits, all_past, past_after, came_by, came_in, held_of, lost_up, of_conn}
-use Rattle.multiplier.specs.Stamping.{taken_by, taken_of}
+use Rattle.multiplier.specs.{Orders.{InDeviceOrder, InStampedOrder, of_connection}, State.{PmState, IsSound as IsSoundPm, opening, port_at, rising}}
+use Rattle.multiplier.specs.Passing.{Call, FromHost, FromDevice, Came, Gone, NextUp, PutBackUp, NextDown, PutBackDown, Does, DoesAll, Past, Suits}
+use Rattle.multiplier.specs.{Passing.{all_past, past_after, came_by, came_in, held_of, lost_up, of_conn}, Stamping.{taken_by, taken_of}}
 use Rattle.multiplier.proofs.Door.{apart, never_up_to, one_step, opens_sound, pass_in_order, step_gone}
-use Rattle.pm_thread.specs.Runs.{PmView, IsSound, frames_at, none_past}
-use Rattle.pm_thread.specs.Passing.{Passes, risen}
+use Rattle.pm_thread.specs.{Runs.{PmView, IsSound, frames_at, none_past}, Passing.{Passes, risen}}
 use Rattle.pm_thread.proofs.Calls.{none_held, stamped_run}
 
 -- ---- a FIS of a connection that is gone is not held

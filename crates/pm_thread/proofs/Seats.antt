@@ -1,9 +1,7 @@
 -- The lists of seats, port by port.
-use Rattle.std.proofs.Common.{◌≡◌, ◌≢◌, ◌==◌, ◌<◌, ℕ, zero, suc, List, [], ◌∷◌, ◌++◌, length, map, refl, sym, ap, ◌∙◌, subst, inl, inr, append-nil, arith}
+use Rattle.std.proofs.Common.{◌≡◌, ◌≢◌, ◌==◌, ◌<◌, ℕ, zero, suc, List, [], ◌∷◌, ◌++◌, length, map, refl, sym, ap, ◌∙◌, subst, inl, inr, append-nil}
+use Rattle.std.proofs.{Common.arith, Math.Seq.{map-set_same}, lemmas.{Bool.{cases_eq, eq-eqb, ne_eqb}, List.Elements.{All-tail}}}
 use Rattle.std.specs.Prelude.{All, if◌then◌else◌, slice_index_or, slice_set}
-use Rattle.std.proofs.Math.Seq.{map-set_same}
-use Rattle.std.proofs.lemmas.Bool.{cases_eq, eq-eqb, ne_eqb}
-use Rattle.std.proofs.lemmas.List.Elements.{All-tail}
 use Rattle.pm_thread.specs.Runs.{PmView, PortSeats, SameLinks, ends_of, at_port}
 
 module _ {A : Type 0} (part : PortSeats → List A) where

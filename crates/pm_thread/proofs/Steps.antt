@@ -1,25 +1,18 @@
 -- What one step leaves of a sound worker.
-use Rattle.std.proofs.Common.{◌≡◌, ◌==◌, ◌≤◌, ◌<◌, ℕ, Bool, true, false, List, [], ◌∷◌, ◌++◌, length, Option, Some, None, Result, Ok, Err, refl, sym, ap, ◌∙◌, subst, append-nil, arith}
-use Rattle.std.specs.Prelude.{All, if◌then◌else◌, is_some, slice_index_or, slice_set}
-use Rattle.std.specs.Option.{option_to_list}
-use Rattle.std.proofs.lemmas.List.{length-set}
-use Rattle.std.proofs.lemmas.Grind.{flat_map-append}
+use Rattle.std.proofs.Common.{◌≡◌, ◌==◌, ◌≤◌, ◌<◌, ℕ, Bool, true, false, List, [], ◌∷◌, ◌++◌, length, Option, Some, None, Result, Ok, Err, refl, sym}
+use Rattle.std.proofs.{Common.{ap, ◌∙◌, subst, append-nil, arith}, lemmas.{List.{length-set}, Grind.{flat_map-append}}}
+use Rattle.std.specs.{Prelude.{All, if◌then◌else◌, is_some, slice_index_or, slice_set}, Option.option_to_list}
 use Rattle.ruled_links.specs.Links.{Seat}
 use Rattle.fis_view.specs.Frames.{Stamped}
 use Rattle.link_items.specs.declared.items.Presence.TheVariants as presence
-use Rattle.pm_ports.specs.declared.port.GoneError.{GoneError}
-use Rattle.pm_ports.specs.declared.port.PortError.{PortError}
-use Rattle.pm_ports.specs.declared.port.Offered.{Offered}
-use Rattle.multiplier.specs.Orders.{InDeviceOrder, InStampedOrder}
-use Rattle.multiplier.specs.State.{PmState, is_notice, opening, port_at}
-use Rattle.multiplier.specs.Rules.{CameRule, CanPutBackDown, CanPutBackUp, FromDeviceRule, FromHostRule, GoneRule, KeepsPorts, NextDownRule, NextUpRule, UndoesDown, UndoesUp}
-use Rattle.multiplier.specs.Passing.{Call, FromHost, FromDevice, Came, Gone, NextUp, PutBackUp, NextDown, PutBackDown, DoesAll, EndsWith, Past, all_past, lost_from, made_by, to_port}
-use Rattle.multiplier.specs.Stamping.{taken_by, taken_of}
-use Rattle.multiplier.specs.declared.multiplier.Passed.{Passed}
+use Rattle.pm_ports.specs.declared.port.{GoneError.GoneError, PortError.PortError, Offered.Offered}
+use Rattle.multiplier.specs.{Orders.{InDeviceOrder, InStampedOrder}, State.{PmState, is_notice, opening, port_at}, Rules.{CameRule, CanPutBackDown}}
+use Rattle.multiplier.specs.Rules.{CanPutBackUp, FromDeviceRule, FromHostRule, GoneRule, KeepsPorts, NextDownRule, NextUpRule, UndoesDown, UndoesUp}
+use Rattle.multiplier.specs.Passing.{Call, FromHost, FromDevice, Came, Gone, NextUp, PutBackUp, NextDown, PutBackDown, DoesAll, EndsWith, Past}
+use Rattle.multiplier.specs.{Passing.{all_past, lost_from, made_by, to_port}, Stamping.{taken_by, taken_of}, declared.multiplier.Passed.Passed}
 use Rattle.multiplier.proofs.Door.{last_gone}
 use Rattle.pm_thread.specs.Runs.{PmView, PortSeats, IsSound, IsUnused, frames_at, presence_at, commands_at, heard_of, none_past}
-use Rattle.pm_thread.proofs.Seats.{at_kept, at_more, each_at, none_at}
-use Rattle.pm_thread.proofs.Calls.{down_more, does_more, past_more, sound_more, stamped_run}
+use Rattle.pm_thread.proofs.{Seats.{at_kept, at_more, each_at, none_at}, Calls.{down_more, does_more, past_more, sound_more, stamped_run}}
 
 -- the calls that were
 abbrev pub past_of : (w : PmView) → IsSound w → Past

@@ -3,9 +3,7 @@ use Rattle.std.specs.Prelude.{◌≡◌, ℕ, ◌<◌, false, List, ◌++◌, ma
 use Rattle.fis_view.specs.Frames.{Stamped}
 use Rattle.pm_ports.specs.Port.{is_gone}
 use Rattle.ruled_links.specs.Lists.{IsPrefixOf}
-use Rattle.multiplier.specs.Orders.{InStampedOrder, of_connection}
-use Rattle.multiplier.specs.State.{port_at, rising}
-use Rattle.multiplier.specs.Passing.{held_of, of_conn}
+use Rattle.multiplier.specs.{Orders.{InStampedOrder, of_connection}, State.{port_at, rising}, Passing.{held_of, of_conn}}
 use Rattle.pm_thread.specs.Runs.{PmView, frames_at}
 
 -- the FISes of connection c, as they go up from port n

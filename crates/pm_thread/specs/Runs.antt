@@ -1,17 +1,13 @@
 -- What the multiplier's thread does. There is one list of calls of the multiplier. The lists of its
 -- seats are projections of it, and the multiplier is its outcome.
-use Rattle.std.specs.Prelude.{◌≡◌, ℕ, zero, suc, ◌≤◌, ◌==◌, if◌then◌else◌, List, [], ◌∷◌, ◌++◌, length, map}
-use Rattle.std.specs.Prelude.{Option, Ok}
-use Rattle.std.specs.List.{flat_map}
+use Rattle.std.specs.{Prelude.{◌≡◌, ℕ, zero, suc, ◌≤◌, ◌==◌, if◌then◌else◌, List, [], ◌∷◌, ◌++◌, length, map, Option, Ok}, List.flat_map}
 use Rattle.std.specs.Option.{option_to_list}
 use Rattle.atomic_table.specs.Seated.{TableId}
 use Rattle.fis_view.specs.Frames.{Stamped}
 use Rattle.ruled_links.specs.Links.{Seat}
 use Rattle.link_items.specs.declared.items.Presence.{Presence}
 use Rattle.link_items.specs.declared.items.Presence.TheVariants as presence
-use Rattle.multiplier.specs.Orders.{InDeviceOrder}
-use Rattle.multiplier.specs.State.{PmState, opening}
-use Rattle.multiplier.specs.Passing.{Call, FromHost, Came, Gone, DoesAll, Past, all_past, to_port}
+use Rattle.multiplier.specs.{Orders.InDeviceOrder, State.{PmState, opening}, Passing.{Call, FromHost, Came, Gone, DoesAll, Past, all_past, to_port}}
 use Rattle.multiplier.specs.Stamping.{taken_of}
 
 -- ---- the worker, as contracts see it

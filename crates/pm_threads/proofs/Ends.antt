@@ -1,22 +1,14 @@
 -- What is known of the ends of a run.
-use Rattle.std.proofs.Common.{◌≡◌, ℕ, zero, suc, ◌<◌, Bool, true, false, List, [], ◌∷◌, ◌++◌, append_assoc, refl, sym, ap, ◌∙◌, subst, None, Some, Option, drop, arith}
-use Rattle.std.specs.Prelude.{◌||◌, map, All, IfOk, OnOk, Result, Ok, Err}
-use Rattle.std.specs.List.{AllZip, list_any}
-use Rattle.std.proofs.lemmas.List.{map-append}
-use Rattle.std.proofs.lemmas.List.Elements.{All-cons, filter-append}
+use Rattle.std.proofs.Common.{◌≡◌, ℕ, zero, suc, ◌<◌, Bool, true, false, List, [], ◌∷◌, ◌++◌, append_assoc, refl, sym, ap, ◌∙◌, subst, None, Some}
+use Rattle.std.proofs.{Common.{Option, drop, arith}, lemmas.List.{map-append, Elements.{All-cons, filter-append}}}
+use Rattle.std.specs.{Prelude.{◌||◌, map, All, IfOk, OnOk, Result, Ok, Err}, List.{AllZip, list_any}}
 use Rattle.fis_view.specs.Frames.{Stamped}
-use Rattle.ruled_links.specs.Links.{IsLink}
-use Rattle.ruled_links.specs.Lists.{IsPrefixOf}
-use Rattle.multiplier.specs.Orders.{of_connection}
-use Rattle.multiplier.specs.State.{rising}
-use Rattle.multiplier.specs.Passing.{of_conn}
+use Rattle.ruled_links.specs.{Links.IsLink, Lists.IsPrefixOf}
+use Rattle.multiplier.specs.{Orders.of_connection, State.rising, Passing.of_conn}
 use Rattle.disk_thread.specs.Runs.{StationState, IsAtSamePort}
-use Rattle.pm_thread.specs.Runs.{PortSeats, ends_of, IsUnused, frames_at}
-use Rattle.pm_thread.specs.Passing.{risen}
+use Rattle.pm_thread.specs.{Runs.{PortSeats, ends_of, IsUnused, frames_at}, Passing.risen}
 use Rattle.host_thread.specs.Runs.{HostView}
-use Rattle.pm_threads.specs.Seats.{TiedTo, Starts, Handed}
-use Rattle.pm_threads.specs.Ends.{sent_at, EachArrives}
-use Rattle.pm_threads.specs.Halts.{is_short, is_shut}
+use Rattle.pm_threads.specs.{Seats.{TiedTo, Starts, Handed}, Ends.{sent_at, EachArrives}, Halts.{is_short, is_shut}}
 use Rattle.runner.specs.declared.worker.Fault.{Fault}
 use Rattle.runner.specs.declared.worker.Fault.TheVariants as fault
 

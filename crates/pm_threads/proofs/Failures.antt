@@ -1,14 +1,9 @@
 -- What the caller is told about a run that has not finished.
 use Rattle.std.proofs.Common.{◌≡◌, Bool, true, false, Some, None, sym, subst}
-use Rattle.std.specs.Prelude.{◌↔◌, IfErr, IfSome, Result, Ok, Err}
-use Rattle.std.specs.Result.{IsErrAnd}
-use Rattle.std.specs.List.{list_any}
-use Rattle.pm_threads.specs.Ends.{Ends}
-use Rattle.pm_threads.specs.Failures.{IsTold, IsToldOf, error_of}
-use Rattle.pm_threads.specs.Halts.{Halt, IsWhy, is_shut}
-use Rattle.pm_threads.specs.declared.run.RunError.{RunError}
-use Rattle.pm_threads.specs.declared.run.RunError.TheVariants as error
+use Rattle.std.specs.{Prelude.{◌↔◌, IfErr, IfSome, Result, Ok, Err}, Result.IsErrAnd, List.list_any}
+use Rattle.pm_threads.specs.{Ends.Ends, Failures.{IsTold, IsToldOf, error_of}, Halts.{Halt, IsWhy, is_shut}, declared.run.RunError.RunError}
 use Rattle.pm_threads.specs.declared.run.RunFailure.{RunFailure}
+use Rattle.pm_threads.specs.declared.run.RunError.TheVariants as error
 
 -- the gate of a device did not open
 gate_shut : {D : Type 0} (e : RunError) (h : Halt D) → IsWhy e h → Some e ≡ Some error.GateShut → list_any (λ d. is_shut d.fault) h.disks ≡ true

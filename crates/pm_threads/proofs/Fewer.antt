@@ -1,15 +1,10 @@
 -- For `close`: in no row of counts more was taken than sent.
-use Rattle.std.proofs.Common.{◌≡◌, ℕ, zero, suc, ◌+◌, ◌≤◌, List, [], ◌∷◌, length, Some, None, Bool, true, false, refl, sym, ap, subst, ◌∙◌, inl, inr, length-append, arith}
-use Rattle.std.specs.Prelude.{if◌then◌else◌}
-use Rattle.std.specs.Option.{option_to_list}
-use Rattle.std.proofs.lemmas.Bool.{cases_lt}
-use Rattle.std.proofs.lemmas.List.{length-map}
-use Rattle.std.proofs.lemmas.List.Elements.{filter-append}
+use Rattle.std.proofs.Common.{◌≡◌, ℕ, zero, suc, ◌+◌, ◌≤◌, List, [], ◌∷◌, length, Some, None, Bool, true, false, refl, sym, ap, subst, ◌∙◌, inl, inr}
+use Rattle.std.proofs.{Common.{length-append, arith}, lemmas.{Bool.cases_lt, List.{length-map, Elements.{filter-append}}}}
+use Rattle.std.specs.{Prelude.{if◌then◌else◌}, Option.option_to_list}
 use Rattle.fis_view.specs.Frames.{Stamped}
 use Rattle.ruled_links.specs.Lists.{IsPrefixOf}
-use Rattle.multiplier.specs.Orders.{of_connection, of_port}
-use Rattle.multiplier.specs.Passing.{of_conn}
-use Rattle.multiplier.specs.State.{rising}
+use Rattle.multiplier.specs.{Orders.{of_connection, of_port}, Passing.of_conn, State.rising}
 use Rattle.pm_thread.specs.Passing.{risen}
 use Rattle.pm_world.specs.declared.counts.ConnCount.{ConnCount}
 use Rattle.disk_thread.specs.Runs.{StationState, all_told, has_come}

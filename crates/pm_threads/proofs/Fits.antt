@@ -1,13 +1,8 @@
 -- What a setup that fits says of its numbers.
-use Rattle.std.proofs.Common.{◌≡◌, ◌≤◌, ℕ, Bool, true, false, sym, subst, arith}
-use Rattle.std.specs.Prelude.{◌&&◌, ◌==◌, nat_le, nat_lt, not, length}
-use Rattle.std.specs.List.{list_all}
-use Rattle.std.proofs.lemmas.Bool.{and_parts}
-use Rattle.std.proofs.lemmas.Bool.Decides.{nat_tests}
+use Rattle.std.proofs.{Common.{◌≡◌, ◌≤◌, ℕ, Bool, true, false, sym, subst, arith}, lemmas.Bool.{and_parts, Decides.nat_tests}}
+use Rattle.std.specs.{Prelude.{◌&&◌, ◌==◌, nat_le, nat_lt, not, length}, List.list_all}
 use Rattle.host_memory.specs.Memory.{is_memory_size}
-use Rattle.pm_threads.specs.Links.{LinksState}
-use Rattle.pm_threads.specs.Setups.{can_run, is_fitting, lies_in}
-use Rattle.pm_threads.specs.declared.setup.Setup.{Setup}
+use Rattle.pm_threads.specs.{Links.LinksState, Setups.{can_run, is_fitting, lies_in}, declared.setup.Setup.Setup}
 
 pub first_three : (a b u t m x p q r : Bool) → ((((((((a && b) && u) && t) && m) && x) && p) && q) && r) ≡ true → (a ≡ true) × (b ≡ true) × (u ≡ true)
 first_three a b u t m x p q r h =

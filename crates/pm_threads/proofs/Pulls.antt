@@ -1,9 +1,7 @@
 -- The pulls of one port, with one more.
 use Rattle.std.proofs.Common.{◌≡◌, ℕ, suc, ◌+◌, ◌<◌, ◌==◌, List, [], ◌∷◌, ◌++◌, length, get_or, take, Bool, true, false, refl, ap, ◌∙◌, arith}
+use Rattle.std.proofs.{lemmas.List.{map-append, Elements.{filter-append}}, Math.Seq.{take-suc}}
 use Rattle.std.specs.Prelude.{filter, if◌then◌else◌, map}
-use Rattle.std.proofs.lemmas.List.{map-append}
-use Rattle.std.proofs.lemmas.List.Elements.{filter-append}
-use Rattle.std.proofs.Math.Seq.{take-suc}
 use Rattle.pm_threads.specs.Setups.{pulls_at}
 
 one : (n : ℕ) (pull : ℕ × ℕ) (b : Bool) → (pull.0 == n) ≡ b → pulls_at n (pull ∷ []) ≡ (if b then pull.1 ∷ [] else [])

@@ -1,13 +1,9 @@
 -- One more put into a memory.
-use Rattle.std.proofs.Common.{◌≡◌, ℕ, suc, ◌+◌, ◌<◌, ◌≤◌, ◌-◌, List, [], ◌∷◌, ◌++◌, length, get_or, take, Bool, true, length-append, length-drop, refl, sym, ap, ◌∙◌, arith}
-use Rattle.std.specs.Prelude.{map}
-use Rattle.std.specs.List.{list_all}
-use Rattle.std.proofs.lemmas.Bool.Decides.{nat_tests}
-use Rattle.std.proofs.lemmas.List.Sums.{AllPass-from_list_all}
-use Rattle.std.proofs.lemmas.List.{length-replicate, length-take-le, map-append}
-use Rattle.std.proofs.Math.Seq.{take-suc}
-use Rattle.host_memory.specs.Memory.{Memory, client_start, overwritten, zeroed, zeros}
-use Rattle.host_memory.specs.Place.{LiesInClient}
+use Rattle.std.proofs.Common.{◌≡◌, ℕ, suc, ◌+◌, ◌<◌, ◌≤◌, ◌-◌, List, [], ◌∷◌, ◌++◌, length, get_or, take, Bool, true, length-append, length-drop}
+use Rattle.std.proofs.{Common.{refl, sym, ap, ◌∙◌, arith}, lemmas.{Bool.Decides.nat_tests, List.{Sums.{AllPass-from_list_all}, length-replicate}}}
+use Rattle.std.proofs.{lemmas.List.{length-take-le, map-append}, Math.Seq.{take-suc}}
+use Rattle.std.specs.{Prelude.map, List.list_all}
+use Rattle.host_memory.specs.{Memory.{Memory, client_start, overwritten, zeroed, zeros}, Place.LiesInClient}
 use Rattle.pm_threads.specs.Setups.{lies_in, put_all, memory_of}
 
 put_all_more : (m : Memory) (ps : List (ℕ × List ℕ)) (p : ℕ × List ℕ)

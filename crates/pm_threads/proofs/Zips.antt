@@ -1,8 +1,7 @@
 -- Two lists, place by place.
 use Rattle.std.proofs.Common.{◌≡◌, ◌∙◌, ◌+◌, ℕ, zero, suc, arith, List, [], ◌∷◌, ◌++◌, length, length-append, refl, ap, sym, subst}
-use Rattle.std.specs.Prelude.{All, map}
-use Rattle.std.specs.List.{AllZip, range_with_len}
 use Rattle.std.proofs.lemmas.List.{get_or_append_left, map-append}
+use Rattle.std.specs.{Prelude.{All, map}, List.{AllZip, range_with_len}}
 use Rattle.disk_thread.specs.declared.worker.DiskEnd.{DiskEnd}
 use Rattle.pm_threads.specs.Seats.{first_ports}
 

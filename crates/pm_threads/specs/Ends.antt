@@ -1,17 +1,13 @@
 -- What is left of a run, and what is known of it.
-use Rattle.std.specs.Prelude.{◌≡◌, ℕ, zero, suc, ◌<◌, ◌≤◌, List}
-use Rattle.std.specs.Prelude.{[], ◌∷◌, length}
-use Rattle.std.specs.List.{AllZip}
+use Rattle.std.specs.{Prelude.{◌≡◌, ℕ, zero, suc, ◌<◌, ◌≤◌, List, [], ◌∷◌, length}, List.AllZip}
 use Rattle.fis_view.specs.Frames.{Stamped}
 use Rattle.ruled_links.specs.Lists.{IsPrefixOf}
 use Rattle.multiplier.specs.Passing.{of_conn}
 use Rattle.disk_model.specs.Histories.{Happening, Plan}
 use Rattle.disk_thread.specs.Runs.{StationState, IsRun}
-use Rattle.pm_thread.specs.Runs.{PmView}
-use Rattle.pm_thread.specs.Passing.{risen}
+use Rattle.pm_thread.specs.{Runs.PmView, Passing.risen}
 use Rattle.host_thread.specs.Runs.{HostView}
-use Rattle.pm_threads.specs.Seats.{TiedTo}
-use Rattle.pm_threads.specs.Setups.{pulls_at}
+use Rattle.pm_threads.specs.{Seats.TiedTo, Setups.pulls_at}
 
 -- the ends of all workers, that of the device at port n at place n
 pub record Ends (D : Type 0) : Type 0 where

@@ -1,9 +1,7 @@
 -- What the caller is told about a run that has not finished.
 use Rattle.std.specs.Prelude.{⊤, Option, Some, None, Result, Ok, Err}
-use Rattle.pm_threads.specs.Halts.{Halt, IsWhy}
-use Rattle.pm_threads.specs.declared.run.RunError.{RunError}
+use Rattle.pm_threads.specs.{Halts.{Halt, IsWhy}, declared.run.{RunError.RunError, RunFailure.RunFailure}}
 use Rattle.pm_threads.specs.declared.run.RunError.TheVariants as error
-use Rattle.pm_threads.specs.declared.run.RunFailure.{RunFailure}
 
 -- the error of a run that has not finished
 abbrev pub error_of : {T D : Type 0} → Result T (RunFailure D) → Option RunError

@@ -1,20 +1,13 @@
 -- What is left of a run that has not finished, and why it has not.
-use Rattle.std.specs.Prelude.{◌≡◌, ℕ, ◌||◌, Bool, true, false, All, Option, Some, None, List, map}
-use Rattle.std.specs.List.{AllZip, list_any}
+use Rattle.std.specs.{Prelude.{◌≡◌, ℕ, ◌||◌, Bool, true, false, All, Option, Some, None, List, map}, List.{AllZip, list_any}}
 use Rattle.disk_model.specs.Histories.{Happening, Plan}
-use Rattle.disk_thread.specs.Runs.{StationState}
-use Rattle.disk_thread.specs.declared.worker.DiskEnd.{DiskEnd}
+use Rattle.disk_thread.specs.{Runs.StationState, declared.worker.DiskEnd.DiskEnd}
 use Rattle.pm_thread.specs.declared.end.PmEnd.{PmEnd}
 use Rattle.host_memory.specs.Memory.{Memory}
-use Rattle.host_thread.specs.Runs.{GoesOn, HostView, IsRun as IsHostRun, is_open}
-use Rattle.host_thread.specs.declared.end.HostEnd.{HostEnd}
-use Rattle.host_thread.specs.declared.plan.Planned.{Planned}
-use Rattle.runner.specs.Posts.{PostState}
-use Rattle.runner.specs.declared.worker.Fault.{Fault}
+use Rattle.host_thread.specs.{Runs.{GoesOn, HostView, IsRun as IsHostRun, is_open}, declared.{end.HostEnd.HostEnd, plan.Planned.Planned}}
+use Rattle.runner.specs.{Posts.PostState, declared.worker.Fault.Fault}
 use Rattle.runner.specs.declared.worker.Fault.TheVariants as fault
-use Rattle.pm_threads.specs.Ends.{Ends, RunsWith}
-use Rattle.pm_threads.specs.Seats.{first_ports}
-use Rattle.pm_threads.specs.declared.run.RunError.{RunError}
+use Rattle.pm_threads.specs.{Ends.{Ends, RunsWith}, Seats.first_ports, declared.run.RunError.RunError}
 use Rattle.pm_threads.specs.declared.run.RunError.TheVariants as error
 
 -- The ends of all workers, that of the device at port n at place n. Each has the fault that ended it, if one

@@ -1,7 +1,6 @@
 -- The links of one run, as contracts see them.
 use Rattle.std.specs.Prelude.{◌≡◌, ℕ, Bool, false, nat_le, ◌&&◌, All, List, replicate}
-use Rattle.ruled_links.specs.Links.{LinkState, is_capacity, new_link}
-use Rattle.ruled_links.specs.declared.link.LinkError.{LinkError}
+use Rattle.ruled_links.specs.{Links.{LinkState, is_capacity, new_link}, declared.link.LinkError.LinkError}
 use Rattle.ruled_links.specs.declared.link.LinkError.TheVariants as link
 use Rattle.pm_threads.specs.declared.links.LinksError.{LinksError}
 use Rattle.pm_threads.specs.declared.links.LinksError.TheVariants as links

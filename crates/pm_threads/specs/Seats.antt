@@ -1,6 +1,5 @@
 -- The seats of a device and of the multiplier at its port.
-use Rattle.std.specs.Prelude.{◌≡◌, ℕ, List}
-use Rattle.std.specs.List.{range_with_len}
+use Rattle.std.specs.{Prelude.{◌≡◌, ℕ, List}, List.range_with_len}
 use Rattle.ruled_links.specs.Lists.{IsPrefixOf}
 use Rattle.disk_thread.specs.Runs.{StationState}
 use Rattle.pm_thread.specs.Runs.{PortSeats, IsUnused}

@@ -1,10 +1,7 @@
 -- What a run is given.
-use Rattle.std.specs.Prelude.{ℕ, ◌-◌, nat_le, nat_lt, ◌==◌, ◌&&◌, not, Bool, List, [], ◌∷◌, filter, length}
-use Rattle.std.specs.Prelude.{map}
-use Rattle.std.specs.List.{list_all}
+use Rattle.std.specs.{Prelude.{ℕ, ◌-◌, nat_le, nat_lt, ◌==◌, ◌&&◌, not, Bool, List, [], ◌∷◌, filter, length, map}, List.list_all}
 use Rattle.host_memory.specs.Memory.{Memory, client_start, is_memory_size, overwritten, zeroed}
-use Rattle.pm_threads.specs.Links.{LinksState}
-use Rattle.pm_threads.specs.declared.setup.Setup.{Setup}
+use Rattle.pm_threads.specs.{Links.LinksState, declared.setup.Setup.Setup}
 
 -- whether this many bytes from this address on lie in the client area of a memory
 abbrev pub lies_in : ℕ → ℕ → ℕ → Bool

@@ -1,17 +1,10 @@
 -- What is told of a run once it is over.
-use Rattle.std.specs.Prelude.{◌≡◌, List, [], map, Option, Some, None, Result, Ok, Err}
-use Rattle.std.specs.List.{flat_map}
-use Rattle.hba_driver.specs.declared.mode.Mode.TheVariants.{Switching}
-use Rattle.hba_driver.specs.declared.request.Outcome.{Outcome}
-use Rattle.hba_driver.specs.declared.request.SubmitError.{SubmitError}
+use Rattle.std.specs.{Prelude.{◌≡◌, List, [], map, Option, Some, None, Result, Ok, Err}, List.flat_map}
+use Rattle.hba_driver.specs.{declared.{mode.Mode.TheVariants.Switching, request.{Outcome.Outcome, SubmitError.SubmitError}}, Delivered.HasCome}
+use Rattle.hba_driver.specs.{Delivered.HostDelivers, Events.put_by, HostTurns.{DoesAll, Host, HostTurn}}
 use Rattle.host_memory.specs.Memory.{Memory}
-use Rattle.hba_driver.specs.Delivered.{HasCome, HostDelivers}
-use Rattle.hba_driver.specs.Events.{put_by}
-use Rattle.hba_driver.specs.HostTurns.{DoesAll, Host, HostTurn}
-use Rattle.host_thread.specs.Dones.{AreDone}
-use Rattle.host_thread.specs.Runs.{HostView, starting, took_by}
+use Rattle.host_thread.specs.{Dones.AreDone, Runs.{HostView, starting, took_by}, declared.plan.State.State}
 use Rattle.host_thread.specs.declared.plan.Ended.TheVariants as ended
-use Rattle.host_thread.specs.declared.plan.State.{State}
 use Rattle.host_thread.specs.declared.plan.State.TheVariants as state
 
 -- ---- memory

@@ -8,8 +8,7 @@ use Rattle.pm_registers.specs.{Bits.shares, Port.bit_x}
 use Rattle.pm_control.specs.{Requests.request_in, declared.request.Request.{Request, TheVariants.Write}}
 use Rattle.multiplier.specs.State.{port_at}
 use Rattle.multiplier.specs.declared.multiplier.Passed.TheVariants as passed
-use Rattle.pm_world.specs.{Downward.fell_to, Places.{Places, new_world_in}, Rules.Run, Runs.AfterEveryRun, declared.step.Step.Step}
-use Rattle.pm_world.specs.declared.step.Answer.{Answer}
+use Rattle.pm_world.specs.{Downward.fell_to, Places.{Places, new_world_in}, Rules.Run, Runs.AfterEveryRun, declared.step.{Step.Step, Answer.Answer}}
 use Rattle.pm_world.specs.declared.step.Step.TheVariants as step
 use Rattle.pm_world.specs.declared.step.Answer.TheVariants as answer
 

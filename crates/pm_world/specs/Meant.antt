@@ -12,12 +12,11 @@
 use Rattle.std.specs.Prelude.{ℕ, ◌≡◌, ◌<◌, true, false, List, [], ◌∷◌, length, take, None, Some, Ok, slice_get}
 use Rattle.fis_view.specs.Frames.{Stamped}
 use Rattle.hba_fbs.specs.declared.report.TakeReport.{TakeReport}
-use Rattle.hba_driver.specs.declared.{request.Request.Request, request.Ticket.Ticket, slot.Phase.TheVariants.{Issued, Waits}}
-use Rattle.hba_driver.specs.{Drivers.{Entry, rephased}, Known.is_request, Queued.IsCommandOf, Submits.new_entry, Tended.IsLiveAt}
+use Rattle.hba_driver.specs.{declared.{request.{Request.Request, Ticket.Ticket}, slot.Phase.TheVariants.{Issued, Waits}}, Drivers.{Entry, rephased}}
+use Rattle.hba_driver.specs.{Known.is_request, Queued.IsCommandOf, Submits.new_entry, Tended.IsLiveAt}
 use Rattle.multiplier.specs.State.{falling}
 use Rattle.pm_world.specs.{Attached.Attached, Downward.{on_down_link, pushed_by}, Places.{Places, is_config, new_world}, Rules.{Rule, Run}}
-use Rattle.pm_world.specs.{Runs.{IsStepOf, over}, Stale.{connection, identified_by, latest}, declared.{step.Config.Config, step.Step.Step}}
-use Rattle.pm_world.specs.declared.step.Answer.{Answer}
+use Rattle.pm_world.specs.{Runs.{IsStepOf, over}, Stale.{connection, identified_by, latest}, declared.step.{Config.Config, Step.Step, Answer.Answer}}
 use Rattle.pm_world.specs.declared.step.Step.TheVariants as step
 use Rattle.pm_world.specs.declared.step.Answer.TheVariants as answer
 

@@ -12,12 +12,11 @@ use Rattle.slots.specs.Slots.{has_bit}
 use Rattle.hba_fbs.specs.{declared.report.TakeReport.TakeReport, Taking.port_of}
 use Rattle.disk_model.specs.{declared.plan.DiskPlan.DiskPlan, Histories.Happening}
 use Rattle.hba_laws.specs.{Client.{Touches, own}, History.filled}
-use Rattle.hba_driver.specs.declared.{request.Completion.Completion, request.Outcome.TheVariants.Done, request.Request.Request, request.Ticket.Ticket}
-use Rattle.hba_driver.specs.{declared.{request.Work.TheVariants.Read, slot.Phase.TheVariants.Issued}, Drivers.{entry_at, rephased}, Orders.is_queued}
-use Rattle.hba_driver.specs.Submits.{new_entry}
+use Rattle.hba_driver.specs.declared.request.{Completion.Completion, Outcome.TheVariants.Done, Request.Request, Ticket.Ticket, Work.TheVariants.Read}
+use Rattle.hba_driver.specs.{declared.slot.Phase.TheVariants.Issued, Drivers.{entry_at, rephased}, Orders.is_queued, Submits.new_entry}
 use Rattle.pm_world.specs.{Attached.Attached, Places.{Places, is_config, new_world}, Rules.{Rule, Run}, Runs.{IsStepOf, Telling, over}}
-use Rattle.pm_world.specs.{HostTouches.AreTouched, Turns.turn_of, declared.{step.Config.Config, step.Step.Step, step.Answer.Answer}}
-use Rattle.pm_world.specs.Disks.{DiskRun, EndedSince, FlushedSince, HasDisk}
+use Rattle.pm_world.specs.{HostTouches.AreTouched, Turns.turn_of, declared.step.{Config.Config, Step.Step, Answer.Answer}, Disks.DiskRun}
+use Rattle.pm_world.specs.Disks.{EndedSince, FlushedSince, HasDisk}
 use Rattle.pm_world.specs.declared.step.Step.TheVariants as step
 use Rattle.pm_world.specs.declared.step.Answer.TheVariants as answer
 

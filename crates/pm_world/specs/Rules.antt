@@ -10,19 +10,17 @@ use Rattle.std.specs.{Option.option_map_or, declared.alloc.AllocError.AllocError
 use Rattle.fis_view.specs.Frames.{Stamped, is_frame}
 use Rattle.host_memory.specs.Memory.{client_start}
 use Rattle.disk_model.specs.Histories.{Plugged, Received}
-use Rattle.pm_ports.specs.Port.{came_refusal as port_came_refusal, gone_refusal as port_gone_refusal}
-use Rattle.pm_ports.specs.declared.port.Offered.{Offered, TheVariants.{Held, Dropped}}
-use Rattle.multiplier.specs.Arbiter.{control_port}
-use Rattle.multiplier.specs.Rules.{DropsOnly, FromDeviceRule, FromHostRule, NextDownRule, NextUpRule, with_device as connected, without_device}
-use Rattle.multiplier.specs.State.{PmState, next_place, port_at}
+use Rattle.pm_ports.specs.{Port.{came_refusal as port_came_refusal, gone_refusal as port_gone_refusal}, declared.port.Offered.Offered}
+use Rattle.pm_ports.specs.declared.port.Offered.TheVariants.{Held, Dropped}
+use Rattle.multiplier.specs.{Arbiter.control_port, Rules.{DropsOnly, FromDeviceRule, FromHostRule, NextDownRule, NextUpRule}}
+use Rattle.multiplier.specs.{Rules.{with_device as connected, without_device}, State.{PmState, next_place, port_at}}
 use Rattle.multiplier.specs.declared.multiplier.PmRefusal.TheVariants as pm_refusal
 use Rattle.hba_fbs.specs.Sending.{MayRest, is_sent, outgoing}
-use Rattle.hba_driver.specs.{HostTurns.{Host, Polls, Pushes, Puts, Submits, Ticks, Tooks, sight_in}, Requests.in_use}
-use Rattle.hba_driver.specs.{Submits.{completion_of, end_of, submit_refusal}, Ticks.acts, declared.request.Request.Request}
-use Rattle.pm_world.specs.Attached.{GoesOnAttached, SendsAttached, IsSilentAttached, WantsRoom, PlugWantsRoom}
-use Rattle.pm_world.specs.Places.{Places, Place, Queue, IsFull, AreFull, IsTold, pushed, posted, after_sending, with_device, with_multiplier}
-use Rattle.pm_world.specs.{Places.{with_upward, with_downward, with_host}, declared.{link.Change.Change, step.Step.Step, step.Answer.Answer}}
-use Rattle.pm_world.specs.declared.step.StepError.{StepError}
+use Rattle.hba_driver.specs.{HostTurns.{Host, Polls, Pushes, Puts, Submits, Ticks, Tooks, sight_in}, Requests.in_use, Submits.{completion_of, end_of}}
+use Rattle.hba_driver.specs.{Submits.submit_refusal, Ticks.acts, declared.request.Request.Request}
+use Rattle.pm_world.specs.{Attached.{GoesOnAttached, SendsAttached, IsSilentAttached, WantsRoom, PlugWantsRoom}, Places.{Places, Place, Queue}}
+use Rattle.pm_world.specs.Places.{IsFull, AreFull, IsTold, pushed, posted, after_sending, with_device, with_multiplier, with_upward, with_downward}
+use Rattle.pm_world.specs.{Places.with_host, declared.{link.Change.Change, step.{Step.Step, Answer.Answer, StepError.StepError}}}
 use Rattle.pm_world.specs.declared.link.Change.TheVariants as change
 use Rattle.pm_world.specs.declared.step.Step.TheVariants as step
 use Rattle.pm_world.specs.declared.step.Answer.TheVariants as answer

@@ -1,13 +1,8 @@
 -- The rule of restored errors: what fits is what every value keeps.
-use Rattle.std.proofs.Common.{◌≡◌, ℕ, true, List, length, get_or, Some, None, refl}
-use Rattle.std.specs.Prelude.{Option, is_some, is_none}
-use Rattle.std.proofs.Math.Dec.{ltb}
-use Rattle.std.proofs.lemmas.List.Quantifiers.{position-Some}
+use Rattle.std.proofs.{Common.{◌≡◌, ℕ, true, List, length, get_or, Some, None, refl}, Math.Dec.ltb, lemmas.List.Quantifiers.{position-Some}}
 use Rattle.std.proofs.lemmas.Bool.{lt-ltb, ltb-true, and_parts, and_from}
-use Rattle.port_errors.specs.declared.cause.DeviceCause.{DeviceCause}
-use Rattle.port_errors.specs.declared.cause.Stop.{Stop}
-use Rattle.port_errors.specs.Errors.{AreErrors, lowest_marked}
-use Rattle.port_errors.specs.Saved.{fits}
+use Rattle.std.specs.Prelude.{Option, is_some, is_none}
+use Rattle.port_errors.specs.{declared.cause.{DeviceCause.DeviceCause, Stop.Stop}, Errors.{AreErrors, lowest_marked}, Saved.fits}
 use Rattle.port_errors.proofs.ErrorsLemmas.{unmarked}
 
 is_none_then : (o : Option ℕ) → is_none o ≡ true → o ≡ None

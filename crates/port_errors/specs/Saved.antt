@@ -1,15 +1,13 @@
 -- The errors of a host port as words.
-use Rattle.std.specs.Prelude.{◌≡◌, ℕ, ◌<◌, List, ◌∷◌, Option, Some, None, Bool, ◌&&◌, is_some, is_none, slice_index_or, nat_lt, refl}
-use Rattle.port_errors.specs.declared.cause.DeviceCause.{DeviceCause}
-use Rattle.port_errors.specs.declared.cause.DeviceCause.TheVariants.{TaskFile, BadTag, Overflow, Stray, Twice, Fragments, Short, BadFis, WrongWay}
-use Rattle.port_errors.specs.declared.cause.PortCause.TheVariants.{BadControl, Bus}
-use Rattle.port_errors.specs.declared.cause.Stop.{Stop}
-use Rattle.port_errors.specs.declared.cause.Stop.TheVariants as stop
-use Rattle.port_errors.specs.Errors.{AreErrors, Errors, lowest_marked}
-use Rattle.std.specs.Prelude.{◌^◌, length}
+use Rattle.std.specs.Prelude.{◌≡◌, ℕ, ◌<◌, List, ◌∷◌, Option, Some, None, Bool, ◌&&◌, is_some, is_none, slice_index_or, nat_lt, refl, ◌^◌, length}
 use Rattle.std.specs.List.{AllByRecursion}
+use Rattle.port_errors.specs.declared.cause.DeviceCause.{DeviceCause, TheVariants.{TaskFile, BadTag, Overflow, Stray, Twice, Fragments, Short}}
+use Rattle.port_errors.specs.declared.cause.{DeviceCause.TheVariants.{BadFis, WrongWay}, PortCause.TheVariants.{BadControl, Bus}, Stop.Stop}
+use Rattle.port_errors.specs.Errors.{AreErrors, Errors, lowest_marked}
+use Rattle.port_errors.specs.declared.cause.Stop.TheVariants as stop
 use Rattle.std.proofs.Common.{ap, arith, sym, ◌∙◌}
-use Rattle.saved_state.specs.State.{IsToldApart, KeepsOption, put_all, put_number, put_option, put_three, three_apart, all_apart, option_apart, number_apart, each_free, option_free, parts_apart}
+use Rattle.saved_state.specs.State.{IsToldApart, KeepsOption, put_all, put_number, put_option, put_three, three_apart, all_apart, option_apart}
+use Rattle.saved_state.specs.State.{number_apart, each_free, option_free, parts_apart}
 
 abbrev pub cause_number : DeviceCause → ℕ
 cause_number TaskFile = 1

@@ -1,8 +1,7 @@
 -- A pass while a slot is out with it.
 use Rattle.std.proofs.Common.{◌≡◌, ◌≢◌, ℕ, ◌+◌, ◌-◌, ◌%◌, ◌≤◌, true, List, [], ◌∷◌, length, get_or, sym, refl, ap, ◌∙◌, arith, Option, Some, None}
 use Rattle.atomic_table.specs.Table.{rest}
-use Rattle.ruled_links.specs.declared.rule.View.{View}
-use Rattle.ruled_links.specs.Rule.{Sight}
+use Rattle.ruled_links.specs.{declared.rule.View.View, Rule.Sight}
 
 pub not_full : (tail head room : ℕ) {sent slots : ℕ} → head ≤ sent → tail ≡ sent → slots ≡ room → ¬ (tail - head ≡ room) → sent ≢ head + slots
 not_full tail head room below at size other e = other (omega arith)

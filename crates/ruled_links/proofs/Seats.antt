@@ -1,14 +1,13 @@
 -- A link begins, and its pass is cut in two and joined again.
-use Rattle.std.proofs.Common.{◌≡◌, ◌≢◌, ℕ, zero, suc, ◌+◌, ◌<◌, ◌≤◌, Bool, true, false, true≢false, List, [], ◌∷◌, ◌++◌, length, map, replicate, set, sym, refl, ap, ◌∙◌, subst, ⊎_elim, arith, mod-eq_of_lt, Option, None}
+use Rattle.std.proofs.Common.{◌≡◌, ◌≢◌, ℕ, zero, suc, ◌+◌, ◌<◌, ◌≤◌, Bool, true, false, true≢false, List, [], ◌∷◌, ◌++◌, length, map, replicate, set}
+use Rattle.std.proofs.Common.{sym, refl, ap, ◌∙◌, subst, ⊎_elim, arith, mod-eq_of_lt, Option, None}
 use mathlib.Core.Option.{some, some-ne-none}
 use lib.ListN.{get_elem?}
 use Rattle.atomic_table.specs.Table.{State, opening, Splits, Joins}
 use Rattle.atomic_table.proofs.Lists.{at_set, at_snoc}
-use Rattle.ruled_links.specs.declared.rule.View.{View}
-use Rattle.ruled_links.specs.Calls.{Calls, no_calls}
-use Rattle.ruled_links.specs.Rule.{CanSend, CanTake, CanMeet, KnowsSent, KnowsTaken, Fits, IsLinked, sender, taker, both, fresh, spent}
-use Rattle.ruled_links.proofs.Prefixes.{prefix_same}
-use Rattle.ruled_links.proofs.Moves.{Each, each_set, last_place, no}
+use Rattle.ruled_links.specs.{declared.rule.View.View, Calls.{Calls, no_calls}, Rule.{CanSend, CanTake, CanMeet, KnowsSent, KnowsTaken, Fits}}
+use Rattle.ruled_links.specs.Rule.{IsLinked, sender, taker, both, fresh, spent}
+use Rattle.ruled_links.proofs.{Prefixes.prefix_same, Moves.{Each, each_set, last_place, no}}
 
 so_many : (T : Type 0) (n : ℕ) → length (map some (replicate {A = Option T} n None)) ≡ n
 so_many T zero = refl

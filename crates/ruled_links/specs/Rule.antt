@@ -6,12 +6,8 @@ use Rattle.std.specs.Prelude.{◌≡◌, ◌≢◌, ℕ, ◌+◌, ◌%◌, ◌<�
 use mathlib.Core.Option as maybe
 use mathlib.Core.Option.{some}
 use lib.ListN.{get_elem?}
-use Rattle.atomic_table.specs.Table.{State, Me, Step}
-use Rattle.atomic_table.specs.declared.shared.Seat.{Seat}
-use Rattle.ruled_links.specs.declared.rule.View.{View}
-use Rattle.ruled_links.specs.declared.ring.Ring.{Ring}
-use Rattle.ruled_links.specs.Calls.{Calls, sent_by, taken_by, full_at, none_at, AreRight}
-use Rattle.ruled_links.specs.Links.{IsWhole}
+use Rattle.atomic_table.specs.{Table.{State, Me, Step}, declared.shared.Seat.Seat}
+use Rattle.ruled_links.specs.{declared.{rule.View.View, ring.Ring.Ring}, Calls.{Calls, sent_by, taken_by, full_at, none_at, AreRight}, Links.IsWhole}
 use Rattle.ruled_links.specs.Lists.{IsPrefixOf, Agree}
 
 abbrev pub Pass : Type 0 → Type 0

@@ -1,9 +1,7 @@
 -- What a write into one row leaves of the others, and what that row is then.
 use Rattle.std.proofs.Common.{◌≡◌, ℕ, ◌+◌, ◌-◌, ◌*◌, ◌<◌, ◌≤◌, List, ◌++◌, length, take, drop, refl, sym, ap, subst, ◌∙◌, arith, inl, inr}
-use Rattle.std.proofs.Math.Seq.{take-append-add}
-use Rattle.std.proofs.lemmas.List.{append_assoc, length-append, length-drop, length-take, drop-append-le, drop-drop, drop-take, take-take}
-use Rattle.std.proofs.lemmas.Slice.{take-put_mid_below, drop-put_mid}
-use Rattle.std.proofs.lemmas.Bool.{cases_lt}
+use Rattle.std.proofs.{Math.Seq.{take-append-add}, lemmas.List.{append_assoc, length-append, length-drop, length-take, drop-append-le, drop-drop}}
+use Rattle.std.proofs.lemmas.{List.{drop-take, take-take}, Slice.{take-put_mid_below, drop-put_mid}, Bool.cases_lt}
 use borrow.Rule.Slice.PartMut.{put_mid}
 use Rattle.fis_view.specs.declared.view.Fis.{Fis}
 use Rattle.rx_area.specs.Area.{LeavesOthers, after_post, offset_of, overwritten, posted_at, posted_bytes, row_after, row_of, start_of}

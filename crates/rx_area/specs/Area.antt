@@ -1,8 +1,7 @@
 -- The places of a received FIS area: AHCI 1.3.1, section 4.2.1, Received FIS Structure, with one row for each
 -- of the 16 PM Ports, as in section 9.3, FIS-based Switching. The types of the FISes and their lengths:
 -- Serial ATA 3.x, 10.5, FIS types.
-use Rattle.std.specs.Prelude.{◌≡◌, ◌≢◌, ℕ, ◌+◌, ◌*◌, nat_le, if◌then◌else◌, List, [], ◌++◌, length, take}
-use Rattle.std.specs.Prelude.{drop}
+use Rattle.std.specs.Prelude.{◌≡◌, ◌≢◌, ℕ, ◌+◌, ◌*◌, nat_le, if◌then◌else◌, List, [], ◌++◌, length, take, drop}
 use Rattle.fis_view.specs.declared.view.Fis.{Fis}
 use Rattle.fis_view.specs.declared.view.Fis.TheVariants as view
 use Rattle.rx_area.specs.declared.area.Posted.{Posted}

@@ -1,6 +1,5 @@
 -- The bytes that an area borrows, at PxFB (AHCI 1.3.1, 3.3.3), and what a call leaves in them.
-use Rattle.std.specs.Prelude.{◌≡◌, ℕ, List}
-use Rattle.std.specs.Borrow.{MutBor}
+use Rattle.std.specs.{Prelude.{◌≡◌, ℕ, List}, Borrow.MutBor}
 use Rattle.rx_area.specs.declared.area.RxArea.{RxArea}
 
 -- the bytes of the area

@@ -5,32 +5,19 @@ use Rattle.ata_reply.specs.declared.reply.Reply.TheVariants as reply
 use Rattle.block_command.specs.declared.command.Command.{Command}
 use Rattle.block_engine.specs.declared.aside.AsideStage.{AsideStage}
 use Rattle.block_engine.specs.declared.aside.AsideStage.TheVariants as stages
-use Rattle.ata_command.specs.Asks.{DiskFacts, IsAsked}
-use Rattle.ata_command.specs.Courses.{course}
-use Rattle.ata_command.specs.declared.asked.Asked.{Asked}
-use Rattle.ata_command.specs.declared.asked.Asked.TheVariants as ask
-use Rattle.ata_command.specs.declared.asked.PowerTask.{PowerTask}
-use Rattle.ata_command.specs.declared.asked.PowerTask.TheVariants as power
-use Rattle.ata_command.specs.declared.asked.SmartTask.{SmartTask}
-use Rattle.ata_command.specs.declared.asked.SmartTask.TheVariants as smart
-use Rattle.ata_command.specs.declared.asked.Move.{Move}
-use Rattle.ata_command.specs.declared.asked.Refusal.{Refusal}
-use Rattle.ata_command.specs.declared.control.Standing.TheVariants as stand
-use Rattle.ata_command.specs.declared.control.Course.{Course}
-use Rattle.ata_command.specs.declared.control.Course.TheVariants.{Drop, Refuse, AbortAll, Take}
+use Rattle.ata_command.specs.{Asks.{DiskFacts, IsAsked}, Courses.course, declared.asked.{Asked.Asked, PowerTask.PowerTask, SmartTask.SmartTask}}
+use Rattle.ata_command.specs.declared.{asked.{Move.Move, Refusal.Refusal}, control.Course.{Course, TheVariants.{Drop, Refuse, AbortAll, Take}}}
 use Rattle.ata_command.specs.declared.settings.Setting.{Setting}
+use Rattle.ata_command.specs.declared.asked.Asked.TheVariants as ask
+use Rattle.ata_command.specs.declared.asked.PowerTask.TheVariants as power
+use Rattle.ata_command.specs.declared.asked.SmartTask.TheVariants as smart
+use Rattle.ata_command.specs.declared.control.Standing.TheVariants as stand
 use Rattle.ata_command.specs.declared.settings.Setting.TheVariants as set
-use Rattle.ata_front.specs.Fronts.{IsOf, MayTake, commanded, commanded_by, controlled, refused_by, set_by, standing_by, taken, taken_power, task_of_smart}
-use Rattle.ata_front.specs.declared.front.Front.{Front}
-use Rattle.ata_front.specs.declared.front.Heard.{Heard}
-use Rattle.ata_front.specs.declared.task.Act.{Act}
-use Rattle.ata_front.specs.declared.task.Act.TheVariants as act
-use Rattle.ata_front.specs.declared.task.Fault.{Fault}
-use Rattle.ata_front.specs.declared.task.Page.{Page}
-use Rattle.ata_front.specs.declared.task.Task.{Task}
+use Rattle.ata_front.specs.Fronts.{IsOf, MayTake, commanded, commanded_by, controlled, refused_by, set_by, standing_by, taken, taken_power}
+use Rattle.ata_front.specs.{Fronts.task_of_smart, declared.{front.{Front.Front, Heard.Heard}, task.{Act.Act, Fault.Fault, Page.Page, Task.Task}}}
 use Rattle.ata_front.specs.declared.task.Task.TheVariants.{Idle, Owes, Moves, Waits, Announces, Gives, Sends, Activates, Expects}
-use Rattle.sata_disk.specs.State.{IsBeside}
-use Rattle.sata_disk.specs.Hearing.{MayAct, TakesWithin}
+use Rattle.ata_front.specs.declared.task.Act.TheVariants as act
+use Rattle.sata_disk.specs.{State.IsBeside, Hearing.{MayAct, TakesWithin}}
 
 -- ## Where a command is heard, nothing is under way beside the queue
 

@@ -1,17 +1,12 @@
 -- What the caller is asked for lies within the sectors of the disk.
 use Rattle.std.proofs.Common.{ℕ, ◌+◌, ◌≤◌, List, Some, None, sym, subst, arith}
 use Rattle.std.specs.Prelude.{Option, IfSome}
-use Rattle.block_command.specs.declared.command.Command.{Command}
-use Rattle.block_command.specs.declared.command.Stage.{Stage}
-use Rattle.block_command.specs.declared.command.Stage.TheVariants.{Load, Store}
-use Rattle.block_command.specs.Moments.{Moment, part_count, turn_of}
+use Rattle.block_command.specs.{declared.command.{Command.Command, Stage.{Stage, TheVariants.{Load, Store}}}, Moments.{Moment, part_count, turn_of}}
 use Rattle.block_command.proofs.Door.{at}
 use Rattle.block_queue.specs.Line.{command_at}
-use Rattle.block_engine.specs.declared.aside.AsideKind.{AsideKind}
+use Rattle.block_engine.specs.{declared.{aside.AsideKind.AsideKind, request.{Request.Request, What.What}}, Engine.{EngineState, IsAskedOf}}
+use Rattle.block_engine.specs.Engine.{IsRequested, aside_what, line, what_at, what_of}
 use Rattle.block_engine.specs.declared.aside.AsideKind.TheVariants as kinds
-use Rattle.block_engine.specs.declared.request.Request.{Request}
-use Rattle.block_engine.specs.declared.request.What.{What}
-use Rattle.block_engine.specs.Engine.{EngineState, IsAskedOf, IsRequested, aside_what, line, what_at, what_of}
 use Rattle.sata_disk.specs.State.{AreWithin, AsksWithin, LiesWithin}
 use Rattle.sata_disk.proofs.Within.{part_ends}
 

@@ -1,15 +1,9 @@
 -- Data that come for a command were asked for where something is next for it then, and nothing was before.
 use Rattle.std.proofs.Common.{◌≡◌, ℕ, ◌-◌, ◌++◌, ◌≤◌, true, false, List, length, get_or, Some, None, refl, sym, ap, ◌∙◌, inl, inr}
-use Rattle.std.specs.Prelude.{Option, Bool, not, nat_lt, ◌&&◌, if◌then◌else◌}
-use Rattle.std.specs.Option.{option_map}
-use Rattle.std.proofs.lemmas.Bool.{cases_lt}
-use Rattle.std.proofs.lemmas.List.{get_or-set_same}
-use Rattle.std.proofs.Math.ListN.{get_or-eq_default}
-use Rattle.block_command.specs.declared.command.Command.{Command}
-use Rattle.block_command.specs.declared.command.Stage.{Stage}
-use Rattle.block_command.specs.declared.command.Stage.TheVariants.{Receiving, Activate, Store, Fail}
-use Rattle.block_command.specs.Moments.{Moment, chunk, part_len}
-use Rattle.block_command.specs.Laws.{Comes, after}
+use Rattle.std.proofs.{lemmas.{Bool.cases_lt, List.{get_or-set_same}}, Math.ListN.{get_or-eq_default}}
+use Rattle.std.specs.{Prelude.{Option, Bool, not, nat_lt, ◌&&◌, if◌then◌else◌}, Option.option_map}
+use Rattle.block_command.specs.{declared.command.{Command.Command, Stage.{Stage, TheVariants.{Receiving, Activate, Store, Fail}}}, Moments.Moment}
+use Rattle.block_command.specs.{Moments.{chunk, part_len}, Laws.{Comes, after}}
 use Rattle.block_command.proofs.Door.{at}
 use Rattle.block_queue.specs.Line.{command_at}
 use Rattle.block_engine.specs.Engine.{EngineState, line}

@@ -1,33 +1,23 @@
 -- What each call keeps of a disk.
 use Rattle.std.proofs.Common.{◌≡◌, ℕ, zero, suc, ◌*◌, ◌/◌, ◌<◌, true, false, List, length, map, Some, None, refl, sym, ap, ◌∙◌, subst, arith}
-use Rattle.std.specs.Prelude.{Option, Bool, ◌==◌, IfSome, IfOk, Result, Ok, Err, OnOk, OnErr, if◌then◌else◌}
-use Rattle.std.specs.List.{All}
-use Rattle.std.specs.declared.alloc.AllocError.{AllocError}
 use Rattle.std.proofs.lemmas.List.Elements.{All-nil}
-use Rattle.block_command.specs.declared.answer.AnswerError.{AnswerError}
-use Rattle.block_command.specs.Laws.{Input, Comes, Fails, Loads}
+use Rattle.std.specs.{Prelude.{Option, Bool, ◌==◌, IfSome, IfOk, Result, Ok, Err, OnOk, OnErr, if◌then◌else◌}, List.All}
+use Rattle.std.specs.declared.alloc.AllocError.{AllocError}
+use Rattle.block_command.specs.{declared.answer.AnswerError.AnswerError, Laws.{Input, Comes, Fails, Loads}}
 use Rattle.block_queue.specs.Line.{Line, awaits, first_below, line_answered, or_this}
 use Rattle.block_queue.proofs.Door.{of_and}
 use Rattle.block_scheduler.specs.Schedule.{with_line}
-use Rattle.block_engine.specs.declared.aside.AsideKind.TheVariants.{Discard}
-use Rattle.block_engine.specs.declared.aside.AsideStage.{AsideStage}
+use Rattle.block_engine.specs.declared.{aside.{AsideKind.TheVariants.Discard, AsideStage.AsideStage}, request.{Answer.Answer, Failure.Failure}}
+use Rattle.block_engine.specs.{declared.request.{Range.Range, Request.Request}, Aside.{asks_for, is_waiting, settled}, Engine.EngineState}
+use Rattle.block_engine.specs.Engine.{IsAskedOf, IsEngineStart, IsRequested, answered, aside_taken, done_at, done_of, failed_by, failed_own, line}
+use Rattle.block_engine.specs.Engine.{loaded_at, place_of, started}
 use Rattle.block_engine.specs.declared.aside.AsideStage.TheVariants as stages
-use Rattle.block_engine.specs.declared.request.Answer.{Answer}
 use Rattle.block_engine.specs.declared.request.Answer.TheVariants as answers
-use Rattle.block_engine.specs.declared.request.Failure.{Failure}
-use Rattle.block_engine.specs.declared.request.Range.{Range}
-use Rattle.block_engine.specs.declared.request.Request.{Request}
-use Rattle.block_engine.specs.Aside.{asks_for, is_waiting, settled}
-use Rattle.block_engine.specs.Engine.{EngineState, IsAskedOf, IsEngineStart, IsRequested, answered, aside_taken, done_at, done_of, failed_by, failed_own, line, loaded_at, place_of, started}
 use Rattle.ata_command.specs.Trims.{extents_in, is_past_in}
-use Rattle.ata_front.specs.Fronts.{after_discard, heard_data}
-use Rattle.ata_front.specs.declared.front.Front.{Front}
-use Rattle.ata_front.specs.declared.task.Act.{Act}
+use Rattle.ata_front.specs.{Fronts.{after_discard, heard_data}, declared.{front.Front.Front, task.{Act.Act, Task.{Task, TheVariants.{Idle, Owes}}}}}
+use Rattle.ata_front.specs.declared.task.Task.TheVariants.{Moves, Waits, Announces, Gives, Sends, Activates, Expects}
 use Rattle.ata_front.specs.declared.task.Act.TheVariants as act
-use Rattle.ata_front.specs.declared.task.Task.{Task}
-use Rattle.ata_front.specs.declared.task.Task.TheVariants.{Idle, Owes, Moves, Waits, Announces, Gives, Sends, Activates, Expects}
-use Rattle.disk_pages.specs.Profiles.{facts_of}
-use Rattle.disk_pages.specs.declared.profile.Profile.{Profile}
+use Rattle.disk_pages.specs.{Profiles.facts_of, declared.profile.Profile.Profile}
 use Rattle.sata_disk.specs.State.{AreWithin, DiskState, IsBeside, IsDisk, IsWithin, data_place, has_link, new_disk, or_single, sectors_of}
 use Rattle.sata_disk.specs.Hearing.{MayAct, TakesWithin, came_for, discarding, engine_acted, range_of, ranges_of, unless_past}
 use Rattle.sata_disk.proofs.Within.{answered_within, gone_within, input_within, none_within, ranges_within, reset_within, taken_within}

@@ -1,11 +1,8 @@
 -- The FIS of a command that may send.
 use Rattle.std.proofs.Common.{◌≡◌, ℕ, true, false, List, Some, None, refl, sym, ap, ◌∙◌, subst}
-use Rattle.std.specs.Prelude.{Option, Bool}
-use Rattle.std.specs.Option.{option_map}
-use Rattle.block_command.specs.declared.command.Command.{Command}
-use Rattle.block_command.specs.declared.command.Stage.{Stage}
-use Rattle.block_command.specs.declared.command.Stage.TheVariants.{SetUpRead, Announce, Sending, SetUpWrite, Activate, End, Fail}
-use Rattle.block_command.specs.Moments.{Moment, turn_of}
+use Rattle.std.specs.{Prelude.{Option, Bool}, Option.option_map}
+use Rattle.block_command.specs.declared.command.{Command.Command, Stage.{Stage, TheVariants.{SetUpRead, Announce, Sending, SetUpWrite, Activate}}}
+use Rattle.block_command.specs.{declared.command.Stage.TheVariants.{End, Fail}, Moments.{Moment, turn_of}}
 use Rattle.block_command.proofs.Door.{at}
 use Rattle.block_disk.specs.Requests.{is_fis, sends_at}
 use Rattle.block_queue.specs.Line.{command_at}
@@ -14,10 +11,7 @@ use Rattle.block_engine.specs.declared.engine.EngineFis.TheVariants as fis
 use Rattle.block_engine.specs.Engine.{IsEngineFis, MayGo}
 use Rattle.ata_reply.specs.declared.reply.Reply.{Reply}
 use Rattle.ata_front.specs.Fronts.{owed}
-use Rattle.sata_disk.specs.State.{DiskState, commands}
-use Rattle.sata_disk.specs.Sending.{IsOut, is_data, out_at, out_by, reply_at}
-use Rattle.sata_disk.specs.declared.out.Out.{Out}
-use Rattle.sata_disk.specs.declared.out.Out.TheVariants.{Of}
+use Rattle.sata_disk.specs.{State.{DiskState, commands}, Sending.{IsOut, is_data, out_at, out_by, reply_at}, declared.out.Out.{Out, TheVariants.Of}}
 
 -- what sends has a FIS, Data or another
 has_reply : (d : DiskState) (p : ℕ) (c : Command) (done : ℕ) (bytes : List ℕ) (sent : ℕ) (stage : Stage) → is_fis (turn_of stage) ≡ true

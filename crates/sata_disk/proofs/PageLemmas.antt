@@ -1,14 +1,9 @@
 -- The NCQ Command Error log says what is told of an error.
 use Rattle.std.proofs.Common.{◌≡◌, ℕ, List, take, Some, None, refl, sym, ap, ◌∙◌, subst}
 use Rattle.std.specs.Prelude.{Option}
-use Rattle.ata_front.specs.declared.task.Fault.{Fault}
-use Rattle.ata_front.specs.declared.task.Fault.TheVariants.{Mixed, Queued}
-use Rattle.disk_pages.specs.Bytes.{closed}
-use Rattle.disk_pages.specs.Logs.{error_log, failed_bytes, log_bytes}
-use Rattle.disk_pages.specs.declared.log.LogPage.{LogPage}
+use Rattle.ata_front.specs.declared.{task.Fault.{Fault, TheVariants.{Mixed, Queued}}, front.Front.Front}
+use Rattle.disk_pages.specs.{Bytes.closed, Logs.{error_log, failed_bytes, log_bytes}, declared.{log.LogPage.LogPage, profile.Profile.Profile}}
 use Rattle.disk_pages.specs.declared.log.LogPage.TheVariants as logs
-use Rattle.disk_pages.specs.declared.profile.Profile.{Profile}
-use Rattle.ata_front.specs.declared.front.Front.{Front}
 use Rattle.disk_pages.specs.declared.ncq_error.NcqError as ncq
 use Rattle.sata_disk.specs.Pages.{IsErrorLog, IsLog, IsTold}
 

@@ -1,21 +1,15 @@
 -- The rule of a restored disk: what fits is what every disk keeps.
-use Rattle.std.proofs.Common.{◌≡◌, ◌+◌, ◌<◌, true, false, List, refl, ap, Some, None, arith, inl, inr}
-use Rattle.std.specs.Prelude.{Option, Bool, ℕ, not, ◌||◌, ◌&&◌, is_none, nat_le}
-use Rattle.std.specs.List.{All, list_all}
-use Rattle.std.proofs.lemmas.Bool.{and_from, and_parts, cases_Bool, le-leb, leb-true}
-use Rattle.std.proofs.lemmas.List.Elements.{All-weaker}
-use Rattle.std.proofs.lemmas.List.Sums.{AllPass-from_list_all, list_all-from_AllPass}
+use Rattle.std.proofs.{Common.{◌≡◌, ◌+◌, ◌<◌, true, false, List, refl, ap, Some, None, arith, inl, inr}, lemmas.Bool.{and_from, and_parts}}
+use Rattle.std.proofs.lemmas.{Bool.{cases_Bool, le-leb, leb-true}, List.{Elements.{All-weaker}, Sums.{AllPass-from_list_all, list_all-from_AllPass}}}
+use Rattle.std.specs.{Prelude.{Option, Bool, ℕ, not, ◌||◌, ◌&&◌, is_none, nat_le}, List.{All, list_all}}
 use Rattle.block_command.specs.Moments.{Moment, part_lba}
 use Rattle.block_queue.specs.Line.{any_below, command_at}
 use Rattle.block_queue.proofs.Door.{any_found, any_none}
-use Rattle.block_engine.specs.declared.aside.AsideStage.{AsideStage}
+use Rattle.block_engine.specs.{declared.{aside.AsideStage.AsideStage, request.Range.Range}, Engine.{EngineState, line}}
 use Rattle.block_engine.specs.declared.aside.AsideStage.TheVariants as stages
-use Rattle.block_engine.specs.declared.request.Range.{Range}
-use Rattle.block_engine.specs.Engine.{EngineState, line}
-use Rattle.ata_front.specs.declared.task.Task.{Task}
-use Rattle.ata_front.specs.declared.task.Task.TheVariants.{Idle, Owes, Moves, Waits, Announces, Gives, Sends, Activates, Expects}
-use Rattle.sata_disk.specs.State.{AreWithin, DiskState, IsBeside, IsDisk, IsWithin, LiesWithin, sectors_of}
-use Rattle.sata_disk.specs.Saved.{are_within, beside_fits, fits, is_at_rest, is_idle, is_past, is_past_at, is_within}
+use Rattle.ata_front.specs.declared.task.Task.{Task, TheVariants.{Idle, Owes, Moves, Waits, Announces, Gives, Sends, Activates, Expects}}
+use Rattle.sata_disk.specs.{State.{AreWithin, DiskState, IsBeside, IsDisk, IsWithin, LiesWithin, sectors_of}, Saved.{are_within, beside_fits, fits}}
+use Rattle.sata_disk.specs.Saved.{is_at_rest, is_idle, is_past, is_past_at, is_within}
 
 none_is : (o : Option ℕ) → is_none o ≡ true → o ≡ None
 none_is None e = refl

@@ -2,16 +2,11 @@
 use Rattle.std.proofs.Common.{◌≡◌, ℕ, ◌<◌, true, false, refl, sym, ◌∙◌, subst, arith}
 use Rattle.std.specs.Prelude.{Bool}
 use Rattle.block_scheduler.specs.Schedule.{ends_sent}
-use Rattle.block_engine.specs.declared.aside.AsideStage.{AsideStage}
+use Rattle.block_engine.specs.{declared.aside.AsideStage.AsideStage, Engine.{EngineState, on_line}}
 use Rattle.block_engine.specs.declared.aside.AsideStage.TheVariants as stages
-use Rattle.block_engine.specs.Engine.{EngineState, on_line}
-use Rattle.ata_front.specs.Fronts.{queued_failed, task_less}
-use Rattle.ata_front.specs.declared.front.Front.{Front}
-use Rattle.ata_front.specs.declared.task.Task.{Task}
-use Rattle.ata_front.specs.declared.task.Task.TheVariants.{Idle, Moves}
+use Rattle.ata_front.specs.{Fronts.{queued_failed, task_less}, declared.{front.Front.Front, task.Task.{Task, TheVariants.{Idle, Moves}}}}
 use Rattle.ata_front.specs.declared.task.Trouble.{Trouble}
-use Rattle.sata_disk.specs.State.{DiskState, IsBeside, IsDisk, commands, sectors_of}
-use Rattle.sata_disk.specs.Sending.{place_sent, single_front}
+use Rattle.sata_disk.specs.{State.{DiskState, IsBeside, IsDisk, commands, sectors_of}, Sending.{place_sent, single_front}}
 use Rattle.sata_disk.proofs.Within.{ends_within, sent_within}
 
 less_beside : (t : Task) (b : Bool) (n : ℕ) (s : AsideStage) → s ≡ stages.Idle → IsBeside (task_less t b n) s

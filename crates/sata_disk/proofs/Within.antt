@@ -1,29 +1,18 @@
 -- What each call leaves lies within the sectors of the disk: no command changes its own, and the places of commands that are gone are free.
-use Rattle.std.proofs.Common.{◌≡◌, ℕ, zero, suc, ◌+◌, ◌-◌, ◌<◌, ◌≤◌, true, false, List, [], ◌∷◌, length, get_or, map, replicate, set, Some, None, refl, sym, ap, ◌∙◌, subst, arith, inl, inr}
-use Rattle.std.specs.Prelude.{Option, Bool, ◌==◌, ◌&&◌, ◌||◌, nat_lt, if◌then◌else◌}
-use Rattle.std.specs.List.{All}
-use Rattle.std.specs.Option.{option_map}
-use Rattle.std.proofs.lemmas.Bool.{cases_eq, cases_lt, lt-ltb, ltb-false}
-use Rattle.std.proofs.lemmas.List.{get_or-set_other, get_or-set_same, get_or-replicate, set_past}
-use Rattle.std.proofs.lemmas.List.Elements.{All-append, All-cons, All-map, All-nil}
-use Rattle.block_command.specs.declared.command.Command.{Command}
-use Rattle.block_command.specs.Moments.{Moment, first_data_stage, is_verify, opening, part_count, part_len, read_on, with_sectors}
-use Rattle.block_command.specs.declared.command.Stage.{Stage}
-use Rattle.block_command.specs.declared.command.Stage.TheVariants.{Loading, Receiving, Sending, Storing}
+use Rattle.std.proofs.Common.{◌≡◌, ℕ, zero, suc, ◌+◌, ◌-◌, ◌<◌, ◌≤◌, true, false, List, [], ◌∷◌, length, get_or, map, replicate, set, Some, None}
+use Rattle.std.proofs.{Common.{refl, sym, ap, ◌∙◌, subst, arith, inl, inr}, lemmas.Bool.{cases_eq, cases_lt, lt-ltb, ltb-false}}
+use Rattle.std.proofs.lemmas.List.{get_or-set_other, get_or-set_same, get_or-replicate, set_past, Elements.{All-append, All-cons, All-map, All-nil}}
+use Rattle.std.specs.{Prelude.{Option, Bool, ◌==◌, ◌&&◌, ◌||◌, nat_lt, if◌then◌else◌}, List.All, Option.option_map}
+use Rattle.block_command.specs.{declared.command.Command.Command, Moments.{Moment, first_data_stage, is_verify, opening, part_count, part_len}}
+use Rattle.block_command.specs.{Moments.{read_on, with_sectors}, declared.command.Stage.{Stage, TheVariants.{Loading, Receiving, Sending, Storing}}}
 use Rattle.block_command.specs.Laws.{Input, Comes, Goes, Loads, Stores, after}
-use Rattle.block_command.proofs.Door.{same_command}
-use Rattle.block_command.proofs.Door.{at as moment}
-use Rattle.block_disk.specs.Table.{Table, at, is_under_way, with_command, with_input, with_taken}
-use Rattle.block_disk.specs.Requests.{Queue, is_out, with_table}
+use Rattle.block_command.proofs.Door.{same_command, at as moment}
+use Rattle.block_disk.specs.{Table.{Table, at, is_under_way, with_command, with_input, with_taken}, Requests.{Queue, is_out, with_table}}
 use Rattle.block_queue.specs.Line.{Line, command_at, line_answered, line_gone, line_reset, line_taken, may_send, with_queue}
-use Rattle.block_scheduler.specs.Sets.{ends_at}
-use Rattle.block_scheduler.specs.Schedule.{Schedule, ends_all, ends_sent}
+use Rattle.block_scheduler.specs.{Sets.ends_at, Schedule.{Schedule, ends_all, ends_sent}}
 use Rattle.block_engine.specs.Engine.{EngineState, line}
-use Rattle.ata_command.specs.Trims.{entry, extents_in, is_past as is_past_extent, is_past_in, named}
-use Rattle.ata_command.specs.declared.trim.Extent.{Extent}
-use Rattle.sata_disk.specs.State.{IsWithin, LiesWithin}
-use Rattle.sata_disk.specs.Hearing.{range_of}
-use Rattle.sata_disk.specs.Sending.{place_sent}
+use Rattle.ata_command.specs.{Trims.{entry, extents_in, is_past as is_past_extent, is_past_in, named}, declared.trim.Extent.Extent}
+use Rattle.sata_disk.specs.{State.{IsWithin, LiesWithin}, Hearing.range_of, Sending.place_sent}
 
 -- ## Commands
 

@@ -1,43 +1,27 @@
 -- What a disk makes of a FIS of its host (Serial ATA 3.x, 10.5, FIS types, 11.4, software reset, and 13.6, native command queuing;
 -- ACS-3, 7.5, DATA SET MANAGEMENT, and 7.24, READ LOG EXT).
-use Rattle.std.specs.Prelude.{ℕ, ◌≡◌, ◌*◌, ◌/◌, ◌==◌, ◌+◌, ◌<◌, ◌≤◌, ◌&&◌, nat_lt, Bool, true, false, List, map, drop, length, Option, Some, None, Result, Ok, if◌then◌else◌}
-use Rattle.fis_view.specs.Table.{H2d, C, field}
-use Rattle.fis_view.specs.declared.view.Fis.{Fis}
+use Rattle.std.specs.Prelude.{ℕ, ◌≡◌, ◌*◌, ◌/◌, ◌==◌, ◌+◌, ◌<◌, ◌≤◌, ◌&&◌, nat_lt, Bool, true, false, List, map, drop, length, Option, Some, None}
+use Rattle.std.specs.Prelude.{Result, Ok, if◌then◌else◌}
+use Rattle.fis_view.specs.{Table.{H2d, C, field}, declared.view.{Fis.Fis, FisFault.FisFault}}
 use Rattle.fis_view.specs.declared.view.Fis.TheVariants as view
-use Rattle.fis_view.specs.declared.view.FisFault.{FisFault}
-use Rattle.block_command.specs.declared.command.Stage.{Stage}
+use Rattle.block_command.specs.{declared.command.{Stage.Stage, Turn.Turn}, Moments.{IsCommand, Moment, is_queued, turn_of}, Laws.Comes}
 use Rattle.block_command.specs.declared.command.Stage.TheVariants as stage
-use Rattle.block_command.specs.declared.command.Turn.{Turn}
 use Rattle.block_command.specs.declared.command.Turn.TheVariants as turn
-use Rattle.block_command.specs.Moments.{IsCommand, Moment, is_queued, turn_of}
-use Rattle.block_command.specs.Laws.{Comes}
-use Rattle.block_disk.specs.Table.{with_input}
-use Rattle.block_disk.specs.Requests.{with_table}
+use Rattle.block_disk.specs.{Table.with_input, Requests.with_table}
 use Rattle.block_queue.specs.Line.{command_at, with_queue}
-use Rattle.block_engine.specs.declared.aside.AsideKind.TheVariants.{Flush, Discard}
-use Rattle.block_engine.specs.declared.aside.AsideStage.{AsideStage}
-use Rattle.block_engine.specs.declared.aside.AsideStage.TheVariants as stages
-use Rattle.block_engine.specs.declared.request.Range.{Range}
+use Rattle.block_engine.specs.declared.{aside.{AsideKind.TheVariants.{Flush, Discard}, AsideStage.AsideStage}, request.Range.Range}
 use Rattle.block_engine.specs.Engine.{EngineState, aside_taken, engine_reset, line, on_line, taken}
-use Rattle.ata_command.specs.Asks.{aborted, asked}
-use Rattle.ata_command.specs.Courses.{resets}
-use Rattle.ata_command.specs.Trims.{extents_in, is_past_in}
-use Rattle.ata_command.specs.declared.asked.Asked.{Asked}
+use Rattle.block_engine.specs.declared.aside.AsideStage.TheVariants as stages
+use Rattle.ata_command.specs.{Asks.{aborted, asked}, Courses.resets, Trims.{extents_in, is_past_in}, declared.asked.{Asked.Asked, LogPage.LogPage}}
+use Rattle.ata_command.specs.declared.{control.Standing.Standing, trim.Extent.Extent}
 use Rattle.ata_command.specs.declared.asked.Asked.TheVariants as ask
-use Rattle.ata_command.specs.declared.asked.LogPage.{LogPage}
-use Rattle.ata_command.specs.declared.control.Standing.{Standing}
 use Rattle.ata_command.specs.declared.control.Standing.TheVariants as stand
-use Rattle.ata_command.specs.declared.trim.Extent.{Extent}
-use Rattle.ata_front.specs.Fronts.{after_discard, after_plug, commanded, controlled, heard_data, standing}
-use Rattle.ata_front.specs.declared.front.Heard.{Heard}
-use Rattle.ata_front.specs.declared.task.Act.{Act}
+use Rattle.ata_front.specs.{Fronts.{after_discard, after_plug, commanded, controlled, heard_data, standing}, declared.front.Heard.Heard}
+use Rattle.ata_front.specs.declared.task.{Act.Act, Task.Task}
 use Rattle.ata_front.specs.declared.task.Act.TheVariants as act
-use Rattle.ata_front.specs.declared.task.Task.{Task}
-use Rattle.disk_pages.specs.Logs.{reads_log}
-use Rattle.disk_pages.specs.Profiles.{facts_of}
-use Rattle.sata_disk.specs.State.{DiskState, IsBeside, commands, data_place, tags_of}
-use Rattle.sata_disk.specs.declared.unheard.Unheard.{Unheard}
-use Rattle.sata_disk.specs.declared.unheard.Unheard.TheVariants.{NotOfHost, InReset, Busy, NotAwaited}
+use Rattle.disk_pages.specs.{Logs.reads_log, Profiles.facts_of}
+use Rattle.sata_disk.specs.{State.{DiskState, IsBeside, commands, data_place, tags_of}, declared.unheard.Unheard.{Unheard, TheVariants.NotOfHost}}
+use Rattle.sata_disk.specs.declared.unheard.Unheard.TheVariants.{InReset, Busy, NotAwaited}
 
 -- ## What becomes of the commands
 

@@ -1,19 +1,13 @@
 -- The pages that a disk gives of itself: IDENTIFY DEVICE, READ LOG EXT, SMART READ DATA (ACS-3, 7.12, 7.24, 7.46 and 9).
 use Rattle.std.specs.Prelude.{ℕ, ◌≡◌, ◌%◌, ◌^◌, List, replicate, Option, Some, None}
 use Rattle.ata_reply.specs.Replies.{code_of}
-use Rattle.ata_front.specs.declared.front.Front.{Front}
-use Rattle.ata_front.specs.declared.task.Fault.{Fault}
+use Rattle.ata_front.specs.declared.{front.Front.Front, task.{Fault.Fault, Page.Page, Trouble.Trouble}}
 use Rattle.ata_front.specs.declared.task.Fault.TheVariants as faults
-use Rattle.ata_front.specs.declared.task.Page.{Page}
 use Rattle.ata_front.specs.declared.task.Page.TheVariants as pages
-use Rattle.ata_front.specs.declared.task.Trouble.{Trouble}
-use Rattle.disk_pages.specs.Identity.{identity}
-use Rattle.disk_pages.specs.Logs.{error_log, log_bytes, log_named}
-use Rattle.disk_pages.specs.Smart.{smart_data}
-use Rattle.disk_pages.specs.declared.log.LogPage.{LogPage}
+use Rattle.disk_pages.specs.{Identity.identity, Logs.{error_log, log_bytes, log_named}, Smart.smart_data, declared.log.LogPage.LogPage}
+use Rattle.disk_pages.specs.declared.profile.Profile.{Profile}
 use Rattle.disk_pages.specs.declared.log.LogPage.TheVariants as logs
 use Rattle.disk_pages.specs.declared.ncq_error.NcqError as ncq
-use Rattle.disk_pages.specs.declared.profile.Profile.{Profile}
 
 -- what the NCQ Command Error log has of a queued command that failed (ACS-3, 9.13)
 pub record IsErrorOf (e : ncq.NcqError) (tag : ℕ) (t : Trouble) : Type 0 where

@@ -1,22 +1,15 @@
 -- A SATA disk as words.
-use Rattle.std.specs.Prelude.{ℕ, ◌+◌, nat_le, List, Option, Some, None, Bool, true, false, not, ◌&&◌, ◌||◌, is_none}
-use Rattle.std.specs.List.{list_all}
+use Rattle.std.specs.{Prelude.{ℕ, ◌+◌, nat_le, List, Option, Some, None, Bool, true, false, not, ◌&&◌, ◌||◌, is_none}, List.list_all}
 use Rattle.std.proofs.Common.{ap}
 use Rattle.saved_state.specs.State.{IsToldApart, parts_apart, put_three, three_apart}
 use Rattle.block_command.specs.Moments.{Moment, part_lba}
 use Rattle.block_queue.specs.Line.{any_below, command_at}
-use Rattle.block_engine.specs.Engine.{EngineState, line}
-use Rattle.block_engine.specs.Saved.{KeepsEngine, engine_apart, put_engine}
-use Rattle.block_engine.specs.declared.aside.AsideStage.{AsideStage}
-use Rattle.block_engine.specs.declared.aside.AsideStage.TheVariants as stages
+use Rattle.block_engine.specs.{Engine.{EngineState, line}, Saved.{KeepsEngine, engine_apart, put_engine}, declared.aside.AsideStage.AsideStage}
 use Rattle.block_engine.specs.declared.request.Range.{Range}
-use Rattle.ata_front.specs.declared.front.Front.{Front}
-use Rattle.ata_front.specs.declared.task.Task.{Task}
+use Rattle.block_engine.specs.declared.aside.AsideStage.TheVariants as stages
+use Rattle.ata_front.specs.{declared.{front.Front.Front, task.Task.Task}, Saved.{KeepsFront, front_apart, put_front}}
 use Rattle.ata_front.specs.declared.task.Task.TheVariants as tasks
-use Rattle.ata_front.specs.Saved.{KeepsFront, front_apart, put_front}
-use Rattle.disk_pages.specs.declared.profile.Profile.{Profile}
-use Rattle.disk_pages.specs.Profiles.{facts_of}
-use Rattle.disk_pages.specs.Saved.{KeepsProfile, profile_apart, put_profile}
+use Rattle.disk_pages.specs.{declared.profile.Profile.Profile, Profiles.facts_of, Saved.{KeepsProfile, profile_apart, put_profile}}
 use Rattle.sata_disk.specs.State.{DiskState, IsDisk}
 
 -- what it is, what it is to its host, and its commands

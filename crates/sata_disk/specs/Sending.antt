@@ -2,36 +2,25 @@
 use Rattle.std.specs.Prelude.{ℕ, ◌≡◌, ◌/◌, nat_lt, Bool, true, false, not, List, [], drop, length, Option, Some, None, slice_index_or, if◌then◌else◌}
 use Rattle.std.specs.Option.{option_map}
 use Rattle.fis_view.specs.Frames.{is_payload}
-use Rattle.block_command.specs.declared.command.Turn.{Turn}
+use Rattle.block_command.specs.{declared.command.Turn.Turn, Moments.{Moment, part_of, turn_of}}
 use Rattle.block_command.specs.declared.command.Turn.TheVariants as turn
-use Rattle.block_command.specs.Moments.{Moment, part_of, turn_of}
 use Rattle.block_queue.specs.Line.{command_at}
 use Rattle.block_scheduler.specs.Schedule.{ends_all, ends_sent, line_sent}
-use Rattle.block_engine.specs.declared.aside.AsideStage.{AsideStage}
+use Rattle.block_engine.specs.{declared.{aside.AsideStage.AsideStage, request.ErrorKind.ErrorKind}, Engine.{EngineState, IsEngineFis, MayGo}}
+use Rattle.block_engine.specs.Engine.{aside_sent, line, on_line, with_schedule}
 use Rattle.block_engine.specs.declared.aside.AsideStage.TheVariants as stages
 use Rattle.block_engine.specs.declared.engine.EngineFis.TheVariants as fis
-use Rattle.block_engine.specs.declared.request.ErrorKind.{ErrorKind}
 use Rattle.block_engine.specs.declared.request.ErrorKind.TheVariants as kinds
 use Rattle.block_engine.specs.declared.request.Failure as caller
-use Rattle.block_engine.specs.Engine.{EngineState, IsEngineFis, MayGo, aside_sent, line, on_line, with_schedule}
-use Rattle.ata_reply.specs.declared.reply.AtaError.{AtaError}
+use Rattle.ata_reply.specs.{declared.reply.{AtaError.AtaError, Reply.Reply}, Replies.{Carries, Shows}}
 use Rattle.ata_reply.specs.declared.reply.AtaError.TheVariants as ata
-use Rattle.ata_reply.specs.declared.reply.Reply.{Reply}
 use Rattle.ata_reply.specs.declared.reply.Reply.TheVariants as replies
-use Rattle.ata_reply.specs.Replies.{Carries, Shows}
-use Rattle.ata_front.specs.CommandFis.{command_reply}
-use Rattle.ata_front.specs.Fronts.{beside_sent, over, owed, queued_failed, said, single_sent}
-use Rattle.ata_front.specs.declared.front.Front.{Front}
-use Rattle.ata_front.specs.declared.task.Moving.{Moving}
-use Rattle.ata_front.specs.declared.task.Owed.{Owed}
+use Rattle.ata_front.specs.{CommandFis.command_reply, Fronts.{beside_sent, over, owed, queued_failed, said, single_sent}, declared.front.Front.Front}
+use Rattle.ata_front.specs.declared.task.{Moving.Moving, Owed.Owed, Task.Task, Trouble.Trouble}
 use Rattle.ata_front.specs.declared.task.Owed.TheVariants as owe
-use Rattle.ata_front.specs.declared.task.Task.{Task}
 use Rattle.ata_front.specs.declared.task.Task.TheVariants as tasks
-use Rattle.ata_front.specs.declared.task.Trouble.{Trouble}
-use Rattle.sata_disk.specs.State.{DiskState, commands, is_taken}
-use Rattle.sata_disk.specs.Pages.{IsPage}
-use Rattle.sata_disk.specs.declared.out.Out.{Out}
-use Rattle.sata_disk.specs.declared.out.Out.TheVariants.{Own, Page, Beside, Ends, Of, Data}
+use Rattle.sata_disk.specs.{State.{DiskState, commands, is_taken}, Pages.IsPage, declared.out.Out.{Out, TheVariants.{Own, Page, Beside, Ends, Of}}}
+use Rattle.sata_disk.specs.declared.out.Out.TheVariants.{Data}
 
 -- ## Why a command failed
 

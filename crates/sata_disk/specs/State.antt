@@ -1,21 +1,14 @@
 -- What a SATA disk is at one moment: what it is to its host, and its commands.
-use Rattle.std.specs.Prelude.{ℕ, zero, suc, ◌≡◌, ◌<◌, ◌≤◌, ◌+◌, ◌^◌, Bool, true, Option, Some, None, if◌then◌else◌}
-use Rattle.std.specs.List.{All}
+use Rattle.std.specs.{Prelude.{ℕ, zero, suc, ◌≡◌, ◌<◌, ◌≤◌, ◌+◌, ◌^◌, Bool, true, Option, Some, None, if◌then◌else◌}, List.All}
 use Rattle.block_command.specs.Moments.{Moment}
 use Rattle.block_disk.specs.Table.{has_wire, is_under_way}
 use Rattle.block_queue.specs.Line.{Line, command_at, first_below}
-use Rattle.block_engine.specs.Engine.{EngineState, line, none_engaged}
-use Rattle.block_engine.specs.declared.aside.AsideStage.{AsideStage}
+use Rattle.block_engine.specs.{Engine.{EngineState, line, none_engaged}, declared.{aside.AsideStage.AsideStage, request.{Range.Range, What.What}}}
 use Rattle.block_engine.specs.declared.aside.AsideStage.TheVariants as stages
-use Rattle.block_engine.specs.declared.request.Range.{Range}
-use Rattle.block_engine.specs.declared.request.What.{What}
 use Rattle.block_engine.specs.declared.request.What.TheVariants as what
-use Rattle.ata_front.specs.Fronts.{opening}
-use Rattle.ata_front.specs.declared.front.Front.{Front}
-use Rattle.ata_front.specs.declared.task.Task.{Task}
+use Rattle.ata_front.specs.{Fronts.opening, declared.{front.Front.Front, task.Task.Task}}
 use Rattle.ata_front.specs.declared.task.Task.TheVariants as tasks
-use Rattle.disk_pages.specs.Profiles.{facts_of}
-use Rattle.disk_pages.specs.declared.profile.Profile.{Profile}
+use Rattle.disk_pages.specs.{Profiles.facts_of, declared.profile.Profile.Profile}
 
 pub record DiskState : Type 0 where
   -- what it is

@@ -1,52 +1,36 @@
 -- While a disk is at work on a command that is not queued, and while an error stands, no queued command is under way.
-use Rattle.std.proofs.Common.{◌≡◌, ℕ, ◌/◌, true, false, List, [], ◌∷◌, drop, Some, None, refl, sym, ap, ◌∙◌, arith}
+use Rattle.std.proofs.{Common.{◌≡◌, ℕ, ◌/◌, true, false, List, [], ◌∷◌, drop, Some, None, refl, sym, ap, ◌∙◌, arith}, lemmas.Bool.{eqb-true}}
+use Rattle.std.proofs.lemmas.{Bool.{ltb-false}, List.{get_or-set_other}}
 use Rattle.std.specs.Prelude.{Option, Bool, is_some, nat_lt, ◌==◌, ◌&&◌, if◌then◌else◌, Result, Ok}
-use Rattle.std.proofs.lemmas.Bool.{eqb-true, ltb-false}
-use Rattle.std.proofs.lemmas.List.{get_or-set_other}
-use Rattle.fis_view.specs.Seen.{seen as view_seen}
-use Rattle.fis_view.specs.declared.view.Fis.{Fis}
+use Rattle.fis_view.specs.{Seen.seen as view_seen, declared.view.{Fis.Fis, FisFault.FisFault}}
 use Rattle.fis_view.specs.declared.view.Fis.TheVariants as view
-use Rattle.fis_view.specs.declared.view.FisFault.{FisFault}
-use Rattle.block_command.specs.declared.command.Command.{Command}
-use Rattle.block_command.specs.Moments.{opening}
-use Rattle.block_disk.specs.Requests.{with_table}
-use Rattle.block_disk.specs.Table.{is_under_way, with_command}
+use Rattle.block_command.specs.{declared.command.Command.Command, Moments.opening}
+use Rattle.block_disk.specs.{Requests.with_table, Table.{is_under_way, with_command}}
 use Rattle.block_queue.specs.Line.{Line, command_at, line_gone, line_reset}
 use Rattle.block_scheduler.specs.Schedule.{Schedule, ends_all, with_line}
-use Rattle.block_engine.specs.declared.request.Range.{Range}
-use Rattle.block_engine.specs.Engine.{line}
-use Rattle.ata_command.specs.Courses.{course, is_error_log, resets, stands_beside, tag_course}
-use Rattle.ata_command.specs.declared.asked.Asked.{Asked}
+use Rattle.block_engine.specs.{declared.request.Range.Range, Engine.line}
+use Rattle.ata_command.specs.{Courses.{course, is_error_log, resets, stands_beside, tag_course}, declared.asked.{Asked.Asked, Move.Move}}
+use Rattle.ata_command.specs.declared.{asked.{PowerTask.PowerTask, Refusal.Refusal}, control.Course.TheVariants.{AbortAll, Refuse, Take}}
+use Rattle.ata_command.specs.declared.{control.Standing.Standing, settings.Setting.Setting}
 use Rattle.ata_command.specs.declared.asked.Asked.TheVariants as ask
-use Rattle.ata_command.specs.declared.asked.Move.{Move}
-use Rattle.ata_command.specs.declared.asked.PowerTask.{PowerTask}
 use Rattle.ata_command.specs.declared.asked.PowerTask.TheVariants as power
-use Rattle.ata_command.specs.declared.asked.Refusal.{Refusal}
-use Rattle.ata_command.specs.declared.control.Course.TheVariants.{AbortAll, Refuse, Take}
-use Rattle.ata_command.specs.declared.control.Standing.{Standing}
 use Rattle.ata_command.specs.declared.control.Standing.TheVariants as stand
-use Rattle.ata_command.specs.declared.settings.Setting.{Setting}
 use Rattle.ata_command.specs.declared.settings.Setting.TheVariants as setting
-use Rattle.ata_front.specs.Fronts.{commanded_by, controlled, heard_data, leaves, queued_failed, refused_by, said_by, set_by, standing, taken, taken_flush, taken_power}
-use Rattle.ata_front.specs.declared.front.Front.{Front}
-use Rattle.ata_front.specs.declared.front.Heard.{Heard}
+use Rattle.ata_front.specs.Fronts.{commanded_by, controlled, heard_data, leaves, queued_failed, refused_by, said_by, set_by, standing, taken}
+use Rattle.ata_front.specs.{Fronts.{taken_flush, taken_power}, declared.{front.{Front.Front, Heard.Heard}, task.{Fault.Fault, Task.Task}}}
 use Rattle.ata_front.specs.declared.task.Act.TheVariants as act
-use Rattle.ata_front.specs.declared.task.Fault.{Fault}
 use Rattle.ata_front.specs.declared.task.Purpose.TheVariants as purpose
-use Rattle.ata_front.specs.declared.task.Task.{Task}
 use Rattle.ata_front.specs.declared.task.Task.TheVariants as tasks
 use Rattle.ata_reply.specs.declared.reply.Reply.TheVariants as replies
-use Rattle.disk_pages.specs.Profiles.{facts_of}
-use Rattle.disk_pages.specs.declared.profile.Profile.{Profile}
-use Rattle.sata_disk.specs.State.{DiskState, commands, new_disk, tags_of}
-use Rattle.sata_disk.specs.Hearing.{asked_of, command_told, data_by, discarding, engine_acted, fis_heard, is_command, ranges_of}
-use Rattle.sata_disk.specs.Sending.{after_sent, front_sent, place_sent, single_front, trouble_at}
+use Rattle.disk_pages.specs.{Profiles.facts_of, declared.profile.Profile.Profile}
+use Rattle.sata_disk.specs.{State.{DiskState, commands, new_disk, tags_of}, Hearing.{asked_of, command_told, data_by, discarding, engine_acted}}
+use Rattle.sata_disk.specs.{Hearing.{fis_heard, is_command, ranges_of}, Sending.{after_sent, front_sent, place_sent, single_front, trouble_at}}
 use Rattle.sata_disk.specs.declared.out.Out.{Out}
 use Rattle.sata_disk.specs.declared.out.Out.TheVariants as out
 use Rattle.sata_disk_laws.specs.Calls as call
 use Rattle.sata_disk_laws.specs.Calls.{Call, after_call, after_calls}
-use Rattle.sata_disk_books.proofs.Asked.{ask_none, data_none, out_none, start_none}
-use Rattle.sata_disk_books.proofs.Lone.{NoTags, call_free, error_fault, fis_free, gone_free, no_tags, none, queued_fault, reset_free, sent_free}
+use Rattle.sata_disk_books.proofs.{Asked.{ask_none, data_none, out_none, start_none}, Lone.{NoTags, call_free, error_fault, fis_free, gone_free}}
+use Rattle.sata_disk_books.proofs.Lone.{no_tags, none, queued_fault, reset_free, sent_free}
 
 -- the host waits for something, and nothing is owed to it by a Register FIS alone
 abbrev pub is_at_work : Task → Bool

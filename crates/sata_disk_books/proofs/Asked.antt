@@ -1,57 +1,39 @@
 -- Each command in the books was asked for by a FIS that was heard.
 use Rattle.std.proofs.Common.{◌≡◌, ℕ, zero, suc, true, false, List, [], ◌∷◌, ◌++◌, get_or, set, Some, None, refl, sym, ap, ◌∙◌, subst, append_assoc}
-use Rattle.std.specs.Prelude.{Option, Bool, ◌&&◌, if◌then◌else◌, replicate, Result, Ok, drop}
-use Rattle.std.specs.Option.{option_map}
-use Rattle.fis_view.specs.Seen.{seen as view_seen}
-use Rattle.fis_view.specs.declared.view.Fis.{Fis}
+use Rattle.std.specs.{Prelude.{Option, Bool, ◌&&◌, if◌then◌else◌, replicate, Result, Ok, drop}, Option.option_map}
+use Rattle.fis_view.specs.{Seen.seen as view_seen, declared.view.{Fis.Fis, FisFault.FisFault}}
 use Rattle.fis_view.specs.declared.view.Fis.TheVariants as view
-use Rattle.fis_view.specs.declared.view.FisFault.{FisFault}
-use Rattle.block_command.specs.declared.command.Command.{Command}
-use Rattle.block_command.specs.Moments.{Moment}
-use Rattle.block_command.specs.Laws.{Goes, Comes, Happening, Input, blank}
+use Rattle.block_command.specs.{declared.command.Command.Command, Moments.Moment, Laws.{Goes, Comes, Happening, Input, blank}}
 use Rattle.block_disk.specs.Table as table
-use Rattle.block_disk.specs.Table.{is_under_way}
-use Rattle.block_disk.specs.Laws.{At, Page, Refused, Reset, Shown, Took, at_page, entered_in, page_entered, shown_at}
+use Rattle.block_disk.specs.{Table.is_under_way, Laws.{At, Page, Refused, Reset, Shown, Took, at_page, entered_in, page_entered, shown_at}}
 use Rattle.block_disk.specs.Requests.{Asked, Answered, Books, Drawn, OnLink, Seen, entered_by, is_out, no_books, seen}
 use Rattle.block_disk.proofs.Door.{each_is}
 use Rattle.block_queue.specs.Deeds as deed
-use Rattle.block_queue.specs.Deeds.{Deed, act_of, after_deed, seen_of}
-use Rattle.block_queue.specs.Line.{Line, may_send}
-use Rattle.block_scheduler.specs.Sets.{ends_at}
-use Rattle.block_scheduler.specs.Schedule.{Schedule, ends_all, ends_sent}
+use Rattle.block_queue.specs.{Deeds.{Deed, act_of, after_deed, seen_of}, Line.{Line, may_send}}
+use Rattle.block_scheduler.specs.{Sets.ends_at, Schedule.{Schedule, ends_all, ends_sent}, Laws.{Move, after_move, all_deeds, deeds_of, end_deeds}}
+use Rattle.block_scheduler.specs.Laws.{ends_deeds}
 use Rattle.block_scheduler.specs.Laws as move
-use Rattle.block_scheduler.specs.Laws.{Move, after_move, all_deeds, deeds_of, end_deeds, ends_deeds}
-use Rattle.block_engine.specs.declared.request.Answer.{Answer}
+use Rattle.block_engine.specs.{declared.request.{Answer.Answer, Range.Range}, Engine.{EngineState, none_engaged, place_of}, Laws.{Step, after_step}}
+use Rattle.block_engine.specs.Laws.{all_moves, answer_moves, moves_of}
 use Rattle.block_engine.specs.declared.request.Answer.TheVariants as answers
-use Rattle.block_engine.specs.declared.request.Range.{Range}
-use Rattle.block_engine.specs.Engine.{EngineState, none_engaged, place_of}
 use Rattle.block_engine.specs.Laws as engine
-use Rattle.block_engine.specs.Laws.{Step, after_step, all_moves, answer_moves, moves_of}
-use Rattle.ata_command.specs.declared.asked.Asked.{Asked as Ask}
+use Rattle.ata_command.specs.declared.{asked.{Asked.Asked as Ask, PowerTask.PowerTask, Refusal.Refusal}, control.Course.{Course, TheVariants.Take}}
+use Rattle.ata_command.specs.{declared.settings.Setting.Setting, Courses.{course, resets}}
 use Rattle.ata_command.specs.declared.asked.Asked.TheVariants as ask
 use Rattle.ata_command.specs.declared.asked.Move as wanted
-use Rattle.ata_command.specs.declared.asked.PowerTask.{PowerTask}
 use Rattle.ata_command.specs.declared.asked.PowerTask.TheVariants as power
-use Rattle.ata_command.specs.declared.asked.Refusal.{Refusal}
-use Rattle.ata_command.specs.declared.control.Course.{Course}
-use Rattle.ata_command.specs.declared.control.Course.TheVariants.{Take}
-use Rattle.ata_command.specs.declared.settings.Setting.{Setting}
 use Rattle.ata_command.specs.declared.settings.Setting.TheVariants as setting
-use Rattle.ata_command.specs.Courses.{course, resets}
 use Rattle.ata_front.specs.Fronts.{commanded_by, controlled, heard_data, refused_by, set_by, standing, taken, taken_flush, taken_power}
-use Rattle.ata_front.specs.declared.front.Heard.{Heard}
-use Rattle.ata_front.specs.declared.task.Act.{Act}
+use Rattle.ata_front.specs.declared.{front.Heard.Heard, task.Act.Act}
 use Rattle.ata_front.specs.declared.task.Act.TheVariants as act
 use Rattle.ata_front.specs.declared.task.Purpose.TheVariants as purpose
-use Rattle.disk_pages.specs.Profiles.{facts_of}
-use Rattle.disk_pages.specs.declared.profile.Profile.{Profile}
-use Rattle.sata_disk.specs.State.{DiskState, commands, new_disk, tags_of}
-use Rattle.sata_disk.specs.Hearing.{asked_of, command_told, is_command, ranges_of, register_told}
+use Rattle.disk_pages.specs.{Profiles.facts_of, declared.profile.Profile.Profile}
+use Rattle.sata_disk.specs.{State.{DiskState, commands, new_disk, tags_of}, Hearing.{asked_of, command_told, is_command, ranges_of, register_told}}
 use Rattle.sata_disk.specs.declared.out.Out.{Out}
 use Rattle.sata_disk.specs.declared.out.Out.TheVariants as out
 use Rattle.sata_disk_laws.specs.Calls as call
-use Rattle.sata_disk_laws.specs.Calls.{Call, act_steps, after_call, after_calls, all_steps, ask_steps, data_steps, fis_steps, out_steps, range_steps, start_steps, steps_of}
-use Rattle.sata_disk_laws.specs.Laws.{reached, seen_in}
+use Rattle.sata_disk_laws.specs.Calls.{Call, act_steps, after_call, after_calls, all_steps, ask_steps, data_steps, fis_steps, out_steps, range_steps}
+use Rattle.sata_disk_laws.specs.{Calls.{start_steps, steps_of}, Laws.{reached, seen_in}}
 use Rattle.sata_disk_laws.proofs.Door.{calls_after}
 use Rattle.sata_disk_books.specs.Books.{CommandsAreAsked, IsAskedFor, books_after, page_in}
 

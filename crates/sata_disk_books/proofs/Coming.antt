@@ -1,21 +1,17 @@
 -- A write that has the link: so many bytes came for it since its DMA Setup FIS as its moment says.
-use Rattle.std.proofs.Common.{◌≡◌, ℕ, ◌+◌, ◌*◌, ◌<◌, true, false, List, [], ◌++◌, length, get_or, set, Some, None, refl, sym, ap, ◌∙◌, subst, arith, inl, inr}
+use Rattle.std.proofs.Common.{◌≡◌, ℕ, ◌+◌, ◌*◌, ◌<◌, true, false, List, [], ◌++◌, length, get_or, set, Some, None, refl, sym, ap, ◌∙◌, subst, arith}
+use Rattle.std.proofs.{Common.{inl, inr}, lemmas.{Bool.cases_eq, List.{get_or-set_same, get_or-set_other, length-append}}}
 use Rattle.std.specs.Prelude.{Option, Bool, ◌==◌, if◌then◌else◌}
-use Rattle.std.proofs.lemmas.Bool.{cases_eq}
-use Rattle.std.proofs.lemmas.List.{get_or-set_same, get_or-set_other, length-append}
-use Rattle.block_command.specs.declared.command.Command.{Command}
-use Rattle.block_command.specs.declared.command.Protocol.{Protocol}
-use Rattle.block_command.specs.declared.command.Protocol.TheVariants.{Pio}
-use Rattle.block_command.specs.declared.command.Stage.{Stage}
-use Rattle.block_command.specs.declared.command.Stage.TheVariants.{Waiting, Load, Loading, SetUpRead, Announce, Sending, SetUpWrite, Activate, Receiving, Store, Storing, Flush, Flushing, End, Fail}
-use Rattle.block_command.specs.Moments.{Moment, data_stage, first_data_stage, is_queued, is_set_up, is_verify, part_count, part_len, read_end, read_on}
-use Rattle.block_command.specs.Laws.{Comes, Fails, Flushes, Goes, Input, Ledger, Loads, Stores, after}
+use Rattle.block_command.specs.declared.command.{Command.Command, Protocol.{Protocol, TheVariants.Pio}, Stage.{Stage, TheVariants.{Waiting, Load}}}
+use Rattle.block_command.specs.declared.command.Stage.TheVariants.{Loading, SetUpRead, Announce, Sending, SetUpWrite, Activate, Receiving, Store}
+use Rattle.block_command.specs.{declared.command.Stage.TheVariants.{Storing, Flush, Flushing, End, Fail}, Moments.{Moment, data_stage}}
+use Rattle.block_command.specs.{Moments.{first_data_stage, is_queued, is_set_up, is_verify, part_count, part_len, read_end, read_on}, Laws.Comes}
+use Rattle.block_command.specs.Laws.{Fails, Flushes, Goes, Input, Ledger, Loads, Stores, after}
 use Rattle.block_command.proofs.Door.{Agrees, at}
 use Rattle.block_disk.specs.Table.{Table, has_wire, with_command}
 use Rattle.block_queue.proofs.Door.{of_and}
 use Rattle.sata_disk_books.specs.Counted.{Counted}
-use Rattle.sata_disk_books.proofs.Holds.{had, is_loud, set_up}
-use Rattle.sata_disk_books.proofs.Sound.{and_true, queued_of, same_protocol}
+use Rattle.sata_disk_books.proofs.{Holds.{had, is_loud, set_up}, Sound.{and_true, queued_of, same_protocol}}
 
 abbrev pub is_writing : Stage → Bool
 is_writing Activate = true

@@ -1,50 +1,34 @@
 -- In every run the bytes of a queued command that were sent since its DMA Setup FIS are those that the books have as sent.
 use Rattle.std.proofs.Common.{◌≡◌, ℕ, ◌<◌, ◌⊎◌, true, false, List, [], ◌∷◌, length, Some, None, refl, sym, ap, ◌∙◌, subst, inl, inr}
+use Rattle.std.proofs.lemmas.{Bool.{ltb-true}, Option.same_Some}
 use Rattle.std.specs.Prelude.{Option, Bool, nat_lt, if◌then◌else◌}
-use Rattle.std.proofs.lemmas.Bool.{ltb-true}
-use Rattle.std.proofs.lemmas.Option.{same_Some}
-use Rattle.block_command.specs.declared.command.Command.{Command}
-use Rattle.block_command.specs.declared.command.Protocol.{Protocol}
+use Rattle.block_command.specs.declared.command.{Command.Command, Protocol.Protocol, Stage.{Stage, TheVariants.{Activate, Announce, End, Ended}}}
+use Rattle.block_command.specs.{declared.command.Stage.TheVariants.{Fail, Sending, SetUpRead, SetUpWrite}, Moments.{Moment, is_queued, is_set_up}}
+use Rattle.block_command.specs.{Moments.{part_of, turn_of}, Laws.Goes}
 use Rattle.block_command.specs.declared.command.Protocol.TheVariants as protocol
-use Rattle.block_command.specs.declared.command.Stage.{Stage}
-use Rattle.block_command.specs.declared.command.Stage.TheVariants.{Activate, Announce, End, Ended, Fail, Sending, SetUpRead, SetUpWrite}
-use Rattle.block_command.specs.Moments.{Moment, is_queued, is_set_up, part_of, turn_of}
-use Rattle.block_command.specs.Laws.{Goes}
 use Rattle.block_command.proofs.Door.{at as moment}
-use Rattle.block_disk.specs.Laws.{at_page}
-use Rattle.block_disk.specs.Table.{has_wire, is_under_way, wants_wire}
-use Rattle.block_disk.specs.Requests.{Books, entered_by, no_books, seen}
+use Rattle.block_disk.specs.{Laws.at_page, Table.{has_wire, is_under_way, wants_wire}, Requests.{Books, entered_by, no_books, seen}}
 use Rattle.block_disk.proofs.Door.{kept_none}
 use Rattle.block_queue.specs.Deeds as deed
-use Rattle.block_queue.specs.Deeds.{seen_of}
-use Rattle.block_queue.specs.Line.{Line, command_at}
+use Rattle.block_queue.specs.{Deeds.seen_of, Line.{Line, command_at}}
 use Rattle.block_queue.proofs.Door.{of_and}
-use Rattle.block_scheduler.specs.Schedule.{IsNextFis}
+use Rattle.block_scheduler.specs.{Schedule.IsNextFis, Laws.all_deeds}
 use Rattle.block_scheduler.specs.declared.scheduler.NextFis.TheVariants as next_fis
-use Rattle.block_scheduler.specs.Laws.{all_deeds}
 use Rattle.block_engine.specs.Laws.{all_moves}
-use Rattle.ata_front.specs.CommandFis.{asks_by, set_up}
-use Rattle.ata_front.specs.Fronts.{owed}
+use Rattle.ata_front.specs.{CommandFis.{asks_by, set_up}, Fronts.owed, declared.task.Task.Task}
 use Rattle.ata_front.specs.declared.task.Owed.TheVariants as owe
 use Rattle.ata_front.specs.declared.task.Page as own
-use Rattle.ata_front.specs.declared.task.Task.{Task}
 use Rattle.ata_front.specs.declared.task.Task.TheVariants as tasks
 use Rattle.ata_reply.specs.declared.reply.Reply.{Reply}
 use Rattle.disk_pages.specs.declared.profile.Profile.{Profile}
-use Rattle.sata_disk.specs.State.{DiskState, commands, new_disk}
-use Rattle.sata_disk.specs.Sending.{IsOut, out_at}
-use Rattle.sata_disk.specs.declared.out.Out.{Out}
+use Rattle.sata_disk.specs.{State.{DiskState, commands, new_disk}, Sending.{IsOut, out_at}, declared.out.Out.Out}
 use Rattle.sata_disk.specs.declared.out.Out.TheVariants as out
 use Rattle.sata_disk_laws.specs.Calls as call
-use Rattle.sata_disk_laws.specs.Calls.{AreCalls, Call, IsCall, after_call, after_calls, all_steps}
-use Rattle.sata_disk_laws.specs.Laws.{reached, seen_in}
-use Rattle.sata_disk_books.specs.Books.{books_after}
-use Rattle.sata_disk_books.specs.Counted.{AreCounted, Counted, DataAreCounted, counted_after, counted_call, more_by, set_up_by}
-use Rattle.sata_disk_books.proofs.Does.{call_stands, deeds_by, sent_stands, shown_by}
-use Rattle.sata_disk_books.proofs.Holds.{is_loud_stage}
-use Rattle.sata_disk_books.proofs.Lone.{IsLone, NoTags, call_lone, is_paging}
-use Rattle.sata_disk_books.proofs.Sound.{IsOwn, NoHolder, Stands, data_holds, data_stands, forget, high_free, loud_at, none_sound, other_stands, paged, sent_known, set_up_stands}
-use Rattle.sata_disk_books.proofs.Walks.{books_both, shown_from}
+use Rattle.sata_disk_laws.specs.{Calls.{AreCalls, Call, IsCall, after_call, after_calls, all_steps}, Laws.{reached, seen_in}}
+use Rattle.sata_disk_books.specs.{Books.books_after, Counted.{AreCounted, Counted, DataAreCounted, counted_after, counted_call, more_by, set_up_by}}
+use Rattle.sata_disk_books.proofs.{Does.{call_stands, deeds_by, sent_stands, shown_by}, Holds.is_loud_stage, Lone.{IsLone, NoTags, call_lone}}
+use Rattle.sata_disk_books.proofs.{Lone.is_paging, Sound.{IsOwn, NoHolder, Stands, data_holds, data_stands, forget, high_free, loud_at, none_sound}}
+use Rattle.sata_disk_books.proofs.{Sound.{other_stands, paged, sent_known, set_up_stands}, Walks.{books_both, shown_from}}
 
 -- ## Which FIS a command sends
 

@@ -1,49 +1,35 @@
 -- What a call does to the commands of a disk, one deed after another, keeps who has the link, where none of them is a DMA Setup FIS or Data.
-use Rattle.std.proofs.Common.{◌≡◌, ℕ, zero, suc, ◌<◌, ◌≤◌, true, false, List, [], ◌∷◌, ◌++◌, drop, Some, None, refl, sym, ap, ◌∙◌, subst, arith, append-nil}
+use Rattle.std.proofs.Common.{◌≡◌, ℕ, zero, suc, ◌<◌, ◌≤◌, true, false, List, [], ◌∷◌, ◌++◌, drop, Some, None, refl, sym, ap, ◌∙◌, subst, arith}
+use Rattle.std.proofs.Common.{append-nil}
 use Rattle.std.specs.Prelude.{Option, Bool, Result, Ok, ◌&&◌, if◌then◌else◌}
-use Rattle.fis_view.specs.Seen.{seen as view_seen}
-use Rattle.fis_view.specs.declared.view.Fis.{Fis}
+use Rattle.fis_view.specs.{Seen.seen as view_seen, declared.view.{Fis.Fis, FisFault.FisFault}}
 use Rattle.fis_view.specs.declared.view.Fis.TheVariants as view
-use Rattle.fis_view.specs.declared.view.FisFault.{FisFault}
-use Rattle.block_command.specs.declared.command.Stage.{Stage}
-use Rattle.block_command.specs.declared.command.Stage.TheVariants.{Sending, SetUpRead, SetUpWrite}
-use Rattle.block_command.specs.Moments.{Moment, turn_of}
-use Rattle.block_command.specs.Laws.{Goes}
+use Rattle.block_command.specs.{declared.command.Stage.{Stage, TheVariants.{Sending, SetUpRead, SetUpWrite}}, Moments.{Moment, turn_of}, Laws.Goes}
 use Rattle.block_disk.specs.Requests.{Books, asks_at, entered_by, is_request, seen}
 use Rattle.block_queue.specs.Deeds as deed
-use Rattle.block_queue.specs.Deeds.{Deed, IsDeed, act_of, after_deed, seen_of}
-use Rattle.block_queue.specs.Line.{Line, command_at, may_send, may_start_at, starts}
+use Rattle.block_queue.specs.{Deeds.{Deed, IsDeed, act_of, after_deed, seen_of}, Line.{Line, command_at, may_send, may_start_at, starts}}
 use Rattle.block_queue.proofs.Door.{of_and}
-use Rattle.block_scheduler.specs.Sets.{ends_at, is_end, turn_at}
-use Rattle.block_scheduler.specs.Schedule.{Schedule, ends_all, ends_sent}
+use Rattle.block_scheduler.specs.{Sets.{ends_at, is_end, turn_at}, Schedule.{Schedule, ends_all, ends_sent}, Laws.{AreMoves, IsMove, Move}}
+use Rattle.block_scheduler.specs.Laws.{after_move, after_moves, all_deeds, deeds_of, end_deeds, ends_deeds}
 use Rattle.block_scheduler.specs.Laws as move
-use Rattle.block_scheduler.specs.Laws.{AreMoves, IsMove, Move, after_move, after_moves, all_deeds, deeds_of, end_deeds, ends_deeds}
-use Rattle.block_engine.specs.declared.request.Answer.{Answer}
+use Rattle.block_engine.specs.{declared.request.{Answer.Answer, Range.Range, Request.Request}, Engine.{EngineState, IsAskedOf, IsEngineStart, line}}
+use Rattle.block_engine.specs.{Engine.place_of, Laws.{AreSteps, Step, after_step, all_moves, answer_moves, moves_of}}
 use Rattle.block_engine.specs.declared.request.Answer.TheVariants as answers
-use Rattle.block_engine.specs.declared.request.Range.{Range}
-use Rattle.block_engine.specs.declared.request.Request.{Request}
 use Rattle.block_engine.specs.declared.aside.AsideStage.TheVariants as stages
-use Rattle.block_engine.specs.Engine.{EngineState, IsAskedOf, IsEngineStart, line, place_of}
 use Rattle.block_engine.specs.Laws as engine
-use Rattle.block_engine.specs.Laws.{AreSteps, Step, after_step, all_moves, answer_moves, moves_of}
 use Rattle.block_engine.proofs.Runs as engine_runs
 use Rattle.block_engine.proofs.Runs.{found_low, step_are}
-use Rattle.ata_front.specs.Fronts.{heard_data}
-use Rattle.ata_front.specs.declared.task.Act.{Act}
+use Rattle.ata_front.specs.{Fronts.heard_data, declared.task.{Act.Act, Task.Task}}
 use Rattle.ata_front.specs.declared.task.Act.TheVariants as act
-use Rattle.ata_front.specs.declared.task.Task.{Task}
-use Rattle.sata_disk.specs.State.{DiskState, commands, data_place, has_link, or_single}
-use Rattle.sata_disk.specs.Hearing.{MayAct, MayHear, MayRange, register_told}
-use Rattle.sata_disk.specs.Sending.{IsOut}
-use Rattle.sata_disk.specs.declared.out.Out.{Out}
+use Rattle.sata_disk.specs.{State.{DiskState, commands, data_place, has_link, or_single}, Hearing.{MayAct, MayHear, MayRange, register_told}}
+use Rattle.sata_disk.specs.{Sending.IsOut, declared.out.Out.Out}
 use Rattle.sata_disk.specs.declared.out.Out.TheVariants as out
 use Rattle.sata_disk_laws.specs.Calls as call
-use Rattle.sata_disk_laws.specs.Calls.{Call, IsCall, act_steps, after_call, after_calls, all_steps, ask_steps, asked_by, data_steps, fis_steps, out_steps, range_steps, start_steps, steps_of}
-use Rattle.sata_disk_books.specs.Books.{books_after}
-use Rattle.sata_disk_books.specs.Counted.{Counted}
-use Rattle.sata_disk_books.proofs.Holds.{is_loud_stage}
-use Rattle.sata_disk_books.proofs.Sound.{IsQuiet, Stands, deed_stands, loud_at}
-use Rattle.sata_disk_books.proofs.Walks.{after_deeds, all_deeds_both, ends_after, line_after, line_then, moved, shown_both, shown_from}
+use Rattle.sata_disk_laws.specs.Calls.{Call, IsCall, act_steps, after_call, after_calls, all_steps, ask_steps, asked_by, data_steps, fis_steps}
+use Rattle.sata_disk_laws.specs.Calls.{out_steps, range_steps, start_steps, steps_of}
+use Rattle.sata_disk_books.specs.{Books.books_after, Counted.Counted}
+use Rattle.sata_disk_books.proofs.{Holds.is_loud_stage, Sound.{IsQuiet, Stands, deed_stands, loud_at}, Walks.{after_deeds, all_deeds_both}}
+use Rattle.sata_disk_books.proofs.Walks.{ends_after, line_after, line_then, moved, shown_both, shown_from}
 
 -- ## Deeds
 

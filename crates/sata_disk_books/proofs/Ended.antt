@@ -1,37 +1,26 @@
 -- Each tag in a Set Device Bits FIS has earned its end.
 use Rattle.std.proofs.Common.{◌≡◌, ℕ, zero, suc, ◌<◌, ◌≤◌, true, false, List, [], ◌∷◌, ◌++◌, Some, None, refl, sym, ap, ◌∙◌, subst, arith, inl, inr}
-use Rattle.std.specs.Prelude.{Option, Bool, is_none, ◌&&◌, if◌then◌else◌}
-use Rattle.std.specs.Option.{option_map}
-use Rattle.std.proofs.lemmas.Bool.{cases_eq}
-use Rattle.std.proofs.lemmas.List.{get_or-set_other}
-use Rattle.block_command.specs.declared.command.Command.{Command}
-use Rattle.block_command.specs.declared.command.Stage.{Stage}
-use Rattle.block_command.specs.declared.command.Stage.TheVariants.{End}
-use Rattle.block_command.specs.Moments.{Moment, is_queued, turn_of}
-use Rattle.block_command.specs.Laws.{Goes, SentEnd, after}
+use Rattle.std.proofs.lemmas.{Bool.cases_eq, List.{get_or-set_other}}
+use Rattle.std.specs.{Prelude.{Option, Bool, is_none, ◌&&◌, if◌then◌else◌}, Option.option_map}
+use Rattle.block_command.specs.{declared.command.{Command.Command, Stage.{Stage, TheVariants.End}}, Moments.{Moment, is_queued, turn_of}, Laws.Goes}
+use Rattle.block_command.specs.Laws.{SentEnd, after}
 use Rattle.block_command.proofs.Door.{at}
-use Rattle.block_disk.specs.Table.{Table, may_go_at, wire_with}
-use Rattle.block_disk.specs.Laws.{At, IsAllowedBy, Page, PageAllows, Shown, at_page, shown_at}
+use Rattle.block_disk.specs.{Table.{Table, may_go_at, wire_with}, Laws.{At, IsAllowedBy, Page, PageAllows, Shown, at_page, shown_at}}
 use Rattle.block_disk.specs.Requests.{AreSeenRightly, Books, OnLink, Seen, entered_by, no_books, sends_at}
 use Rattle.block_queue.specs.Deeds as deed
-use Rattle.block_queue.specs.Deeds.{Deed, seen_of}
-use Rattle.block_queue.specs.Line.{Line, command_at, line_gone, may_send}
-use Rattle.block_scheduler.specs.Sets.{IsTagsOf, ends_at, is_end, turn_at}
-use Rattle.block_scheduler.specs.Schedule.{IsNextFis, ends_all, ends_sent}
+use Rattle.block_queue.specs.{Deeds.{Deed, seen_of}, Line.{Line, command_at, line_gone, may_send}}
+use Rattle.block_scheduler.specs.{Sets.{IsTagsOf, ends_at, is_end, turn_at}, Schedule.{IsNextFis, ends_all, ends_sent}, Laws.{all_deeds, end_deeds}}
+use Rattle.block_scheduler.specs.Laws.{ends_deeds}
 use Rattle.block_scheduler.specs.declared.scheduler.NextFis.TheVariants as next_fis
-use Rattle.block_scheduler.specs.Laws.{all_deeds, end_deeds, ends_deeds}
 use Rattle.block_engine.specs.Laws.{all_moves}
 use Rattle.ata_reply.specs.declared.reply.Reply.TheVariants as replies
 use Rattle.sata_disk.specs.State.{DiskState, commands, new_disk}
 use Rattle.sata_disk.specs.declared.out.Out.TheVariants as out
-use Rattle.sata_disk_laws.specs.Calls.{Call, Sends, all_steps}
-use Rattle.sata_disk_laws.specs.Laws.{EndsAreEarned, reached, seen_in}
+use Rattle.sata_disk_laws.specs.{Calls.{Call, Sends, all_steps}, Laws.{EndsAreEarned, reached, seen_in}, Told.FisesAreTold}
 use Rattle.sata_disk_laws.proofs.Door.{calls_both}
-use Rattle.sata_disk_books.specs.Books.{books_after}
-use Rattle.sata_disk_laws.specs.Told.{FisesAreTold}
-use Rattle.sata_disk_books.specs.Ended.{EndsAreOfPages, HasEarned, SinglesAreOfPages}
-use Rattle.sata_disk_books.proofs.Given.{first_seen}
-use Rattle.sata_disk_books.proofs.Walks.{after_deeds, books_both, ends_after, rightly_first, rightly_then, seen_both, shown_both, shown_from}
+use Rattle.sata_disk_books.specs.{Books.books_after, Ended.{EndsAreOfPages, HasEarned, SinglesAreOfPages}}
+use Rattle.sata_disk_books.proofs.{Given.first_seen, Walks.{after_deeds, books_both, ends_after, rightly_first, rightly_then, seen_both, shown_both}}
+use Rattle.sata_disk_books.proofs.Walks.{shown_from}
 
 -- ## The ends go one after another
 

@@ -1,26 +1,17 @@
 -- The Data FIS that goes next is allowed by the books.
 use Rattle.std.proofs.Common.{◌≡◌, ℕ, true, false, List, [], ◌∷◌, ◌++◌, Some, None, refl, subst}
 use Rattle.std.specs.Prelude.{Option, Bool, if◌then◌else◌}
-use Rattle.block_command.specs.declared.command.Command.{Command}
-use Rattle.block_command.specs.declared.command.Stage.{Stage}
-use Rattle.block_command.specs.declared.command.Stage.TheVariants.{Sending}
-use Rattle.block_command.specs.Moments.{Moment}
-use Rattle.block_command.specs.Laws.{Goes, SentData}
+use Rattle.block_command.specs.{declared.command.{Command.Command, Stage.{Stage, TheVariants.Sending}}, Moments.Moment, Laws.{Goes, SentData}}
 use Rattle.block_command.proofs.Door.{at}
-use Rattle.block_disk.specs.Laws.{At, IsAllowedBy, Page, PageAllows, Shown, at_page, shown_at}
-use Rattle.block_disk.specs.Requests.{AreSeenRightly, Books, Seen, no_books}
+use Rattle.block_disk.specs.{Laws.{At, IsAllowedBy, Page, PageAllows, Shown, at_page, shown_at}, Requests.{AreSeenRightly, Books, Seen, no_books}}
 use Rattle.block_queue.specs.Deeds as deed
-use Rattle.block_queue.specs.Deeds.{Deed, seen_of}
-use Rattle.block_queue.specs.Line.{Line, command_at}
-use Rattle.block_scheduler.specs.Schedule.{ends_all}
-use Rattle.block_scheduler.specs.Laws.{all_deeds}
+use Rattle.block_queue.specs.{Deeds.{Deed, seen_of}, Line.{Line, command_at}}
+use Rattle.block_scheduler.specs.{Schedule.ends_all, Laws.all_deeds}
 use Rattle.block_engine.specs.Laws.{all_moves}
 use Rattle.disk_pages.specs.declared.profile.Profile.{Profile}
-use Rattle.sata_disk.specs.Sending.{IsOut, out_at, part_at}
-use Rattle.sata_disk.specs.State.{DiskState, commands, new_disk}
+use Rattle.sata_disk.specs.{Sending.{IsOut, out_at, part_at}, State.{DiskState, commands, new_disk}}
 use Rattle.sata_disk.specs.declared.out.Out.TheVariants as out
-use Rattle.sata_disk_laws.specs.Calls.{AreCalls, Call, Sends, all_steps}
-use Rattle.sata_disk_laws.specs.Laws.{EndsAreEarned, reached, seen_in}
+use Rattle.sata_disk_laws.specs.{Calls.{AreCalls, Call, Sends, all_steps}, Laws.{EndsAreEarned, reached, seen_in}}
 use Rattle.sata_disk_laws.proofs.Door.{calls_both}
 use Rattle.sata_disk_books.specs.Books.{AreOfPage, DataAreGiven, books_after}
 use Rattle.sata_disk_books.proofs.Walks.{rightly_then, shown_both, shown_from}

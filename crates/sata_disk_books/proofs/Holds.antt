@@ -1,15 +1,12 @@
 -- A command that has the link: only its DMA Setup FIS brings the link to it, and so many of its bytes went as its moment says.
 use Rattle.std.proofs.Common.{◌≡◌, ℕ, ◌+◌, ◌-◌, ◌*◌, ◌≤◌, true, false, List, [], length, drop, refl, sym, ap, ◌∙◌, arith, inl, inr}
+use Rattle.std.proofs.lemmas.{Bool.{cases_lt, lt-ltb, ltb-false, eqb-true, eqb-false}, List.{length-drop, length-take-le}}
 use Rattle.std.specs.Prelude.{Bool, nat_lt, ◌&&◌, ◌==◌, if◌then◌else◌}
-use Rattle.std.proofs.lemmas.Bool.{cases_lt, lt-ltb, ltb-false, eqb-true, eqb-false}
-use Rattle.std.proofs.lemmas.List.{length-drop, length-take-le}
-use Rattle.block_command.specs.declared.command.Command.{Command}
-use Rattle.block_command.specs.declared.command.Protocol.{Protocol}
-use Rattle.block_command.specs.declared.command.Protocol.TheVariants.{Queued, Dma, Pio, Verify}
-use Rattle.block_command.specs.declared.command.Stage.{Stage}
-use Rattle.block_command.specs.declared.command.Stage.TheVariants.{Waiting, Load, Loading, SetUpRead, Announce, Sending, SetUpWrite, Activate, Receiving, Store, Storing, Flush, Flushing, End, Fail}
-use Rattle.block_command.specs.Moments.{Moment, chunk, is_set_up, is_queued, is_verify, part_count, part_len, part_of, first_data_stage, data_stage, read_end, read_on}
-use Rattle.block_command.specs.Laws.{Input, Goes, Loads, Comes, Stores, Flushes, Fails, after}
+use Rattle.block_command.specs.declared.command.{Command.Command, Protocol.{Protocol, TheVariants.{Queued, Dma, Pio, Verify}}, Stage.Stage}
+use Rattle.block_command.specs.declared.command.Stage.TheVariants.{Waiting, Load, Loading, SetUpRead, Announce, Sending, SetUpWrite, Activate}
+use Rattle.block_command.specs.{declared.command.Stage.TheVariants.{Receiving, Store, Storing, Flush, Flushing, End, Fail}, Moments.{Moment, chunk}}
+use Rattle.block_command.specs.Moments.{is_set_up, is_queued, is_verify, part_count, part_len, part_of, first_data_stage, data_stage, read_end}
+use Rattle.block_command.specs.{Moments.read_on, Laws.{Input, Goes, Loads, Comes, Stores, Flushes, Fails, after}}
 use Rattle.block_command.proofs.Door.{at}
 
 -- ## Who has the link

@@ -1,44 +1,33 @@
 -- Behind the PIO Setup FIS of a last block no Data of a queued command go until another command is heard.
 use Rattle.std.proofs.Common.{◌≡◌, ◌⊎◌, ℕ, true, false, List, [], ◌∷◌, ◌++◌, drop, Some, None, refl, sym, ap, ◌∙◌, subst, inl, inr}
-use Rattle.std.specs.Prelude.{Option, Bool, nat_lt, if◌then◌else◌, Result, Ok}
 use Rattle.std.proofs.lemmas.Bool.{false≢true, ltb-true}
-use Rattle.fis_view.specs.Bits.{bits}
-use Rattle.fis_view.specs.Seen.{seen as view_seen}
-use Rattle.fis_view.specs.Table.{field, places, spelled}
-use Rattle.fis_view.specs.declared.view.Fis.{Fis}
+use Rattle.std.specs.Prelude.{Option, Bool, nat_lt, if◌then◌else◌, Result, Ok}
+use Rattle.fis_view.specs.{Bits.bits, Seen.seen as view_seen, Table.{field, places, spelled}, declared.view.{Fis.Fis, FisFault.FisFault}}
 use Rattle.fis_view.specs.declared.view.Fis.TheVariants as view
-use Rattle.fis_view.specs.declared.view.FisFault.{FisFault}
 use Rattle.block_command.specs.Moments.{Moment}
 use Rattle.block_disk.specs.Table.{is_under_way}
 use Rattle.block_command.proofs.Door.{at as moment}
 use Rattle.block_queue.specs.Line.{command_at}
 use Rattle.ata_command.specs.Courses.{resets}
 use Rattle.ata_command.specs.declared.control.Standing.TheVariants as stand
-use Rattle.ata_front.specs.Fronts.{controlled, heard_data, over, owed, said_by, standing_by}
-use Rattle.ata_front.specs.declared.task.Fault.{Fault}
-use Rattle.ata_front.specs.declared.task.Owed.TheVariants as owe
-use Rattle.ata_front.specs.declared.task.Task.{Task}
-use Rattle.ata_front.specs.declared.task.Task.TheVariants as tasks
+use Rattle.ata_front.specs.{Fronts.{controlled, heard_data, over, owed, said_by, standing_by}, declared.task.{Fault.Fault, Task.Task}}
 use Rattle.ata_front.specs.declared.task.Trouble.{Trouble}
+use Rattle.ata_front.specs.declared.task.Owed.TheVariants as owe
+use Rattle.ata_front.specs.declared.task.Task.TheVariants as tasks
 use Rattle.ata_reply.specs.declared.reply.Reply.{Reply}
 use Rattle.ata_reply.specs.declared.reply.Reply.TheVariants as replies
 use Rattle.disk_pages.specs.declared.profile.Profile.{Profile}
-use Rattle.sata_disk.specs.State.{DiskState, commands, is_taken, new_disk, tags_of}
-use Rattle.sata_disk.specs.Hearing.{command_told, command_unheard, is_command}
-use Rattle.sata_disk.specs.Sending.{IsOut, out_at}
-use Rattle.sata_disk.specs.declared.out.Out.{Out}
+use Rattle.sata_disk.specs.{State.{DiskState, commands, is_taken, new_disk, tags_of}, Hearing.{command_told, command_unheard, is_command}}
+use Rattle.sata_disk.specs.{Sending.{IsOut, out_at}, declared.{out.Out.Out, unheard.Unheard.TheVariants.{Busy, InReset}}}
 use Rattle.sata_disk.specs.declared.out.Out.TheVariants as out
-use Rattle.sata_disk.specs.declared.unheard.Unheard.TheVariants.{Busy, InReset}
 use Rattle.sata_disk_laws.specs.Calls as call
-use Rattle.sata_disk_laws.specs.Calls.{AreCalls, Call, act_steps, after_call, after_calls, fis_steps, steps_of}
-use Rattle.sata_disk_laws.specs.Laws.{reached}
-use Rattle.sata_disk_laws.specs.Once.{AnswersAreSingle, AreDue, ForEnd, ForLast, Host, IsCallDue, IsDataAt, IsHostOf, IsOutDue, OpenIsUnderWay, Wait, announced, host_after, host_of, new_host, reply_got, unheard_of, waits_for_nothing}
+use Rattle.sata_disk_laws.specs.{Calls.{AreCalls, Call, act_steps, after_call, after_calls, fis_steps, steps_of}, Laws.reached, Once.AnswersAreSingle}
+use Rattle.sata_disk_laws.specs.Once.{AreDue, ForEnd, ForLast, Host, IsCallDue, IsDataAt, IsHostOf, IsOutDue, OpenIsUnderWay, Wait, announced}
+use Rattle.sata_disk_laws.specs.Once.{host_after, host_of, new_host, reply_got, unheard_of, waits_for_nothing}
 use Rattle.sata_disk_laws.proofs.Door.{calls_after, calls_both}
 use Rattle.sata_disk_books.specs.LastData.{HearNoCommand, HearsNoCommand, IsNoCommand, LastBlocksAreAlone, is_last_block, sets_up_last}
-use Rattle.sata_disk_books.proofs.Alone.{calls_alone, is_at_work, new_alone}
-use Rattle.sata_disk_books.proofs.Asked.{Each, OfStep, ask_none, data_none, out_none, start_none}
-use Rattle.sata_disk_books.proofs.Counted.{data_stage}
-use Rattle.sata_disk_books.proofs.Lone.{NoTags, call_free, none}
+use Rattle.sata_disk_books.proofs.{Alone.{calls_alone, is_at_work, new_alone}, Asked.{Each, OfStep, ask_none, data_none, out_none, start_none}}
+use Rattle.sata_disk_books.proofs.{Counted.data_stage, Lone.{NoTags, call_free, none}}
 
 -- ## Lists of calls
 

@@ -1,40 +1,27 @@
 -- The last Data FIS of a PIO data-in ends its command, and the books have all of its bytes as given and sent.
-use Rattle.std.proofs.Common.{◌≡◌, ℕ, ◌+◌, ◌-◌, ◌*◌, ◌<◌, ◌≤◌, true, false, List, [], ◌∷◌, ◌++◌, append_assoc, length, take, drop, Some, None, refl, sym, ap, ◌∙◌, subst, arith, inl, inr}
-use Rattle.std.specs.Prelude.{Option, Bool, nat_lt, not, if◌then◌else◌}
-use Rattle.std.specs.Option.{option_map}
-use Rattle.std.proofs.lemmas.Bool.{false≢true, ltb-false}
-use Rattle.std.proofs.Math.Seq.{take-add}
+use Rattle.std.proofs.Common.{◌≡◌, ℕ, ◌+◌, ◌-◌, ◌*◌, ◌<◌, ◌≤◌, true, false, List, [], ◌∷◌, ◌++◌, append_assoc, length, take, drop, Some, None, refl}
+use Rattle.std.proofs.{Common.{sym, ap, ◌∙◌, subst, arith, inl, inr}, lemmas.Bool.{false≢true, ltb-false}, Math.Seq.{take-add}}
 use Rattle.std.proofs.lemmas.List.{get_or-set_same, length-append, take_all}
-use Rattle.block_command.specs.declared.command.Command.{Command}
-use Rattle.block_command.specs.declared.command.Protocol.{Protocol}
+use Rattle.std.specs.{Prelude.{Option, Bool, nat_lt, not, if◌then◌else◌}, Option.option_map}
+use Rattle.block_command.specs.{declared.command.{Command.Command, Protocol.Protocol, Stage.TheVariants.{Load, Sending}}, Moments.{Moment, chunk}}
+use Rattle.block_command.specs.{Moments.{data_stage as data_stage_of, is_ended, part_count, part_of, read_end, whole}, Laws.{Goes, Ledger}}
+use Rattle.block_command.specs.Laws.{ReadIsEarned, SentData, after}
 use Rattle.block_command.specs.declared.command.Protocol.TheVariants as protocol
-use Rattle.block_command.specs.declared.command.Stage.TheVariants.{Load, Sending}
-use Rattle.block_command.specs.Moments.{Moment, chunk, data_stage as data_stage_of, is_ended, part_count, part_of, read_end, whole}
-use Rattle.block_command.specs.Laws.{Goes, Ledger, ReadIsEarned, SentData, after}
 use Rattle.block_command.proofs.Door.{Agrees, at as moment}
-use Rattle.block_disk.specs.Laws.{At, Page, Shown, at_page, entered_in, page_entered, shown_at}
-use Rattle.block_disk.specs.Table.{is_under_way}
-use Rattle.block_disk.specs.Requests.{Books, OnLink, Seen, no_books}
-use Rattle.block_queue.specs.Line.{command_at}
-use Rattle.block_queue.specs.Deeds.{seen_of}
+use Rattle.block_disk.specs.{Laws.{At, Page, Shown, at_page, entered_in, page_entered, shown_at}, Table.is_under_way, Requests.{Books, OnLink, Seen}}
+use Rattle.block_disk.specs.Requests.{no_books}
+use Rattle.block_queue.specs.{Line.command_at, Deeds.seen_of}
 use Rattle.block_scheduler.specs.Laws.{all_deeds}
 use Rattle.block_engine.specs.Laws.{all_moves}
 use Rattle.disk_pages.specs.declared.profile.Profile.{Profile}
-use Rattle.sata_disk.specs.State.{DiskState, commands, is_taken, new_disk}
-use Rattle.sata_disk.specs.Sending.{IsOut, out_at}
+use Rattle.sata_disk.specs.{State.{DiskState, commands, is_taken, new_disk}, Sending.{IsOut, out_at}}
 use Rattle.sata_disk.specs.declared.out.Out.TheVariants as out
-use Rattle.sata_disk_laws.specs.Awaited.{SinglesAreAwaited}
+use Rattle.sata_disk_laws.specs.{Awaited.SinglesAreAwaited, Calls.{AreCalls, Call, after_call, all_steps}, Laws.{reached, seen_in}, Once.ForLast}
+use Rattle.sata_disk_laws.specs.Once.{Host, Wait, data_got_by, host_of, is_for_data, new_host}
 use Rattle.sata_disk_laws.specs.Calls as call
-use Rattle.sata_disk_laws.specs.Calls.{AreCalls, Call, after_call, all_steps}
-use Rattle.sata_disk_laws.specs.Laws.{reached, seen_in}
-use Rattle.sata_disk_laws.specs.Once.{ForLast, Host, Wait, data_got_by, host_of, is_for_data, new_host}
 use Rattle.sata_disk_laws.proofs.Door.{calls_both}
-use Rattle.sata_disk_books.specs.Books.{books_after}
-use Rattle.sata_disk_books.specs.Counted.{counted_after}
-use Rattle.sata_disk_books.specs.LastData.{IsReadWhole, LastDataAreEarned}
-use Rattle.sata_disk_books.proofs.Counted.{Good, calls_good, data_stage, new_good}
-use Rattle.sata_disk_books.proofs.LastBlocks.{host_then, one_more}
-use Rattle.sata_disk_books.proofs.Sound.{IsPaged, paged}
+use Rattle.sata_disk_books.specs.{Books.books_after, Counted.counted_after, LastData.{IsReadWhole, LastDataAreEarned}}
+use Rattle.sata_disk_books.proofs.{Counted.{Good, calls_good, data_stage, new_good}, LastBlocks.{host_then, one_more}, Sound.{IsPaged, paged}}
 use Rattle.sata_disk_books.proofs.Walks.{books_both, shown_both, shown_from}
 
 -- ## A Data FIS that ends its command is the last

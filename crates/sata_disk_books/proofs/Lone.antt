@@ -1,59 +1,40 @@
 -- While the disk is to send a page of its own, and while an error stands, no queued command is under way.
-use Rattle.std.proofs.Common.{◌≡◌, ℕ, zero, suc, ◌+◌, ◌/◌, ◌^◌, ◌<◌, true, false, List, [], ◌∷◌, drop, get_or, set, Some, None, refl, sym, ap, ◌∙◌, subst, arith, inl, inr}
-use Rattle.std.specs.Prelude.{Option, Bool, is_some, nat_lt, not, ◌==◌, if◌then◌else◌, Result, Ok}
-use Rattle.std.specs.Option.{option_map}
-use Rattle.std.proofs.lemmas.Bool.{cases_eq, eqb-true}
-use Rattle.std.proofs.lemmas.List.{get_or-set_other}
-use Rattle.fis_view.specs.Seen.{seen as view_seen}
-use Rattle.fis_view.specs.declared.view.Fis.{Fis}
+use Rattle.std.proofs.Common.{◌≡◌, ℕ, zero, suc, ◌+◌, ◌/◌, ◌^◌, ◌<◌, true, false, List, [], ◌∷◌, drop, get_or, set, Some, None, refl, sym, ap, ◌∙◌}
+use Rattle.std.proofs.{Common.{subst, arith, inl, inr}, lemmas.{Bool.{cases_eq, eqb-true}, List.{get_or-set_other}}}
+use Rattle.std.specs.{Prelude.{Option, Bool, is_some, nat_lt, not, ◌==◌, if◌then◌else◌, Result, Ok}, Option.option_map}
+use Rattle.fis_view.specs.{Seen.seen as view_seen, declared.view.{Fis.Fis, FisFault.FisFault}}
 use Rattle.fis_view.specs.declared.view.Fis.TheVariants as view
-use Rattle.fis_view.specs.declared.view.FisFault.{FisFault}
-use Rattle.block_command.specs.declared.command.Command.{Command}
-use Rattle.block_command.specs.declared.command.Stage.{Stage}
-use Rattle.block_command.specs.declared.command.Stage.TheVariants.{Ended}
-use Rattle.block_command.specs.Moments.{Moment, is_ended}
-use Rattle.block_command.specs.Laws.{Comes, Fails, Flushes, Goes, Input, Loads, Stores, after}
+use Rattle.block_command.specs.{declared.command.{Command.Command, Stage.{Stage, TheVariants.Ended}}, Moments.{Moment, is_ended}, Laws.{Comes, Fails}}
+use Rattle.block_command.specs.Laws.{Flushes, Goes, Input, Loads, Stores, after}
 use Rattle.block_command.proofs.Door.{at}
-use Rattle.block_disk.specs.Table.{Table, is_under_way, with_input}
-use Rattle.block_disk.specs.Requests.{Queue}
+use Rattle.block_disk.specs.{Table.{Table, is_under_way, with_input}, Requests.Queue}
 use Rattle.block_disk.proofs.Door.{each_is}
 use Rattle.block_queue.specs.Deeds as deed
-use Rattle.block_queue.specs.Deeds.{Deed, after_deed}
-use Rattle.block_queue.specs.Line.{Line, line_gone, line_reset}
+use Rattle.block_queue.specs.{Deeds.{Deed, after_deed}, Line.{Line, line_gone, line_reset}}
 use Rattle.block_scheduler.specs.Schedule.{Schedule, ends_all, with_line}
-use Rattle.block_engine.specs.declared.request.Range.{Range}
-use Rattle.block_engine.specs.Engine.{line}
-use Rattle.ata_command.specs.Courses.{course, is_error_log, resets, stands_beside, tag_course}
-use Rattle.ata_command.specs.declared.asked.Asked.{Asked}
+use Rattle.block_engine.specs.{declared.request.Range.Range, Engine.line}
+use Rattle.ata_command.specs.{Courses.{course, is_error_log, resets, stands_beside, tag_course}, declared.asked.{Asked.Asked, Move.Move}}
+use Rattle.ata_command.specs.declared.{asked.{PowerTask.PowerTask, Refusal.Refusal}, control.Course.TheVariants.{AbortAll, Refuse, Take}}
+use Rattle.ata_command.specs.declared.{control.Standing.Standing, settings.Setting.Setting}
 use Rattle.ata_command.specs.declared.asked.Asked.TheVariants as ask
-use Rattle.ata_command.specs.declared.asked.Move.{Move}
-use Rattle.ata_command.specs.declared.asked.PowerTask.{PowerTask}
 use Rattle.ata_command.specs.declared.asked.PowerTask.TheVariants as power
-use Rattle.ata_command.specs.declared.asked.Refusal.{Refusal}
-use Rattle.ata_command.specs.declared.control.Course.TheVariants.{AbortAll, Refuse, Take}
-use Rattle.ata_command.specs.declared.control.Standing.{Standing}
 use Rattle.ata_command.specs.declared.control.Standing.TheVariants as stand
-use Rattle.ata_command.specs.declared.settings.Setting.{Setting}
 use Rattle.ata_command.specs.declared.settings.Setting.TheVariants as setting
-use Rattle.ata_front.specs.Fronts.{commanded_by, controlled, given, heard_data, leaves, queued_failed, refused_by, said_by, set_by, standing, standing_by, taken, taken_flush, taken_power, task_less}
-use Rattle.ata_front.specs.declared.front.Front.{Front}
-use Rattle.ata_front.specs.declared.front.Heard.{Heard}
-use Rattle.ata_front.specs.declared.task.Fault.{Fault}
+use Rattle.ata_front.specs.Fronts.{commanded_by, controlled, given, heard_data, leaves, queued_failed, refused_by, said_by, set_by, standing}
+use Rattle.ata_front.specs.{Fronts.{standing_by, taken, taken_flush, taken_power, task_less}, declared.front.{Front.Front, Heard.Heard}}
+use Rattle.ata_front.specs.declared.task.{Fault.Fault, Task.Task}
 use Rattle.ata_front.specs.declared.task.Purpose.TheVariants as purpose
-use Rattle.ata_front.specs.declared.task.Task.{Task}
 use Rattle.ata_front.specs.declared.task.Task.TheVariants as tasks
 use Rattle.ata_reply.specs.declared.reply.Reply.TheVariants as replies
 use Rattle.disk_pages.specs.Profiles.{facts_of}
-use Rattle.sata_disk.specs.State.{DiskState, commands, is_taken, tags_below, tags_of}
-use Rattle.sata_disk.specs.Hearing.{asked_of, command_told, data_by, discarding, engine_acted, fis_heard, is_command, ranges_of}
-use Rattle.sata_disk.specs.Sending.{after_sent, front_sent, place_sent, single_front, trouble_at}
-use Rattle.sata_disk.specs.declared.out.Out.{Out}
+use Rattle.sata_disk.specs.{State.{DiskState, commands, is_taken, tags_below, tags_of}, Hearing.{asked_of, command_told, data_by, discarding}}
+use Rattle.sata_disk.specs.{Hearing.{engine_acted, fis_heard, is_command, ranges_of}, Sending.{after_sent, front_sent, place_sent, single_front}}
+use Rattle.sata_disk.specs.{Sending.trouble_at, declared.out.Out.Out}
 use Rattle.sata_disk.specs.declared.out.Out.TheVariants as out
 use Rattle.sata_disk_laws.specs.Calls as call
 use Rattle.sata_disk_laws.specs.Calls.{Call, after_call, fis_steps, steps_of}
-use Rattle.sata_disk_books.proofs.Asked.{Each, OfDeed, OfStep, ask_none, data_none, moves_deeds, out_none, start_none, steps_moves}
-use Rattle.sata_disk_books.proofs.Does.{deeds_by, line_by}
-use Rattle.sata_disk_books.proofs.Walks.{after_deeds}
+use Rattle.sata_disk_books.proofs.{Asked.{Each, OfDeed, OfStep, ask_none, data_none, moves_deeds, out_none, start_none, steps_moves}, Does.deeds_by}
+use Rattle.sata_disk_books.proofs.{Does.line_by, Walks.after_deeds}
 
 abbrev pub NoTags : Line → Type 0
 NoTags l = (t : ℕ) → t < 32 → is_taken l t ≡ false

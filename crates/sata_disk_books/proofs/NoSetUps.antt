@@ -1,42 +1,27 @@
 -- What a disk owes of itself is no DMA Setup FIS.
 use Rattle.std.proofs.Common.{◌≡◌, ℕ, true, false, List, drop, Some, None, sym, ap, subst}
 use Rattle.std.specs.Prelude.{Option, Bool, nat_lt, if◌then◌else◌, Result, Ok}
-use Rattle.fis_view.specs.Seen.{seen}
-use Rattle.fis_view.specs.declared.view.Fis.{Fis}
+use Rattle.fis_view.specs.{Seen.seen, declared.view.{Fis.Fis, FisFault.FisFault}}
 use Rattle.fis_view.specs.declared.view.Fis.TheVariants as view
-use Rattle.fis_view.specs.declared.view.FisFault.{FisFault}
 use Rattle.block_scheduler.specs.Schedule.{ends_all}
 use Rattle.block_engine.specs.declared.request.Range.{Range}
 use Rattle.ata_reply.specs.declared.reply.Reply.{Reply}
 use Rattle.ata_reply.specs.declared.reply.Reply.TheVariants as replies
-use Rattle.ata_command.specs.declared.asked.Asked.{Asked}
+use Rattle.ata_command.specs.declared.asked.{Asked.Asked, LogPage.LogPage, Move.Move, PowerTask.PowerTask, Refusal.Refusal, SmartTask.SmartTask}
+use Rattle.ata_command.specs.{declared.{control.Course.{Course, TheVariants.{Drop, Take}}, settings.Setting.Setting}, Courses.{course, resets}}
 use Rattle.ata_command.specs.declared.asked.Asked.TheVariants as ask
-use Rattle.ata_command.specs.declared.asked.LogPage.{LogPage}
-use Rattle.ata_command.specs.declared.asked.Move.{Move}
-use Rattle.ata_command.specs.declared.asked.PowerTask.{PowerTask}
 use Rattle.ata_command.specs.declared.asked.PowerTask.TheVariants as power
-use Rattle.ata_command.specs.declared.asked.Refusal.{Refusal}
-use Rattle.ata_command.specs.declared.asked.SmartTask.{SmartTask}
 use Rattle.ata_command.specs.declared.asked.SmartTask.TheVariants as smart
-use Rattle.ata_command.specs.declared.control.Course.{Course}
-use Rattle.ata_command.specs.declared.control.Course.TheVariants.{Drop, Take}
-use Rattle.ata_command.specs.declared.settings.Setting.{Setting}
 use Rattle.ata_command.specs.declared.settings.Setting.TheVariants as setting
-use Rattle.ata_command.specs.Courses.{course, resets}
-use Rattle.ata_front.specs.Fronts.{after_discard, commanded_by, controlled, heard_data, leaves, over, owed, refused_by, said_by, set_by, standing, taken, taken_flush, taken_power, task_less, task_of_smart}
-use Rattle.ata_front.specs.declared.front.Front.{Front}
-use Rattle.ata_front.specs.declared.front.Heard.{Heard}
-use Rattle.ata_front.specs.declared.task.Owed.{Owed}
+use Rattle.ata_front.specs.Fronts.{after_discard, commanded_by, controlled, heard_data, leaves, over, owed, refused_by, said_by, set_by, standing}
+use Rattle.ata_front.specs.{Fronts.{taken, taken_flush, taken_power, task_less, task_of_smart}, declared.front.{Front.Front, Heard.Heard}}
+use Rattle.ata_front.specs.declared.task.{Owed.Owed, Task.Task, Trouble.Trouble}
 use Rattle.ata_front.specs.declared.task.Owed.TheVariants as owe
 use Rattle.ata_front.specs.declared.task.Purpose.TheVariants as purpose
-use Rattle.ata_front.specs.declared.task.Task.{Task}
 use Rattle.ata_front.specs.declared.task.Task.TheVariants as tasks
-use Rattle.ata_front.specs.declared.task.Trouble.{Trouble}
 use Rattle.disk_pages.specs.Profiles.{facts_of}
-use Rattle.sata_disk.specs.Hearing.{asked_of, command_told, data_by, discarding, fis_heard, is_command, ranges_of}
-use Rattle.sata_disk.specs.Sending.{IsOut, after_sent, is_done, single_front, trouble_at}
-use Rattle.sata_disk.specs.State.{DiskState, commands, tags_of}
-use Rattle.sata_disk.specs.declared.out.Out.{Out}
+use Rattle.sata_disk.specs.{Hearing.{asked_of, command_told, data_by, discarding, fis_heard, is_command, ranges_of}, Sending.{IsOut, after_sent}}
+use Rattle.sata_disk.specs.{Sending.{is_done, single_front, trouble_at}, State.{DiskState, commands, tags_of}, declared.out.Out.Out}
 use Rattle.sata_disk.specs.declared.out.Out.TheVariants as out
 use Rattle.sata_disk_laws.specs.Calls as call
 use Rattle.sata_disk_laws.specs.Calls.{Call, after_call}

@@ -1,34 +1,24 @@
 -- The page of a place is that of a command of this place, and a queued command has the tag of its FIS.
-use Rattle.std.proofs.Common.{◌≡◌, ℕ, zero, suc, ◌+◌, ◌/◌, ◌%◌, ◌<◌, true, false, List, [], ◌∷◌, get_or, set, Some, None, refl, sym, subst, arith, inl, inr}
-use Rattle.std.specs.Prelude.{Option, Bool, ◌==◌, ◌&&◌, nat_le, nat_lt, if◌then◌else◌, replicate}
-use Rattle.std.specs.Option.{option_map}
-use Rattle.std.proofs.lemmas.Bool.{cases_eq}
-use Rattle.std.proofs.lemmas.List.{get_or-set_other}
+use Rattle.std.proofs.Common.{◌≡◌, ℕ, zero, suc, ◌+◌, ◌/◌, ◌%◌, ◌<◌, true, false, List, [], ◌∷◌, get_or, set, Some, None, refl, sym, subst, arith}
+use Rattle.std.proofs.{Common.{inl, inr}, lemmas.{Bool.cases_eq, List.{get_or-set_other}}}
+use Rattle.std.specs.{Prelude.{Option, Bool, ◌==◌, ◌&&◌, nat_le, nat_lt, if◌then◌else◌, replicate}, Option.option_map}
 use Rattle.fis_view.specs.Table.{H2d, Command, Count, Features, Lba, field}
 use Rattle.block_command.specs.declared.command.Command as block
 use Rattle.block_command.specs.Laws.{Happening, blank}
-use Rattle.block_disk.specs.Laws.{At, Page, Reset, Shown, Took, at_page, entered_in, page_entered}
-use Rattle.block_disk.specs.Requests.{Asked, Answered, Books, Drawn, OnLink, Seen, entered_by, is_out, no_books}
+use Rattle.block_disk.specs.{Laws.{At, Page, Reset, Shown, Took, at_page, entered_in, page_entered}, Requests.{Asked, Answered, Books, Drawn, OnLink}}
+use Rattle.block_disk.specs.Requests.{Seen, entered_by, is_out, no_books}
 use Rattle.block_disk.proofs.Door.{each_is}
-use Rattle.ata_command.specs.Asks.{DiskFacts, aborted, asked, asked_by, block_in, does_smart, moved, queued, sets, sets_multiple, setting_of, smart_task, transferred_by}
-use Rattle.ata_command.specs.Modes.{multiple_of}
-use Rattle.ata_command.specs.Opcodes.{opcode_of}
-use Rattle.ata_command.specs.declared.asked.Asked.{Asked as Ask}
+use Rattle.ata_command.specs.Asks.{DiskFacts, aborted, asked, asked_by, block_in, does_smart, moved, queued, sets, sets_multiple, setting_of}
+use Rattle.ata_command.specs.{Asks.{smart_task, transferred_by}, Modes.multiple_of, Opcodes.opcode_of, declared.asked.Asked.Asked as Ask}
+use Rattle.ata_command.specs.declared.{asked.{LogPage.LogPage, SmartTask.SmartTask}, opcode.Opcode.Opcode, settings.Multiple.Multiple}
+use Rattle.ata_command.specs.declared.settings.{Setting.Setting, Settings.Settings}
 use Rattle.ata_command.specs.declared.asked.Asked.TheVariants as ask
-use Rattle.ata_command.specs.declared.asked.LogPage.{LogPage}
-use Rattle.ata_command.specs.declared.asked.SmartTask.{SmartTask}
-use Rattle.ata_command.specs.declared.opcode.Opcode.{Opcode}
 use Rattle.ata_command.specs.declared.opcode.Opcode.TheVariants as code
 use Rattle.ata_command.specs.declared.opcode.Transfer as moves
-use Rattle.ata_command.specs.declared.settings.Multiple.{Multiple}
-use Rattle.ata_command.specs.declared.settings.Setting.{Setting}
-use Rattle.ata_command.specs.declared.settings.Settings.{Settings}
-use Rattle.disk_pages.specs.Logs.{reads_log}
-use Rattle.disk_pages.specs.Profiles.{facts_of}
+use Rattle.disk_pages.specs.{Logs.reads_log, Profiles.facts_of}
 use Rattle.sata_disk.specs.Hearing.{with_logs}
 use Rattle.sata_disk_laws.specs.Laws.{seen_in}
-use Rattle.sata_disk_books.specs.Books.{books_after}
-use Rattle.sata_disk_books.specs.Ended.{PagesAreOfPlaces, PlacesAreTags}
+use Rattle.sata_disk_books.specs.{Books.books_after, Ended.{PagesAreOfPlaces, PlacesAreTags}}
 
 -- ## Pages
 

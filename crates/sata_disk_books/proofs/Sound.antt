@@ -1,23 +1,16 @@
 -- The commands of a disk and its books: who has the link is whom the last DMA Setup FIS named, and so many bytes of it went as were counted since.
-use Rattle.std.proofs.Common.{◌≡◌, ℕ, ◌+◌, ◌*◌, ◌<◌, true, false, List, length, take, get_or, set, Some, None, refl, sym, ap, ◌∙◌, subst, arith, inl, inr}
-use Rattle.std.specs.Prelude.{Option, Bool, is_none, nat_lt, not, ◌&&◌, ◌||◌, ◌==◌, if◌then◌else◌}
-use Rattle.std.specs.Option.{option_map}
-use Rattle.std.proofs.lemmas.Bool.{cases_eq, eqb-true, lt-ltb}
-use Rattle.std.proofs.lemmas.List.{get_or-set_same, get_or-set_other, length-append, length-take-le}
-use Rattle.std.proofs.lemmas.Option.{same_Some}
-use Rattle.block_command.specs.declared.command.Command.{Command}
-use Rattle.block_command.specs.declared.command.Stage.{Stage}
-use Rattle.block_command.specs.declared.command.Stage.TheVariants.{Activate, Receiving, Sending, SetUpRead, SetUpWrite}
-use Rattle.block_command.specs.Moments.{Moment, is_queued, opening, part_len, part_of, turn_of}
-use Rattle.block_command.specs.Laws.{Comes, Goes, Input, Ledger, after}
+use Rattle.std.proofs.Common.{◌≡◌, ℕ, ◌+◌, ◌*◌, ◌<◌, true, false, List, length, take, get_or, set, Some, None, refl, sym, ap, ◌∙◌, subst, arith, inl}
+use Rattle.std.proofs.{Common.inr, lemmas.{Bool.{cases_eq, eqb-true, lt-ltb}, List.{get_or-set_same, get_or-set_other, length-append}}}
+use Rattle.std.proofs.lemmas.{List.{length-take-le}, Option.same_Some}
+use Rattle.std.specs.{Prelude.{Option, Bool, is_none, nat_lt, not, ◌&&◌, ◌||◌, ◌==◌, if◌then◌else◌}, Option.option_map}
+use Rattle.block_command.specs.declared.command.{Command.Command, Stage.{Stage, TheVariants.{Activate, Receiving, Sending, SetUpRead, SetUpWrite}}}
+use Rattle.block_command.specs.{Moments.{Moment, is_queued, opening, part_len, part_of, turn_of}, Laws.{Comes, Goes, Input, Ledger, after}}
 use Rattle.block_command.proofs.Door.{Agrees, at as moment, same_command}
 use Rattle.block_disk.specs.Table.{Table, at, freed, has_wire, is_under_way, may_go_at, none_under_way, wants_wire, with_command, with_input}
-use Rattle.block_disk.specs.Laws.{Page, at_page}
-use Rattle.block_disk.specs.Requests.{Books, Queue, entered_by, is_answer, seen, with_table}
+use Rattle.block_disk.specs.{Laws.{Page, at_page}, Requests.{Books, Queue, entered_by, is_answer, seen, with_table}}
 use Rattle.block_disk.proofs.Door.{Agree, Matches, each_is, one}
 use Rattle.block_queue.specs.Deeds as deed
-use Rattle.block_queue.specs.Deeds.{Deed, IsDeed, act_of, after_deed}
-use Rattle.block_queue.specs.Line.{Line, command_at, may_send}
+use Rattle.block_queue.specs.{Deeds.{Deed, IsDeed, act_of, after_deed}, Line.{Line, command_at, may_send}}
 use Rattle.block_queue.proofs.Door.{of_and}
 use Rattle.sata_disk_books.specs.Counted.{Counted, more_by}
 use Rattle.sata_disk_books.proofs.Holds.{First, IsPart, data_gone, first_after, gone_of, had, is_loud, is_loud_stage, is_reading, same_gone, set_up}

@@ -1,61 +1,43 @@
 -- In every run the bytes that were taken for a queued command since its DMA Setup FIS are those that the books have as come for it.
-use Rattle.std.proofs.Common.{◌≡◌, ℕ, zero, suc, ◌+◌, ◌*◌, ◌<◌, ◌⊎◌, true, false, List, [], ◌∷◌, ◌++◌, drop, length, Some, None, refl, sym, ap, ◌∙◌, subst, arith, inl, inr}
-use Rattle.std.specs.Prelude.{Option, Bool, nat_lt, ◌&&◌, if◌then◌else◌, Result, Ok}
-use Rattle.std.specs.Option.{option_map}
-use Rattle.std.proofs.lemmas.Bool.{cases_eq, lt-ltb, ltb-true}
-use Rattle.std.proofs.lemmas.List.{length-append}
-use Rattle.std.proofs.lemmas.Option.{same_Some}
-use Rattle.fis_view.specs.Seen.{seen as view_seen}
-use Rattle.fis_view.specs.declared.view.Fis.{Fis}
+use Rattle.std.proofs.Common.{◌≡◌, ℕ, zero, suc, ◌+◌, ◌*◌, ◌<◌, ◌⊎◌, true, false, List, [], ◌∷◌, ◌++◌, drop, length, Some, None, refl, sym, ap, ◌∙◌}
+use Rattle.std.proofs.{Common.{subst, arith, inl, inr}, lemmas.{Bool.{cases_eq, lt-ltb, ltb-true}, List.{length-append}, Option.same_Some}}
+use Rattle.std.specs.{Prelude.{Option, Bool, nat_lt, ◌&&◌, if◌then◌else◌, Result, Ok}, Option.option_map}
+use Rattle.fis_view.specs.{Seen.seen as view_seen, declared.view.{Fis.Fis, FisFault.FisFault}}
 use Rattle.fis_view.specs.declared.view.Fis.TheVariants as view
-use Rattle.fis_view.specs.declared.view.FisFault.{FisFault}
-use Rattle.block_command.specs.declared.command.Command.{Command}
-use Rattle.block_command.specs.declared.command.Stage.{Stage}
-use Rattle.block_command.specs.declared.command.Stage.TheVariants.{Receiving, Sending, SetUpRead, SetUpWrite}
-use Rattle.block_command.specs.Moments.{Moment, is_queued, opening, turn_of}
-use Rattle.block_command.specs.Laws.{Comes, Goes, Input, Ledger, after}
+use Rattle.block_command.specs.declared.command.{Command.Command, Stage.{Stage, TheVariants.{Receiving, Sending, SetUpRead, SetUpWrite}}}
+use Rattle.block_command.specs.{Moments.{Moment, is_queued, opening, turn_of}, Laws.{Comes, Goes, Input, Ledger, after}}
 use Rattle.block_command.proofs.Door.{Agrees, at as moment}
-use Rattle.block_disk.specs.Laws.{at_page}
-use Rattle.block_disk.specs.Table.{has_wire, is_under_way, none_under_way, wants_wire, with_command, with_input}
-use Rattle.block_disk.specs.Requests.{Books, is_answer, no_books, with_table}
+use Rattle.block_disk.specs.{Laws.at_page, Table.{has_wire, is_under_way, none_under_way, wants_wire, with_command, with_input}, Requests.Books}
+use Rattle.block_disk.specs.Requests.{is_answer, no_books, with_table}
 use Rattle.block_disk.proofs.Door.{each_is}
 use Rattle.block_queue.specs.Deeds as deed
-use Rattle.block_queue.specs.Deeds.{Deed, IsDeed, after_deed, seen_of}
-use Rattle.block_queue.specs.Line.{Line, command_at, first_below, may_send, or_this}
-use Rattle.block_scheduler.specs.Schedule.{Schedule, ends_all, ends_sent}
-use Rattle.block_scheduler.specs.Sets.{ends_at}
+use Rattle.block_queue.specs.{Deeds.{Deed, IsDeed, after_deed, seen_of}, Line.{Line, command_at, first_below, may_send, or_this}}
+use Rattle.block_scheduler.specs.{Schedule.{Schedule, ends_all, ends_sent}, Sets.ends_at, Laws.{Move, after_move, all_deeds, deeds_of, end_deeds}}
+use Rattle.block_scheduler.specs.Laws.{ends_deeds}
 use Rattle.block_scheduler.specs.Laws as move
-use Rattle.block_scheduler.specs.Laws.{Move, after_move, all_deeds, deeds_of, end_deeds, ends_deeds}
-use Rattle.block_engine.specs.declared.request.Answer.{Answer}
+use Rattle.block_engine.specs.{declared.request.{Answer.Answer, Range.Range}, Engine.{EngineState, place_of}, Laws.{Step, after_step, all_moves}}
+use Rattle.block_engine.specs.Laws.{answer_moves, moves_of}
 use Rattle.block_engine.specs.declared.request.Answer.TheVariants as answers
-use Rattle.block_engine.specs.declared.request.Range.{Range}
-use Rattle.block_engine.specs.Engine.{EngineState, place_of}
 use Rattle.block_engine.specs.Laws as engine
-use Rattle.block_engine.specs.Laws.{Step, after_step, all_moves, answer_moves, moves_of}
-use Rattle.ata_front.specs.Fronts.{heard_data}
-use Rattle.ata_front.specs.declared.task.Act.{Act}
+use Rattle.ata_front.specs.{Fronts.heard_data, declared.task.Act.Act}
 use Rattle.ata_front.specs.declared.task.Act.TheVariants as act
 use Rattle.ata_reply.specs.declared.reply.Reply.{Reply}
 use Rattle.ata_reply.specs.declared.reply.Reply.TheVariants as replies
-use Rattle.disk_pages.specs.Profiles.{facts_of}
-use Rattle.disk_pages.specs.declared.profile.Profile.{Profile}
-use Rattle.sata_disk.specs.State.{DiskState, commands, data_place, has_link, new_disk, or_single}
-use Rattle.sata_disk.specs.Hearing.{data_by, discarding, fis_heard, is_receiving, ranges_of, receives, register_told}
-use Rattle.sata_disk.specs.Sending.{IsOut, out_at}
-use Rattle.sata_disk.specs.declared.out.Out.{Out}
+use Rattle.disk_pages.specs.{Profiles.facts_of, declared.profile.Profile.Profile}
+use Rattle.sata_disk.specs.{State.{DiskState, commands, data_place, has_link, new_disk, or_single}, Hearing.{data_by, discarding, fis_heard}}
+use Rattle.sata_disk.specs.{Hearing.{is_receiving, ranges_of, receives, register_told}, Sending.{IsOut, out_at}, declared.out.Out.Out}
 use Rattle.sata_disk.specs.declared.out.Out.TheVariants as out
 use Rattle.sata_disk_laws.specs.Calls as call
-use Rattle.sata_disk_laws.specs.Calls.{AreCalls, Call, IsCall, act_steps, after_call, after_calls, ask_steps, data_steps, fis_steps, out_steps, range_steps, start_steps, steps_of}
-use Rattle.sata_disk_laws.specs.Laws.{reached, seen_in}
-use Rattle.sata_disk_books.specs.Books.{books_after, page_in}
-use Rattle.sata_disk_books.specs.Counted.{Counted, counted_after, counted_call, more_by, set_up_by}
-use Rattle.sata_disk_books.specs.Taken.{AllDataAreTaken, AreTakenFor, DataAreTaken, awaits, is_awaited, set_up_out, taken_after, taken_call, taken_fis}
-use Rattle.sata_disk_books.proofs.Holds.{is_loud_stage}
-use Rattle.sata_disk_books.proofs.Sound.{IsOwn, IsQuiet, Stands, loud_at, and_true, deed_stands, may_free, opening_free, paged, queued_of, same_protocol}
-use Rattle.sata_disk_books.proofs.Does.{AreDone, IsQuietCall, call_are, call_quiet, deeds_by, line_by, place_low, sent_deeds, shown_by, steps_done}
-use Rattle.sata_disk_books.proofs.Counted.{Good, call_good, data_stage, new_good, none_shown, of_case}
-use Rattle.sata_disk_books.proofs.Coming.{AllCome, CameFor, ComesAt, HasFacts, IsFresh, come_of, comes_more, facts_of as ledger_facts, is_turning, is_writing, put_alone, put_same, stays_at, fresh_after}
-use Rattle.sata_disk_books.proofs.Walks.{after_deeds, books_both, shown_from}
+use Rattle.sata_disk_laws.specs.Calls.{AreCalls, Call, IsCall, act_steps, after_call, after_calls, ask_steps, data_steps, fis_steps, out_steps}
+use Rattle.sata_disk_laws.specs.{Calls.{range_steps, start_steps, steps_of}, Laws.{reached, seen_in}}
+use Rattle.sata_disk_books.specs.{Books.{books_after, page_in}, Counted.{Counted, counted_after, counted_call, more_by, set_up_by}}
+use Rattle.sata_disk_books.specs.Taken.{AllDataAreTaken, AreTakenFor, DataAreTaken, awaits, is_awaited, set_up_out, taken_after, taken_call}
+use Rattle.sata_disk_books.specs.Taken.{taken_fis}
+use Rattle.sata_disk_books.proofs.{Holds.is_loud_stage, Sound.{IsOwn, IsQuiet, Stands, loud_at, and_true, deed_stands, may_free, opening_free, paged}}
+use Rattle.sata_disk_books.proofs.{Sound.{queued_of, same_protocol}, Does.{AreDone, IsQuietCall, call_are, call_quiet, deeds_by, line_by, place_low}}
+use Rattle.sata_disk_books.proofs.{Does.{sent_deeds, shown_by, steps_done}, Counted.{Good, call_good, data_stage, new_good, none_shown, of_case}}
+use Rattle.sata_disk_books.proofs.Coming.{AllCome, CameFor, ComesAt, HasFacts, IsFresh, come_of, comes_more, facts_of as ledger_facts, is_turning}
+use Rattle.sata_disk_books.proofs.{Coming.{is_writing, put_alone, put_same, stays_at, fresh_after}, Walks.{after_deeds, books_both, shown_from}}
 
 -- ## One input
 

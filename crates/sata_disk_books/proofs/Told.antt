@@ -1,28 +1,21 @@
 -- What the FISes of a disk say by their bytes is what is counted of them.
-use Rattle.std.proofs.Common.{◌≡◌, ℕ, ◌-◌, ◌%◌, ◌<◌, ◌⊎◌, true, false, List, [], ◌∷◌, ◌++◌, length, Some, None, refl, sym, ap, ◌∙◌, subst, arith, inl, inr}
+use Rattle.std.proofs.Common.{◌≡◌, ℕ, ◌-◌, ◌%◌, ◌<◌, ◌⊎◌, true, false, List, [], ◌∷◌, ◌++◌, length, Some, None, refl, sym, ap, ◌∙◌, subst, arith, inl}
+use Rattle.std.proofs.Common.{inr}
 use Rattle.std.specs.Prelude.{Option, Bool, nat_lt, if◌then◌else◌}
-use Rattle.fis_view.specs.Built.{cut}
-use Rattle.fis_view.specs.Seen.{seen}
+use Rattle.fis_view.specs.{Built.cut, Seen.seen, Table.{field, places}}
 use Rattle.fis_view.specs.Table as table
-use Rattle.fis_view.specs.Table.{field, places}
 use Rattle.block_command.specs.Moments.{Moment}
 use Rattle.block_queue.specs.Line.{command_at}
-use Rattle.ata_reply.specs.Replies.{Carries, Shows}
-use Rattle.ata_reply.specs.declared.reply.Reply.{Reply}
+use Rattle.ata_reply.specs.{Replies.{Carries, Shows}, declared.reply.Reply.Reply}
 use Rattle.ata_reply.specs.declared.reply.Reply.TheVariants as replies
-use Rattle.sata_disk.specs.Sending.{IsFis, IsOut, out_at, part_at}
-use Rattle.sata_disk.specs.State.{DiskState, commands, new_disk}
-use Rattle.sata_disk.specs.declared.out.Out.{Out}
+use Rattle.sata_disk.specs.{Sending.{IsFis, IsOut, out_at, part_at}, State.{DiskState, commands, new_disk}, declared.out.Out.Out}
 use Rattle.sata_disk.specs.declared.out.Out.TheVariants as out
 use Rattle.sata_disk_laws.specs.Calls as call
-use Rattle.sata_disk_laws.specs.Calls.{AreCalls, Call, Sends, after_call, after_calls}
-use Rattle.sata_disk_laws.specs.Laws.{reached}
-use Rattle.sata_disk_laws.specs.Once.{AnswersAreSingle, AreDue, Host, IsDue, IsOutDue, host_after, host_of, new_host}
-use Rattle.sata_disk_books.specs.Books.{page_in}
-use Rattle.sata_disk_books.specs.Counted.{AreCounted, Counted, DataAreCounted, counted_after, counted_by, counted_call, more_by, set_up_by}
-use Rattle.sata_disk_books.specs.Fises.{AreFises, FisesTell, told_after, told_by}
-use Rattle.sata_disk_books.proofs.Counted.{data_stage}
-use Rattle.sata_disk_books.proofs.NoSetUps.{IsNoSetUp, IsPlain, SetsUpNone, call_plain, sets_up_none}
+use Rattle.sata_disk_laws.specs.{Calls.{AreCalls, Call, Sends, after_call, after_calls}, Laws.reached, Once.{AnswersAreSingle, AreDue, Host, IsDue}}
+use Rattle.sata_disk_laws.specs.Once.{IsOutDue, host_after, host_of, new_host}
+use Rattle.sata_disk_books.specs.{Books.page_in, Counted.{AreCounted, Counted, DataAreCounted, counted_after, counted_by, counted_call, more_by}}
+use Rattle.sata_disk_books.specs.{Counted.set_up_by, Fises.{AreFises, FisesTell, told_after, told_by}}
+use Rattle.sata_disk_books.proofs.{Counted.data_stage, NoSetUps.{IsNoSetUp, IsPlain, SetsUpNone, call_plain, sets_up_none}}
 
 -- ## Both are one, or one of them knows nothing
 

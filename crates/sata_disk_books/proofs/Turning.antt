@@ -1,61 +1,49 @@
 -- A disk that serves queued commands alone: some Data are asked for exactly while a command awaits them.
-use Rattle.std.proofs.Common.{◌≡◌, ℕ, zero, suc, ◌+◌, ◌<◌, ◌≤◌, true, false, List, [], ◌∷◌, ◌++◌, drop, length, length-set, get_or, set, Some, None, refl, sym, ap, ◌∙◌, subst, arith, inl, inr}
-use Rattle.std.specs.Prelude.{Option, Bool, is_some, nat_lt, not, ◌&&◌, ◌==◌, if◌then◌else◌, Result, Ok}
-use Rattle.std.specs.Option.{option_map}
-use Rattle.std.proofs.lemmas.Bool.{cases_eq, eq-eqb, eqb-true, false≢true, ne_eqb, lt-ltb}
-use Rattle.std.proofs.lemmas.List.{get_or-set_same, get_or-set_other}
-use Rattle.std.proofs.lemmas.Option.{same_Some}
-use Rattle.fis_view.specs.Seen.{seen as view_seen}
-use Rattle.fis_view.specs.declared.view.Fis.{Fis}
+use Rattle.std.proofs.Common.{◌≡◌, ℕ, zero, suc, ◌+◌, ◌<◌, ◌≤◌, true, false, List, [], ◌∷◌, ◌++◌, drop, length, length-set, get_or, set, Some, None}
+use Rattle.std.proofs.{Common.{refl, sym, ap, ◌∙◌, subst, arith, inl, inr}, lemmas.Bool.{cases_eq, eq-eqb, eqb-true, false≢true, ne_eqb, lt-ltb}}
+use Rattle.std.proofs.lemmas.{List.{get_or-set_same, get_or-set_other}, Option.same_Some}
+use Rattle.std.specs.{Prelude.{Option, Bool, is_some, nat_lt, not, ◌&&◌, ◌==◌, if◌then◌else◌, Result, Ok}, Option.option_map}
+use Rattle.fis_view.specs.{Seen.seen as view_seen, declared.view.{Fis.Fis, FisFault.FisFault}}
 use Rattle.fis_view.specs.declared.view.Fis.TheVariants as view
-use Rattle.fis_view.specs.declared.view.FisFault.{FisFault}
-use Rattle.block_command.specs.declared.command.Command.{Command}
-use Rattle.block_command.specs.declared.command.Protocol.{Protocol}
-use Rattle.block_command.specs.declared.command.Protocol.TheVariants as protocol
-use Rattle.block_command.specs.declared.command.Stage.{Stage}
-use Rattle.block_command.specs.declared.command.Stage.TheVariants.{Waiting, Load, Loading, SetUpRead, Announce, Sending, SetUpWrite, Activate, Receiving, Store, Storing, Flush, Flushing, End, Ended, Fail}
-use Rattle.block_command.specs.Moments.{Moment, data_stage as stage_of_data, first_data_stage, is_ended, is_queued, is_verify, opening, part_count, part_len, read_end, read_on, turn_of}
+use Rattle.block_command.specs.declared.command.{Command.Command, Protocol.Protocol, Stage.{Stage, TheVariants.{Waiting, Load, Loading, SetUpRead}}}
+use Rattle.block_command.specs.declared.command.Stage.TheVariants.{Announce, Sending, SetUpWrite, Activate, Receiving, Store, Storing, Flush}
+use Rattle.block_command.specs.{declared.command.Stage.TheVariants.{Flushing, End, Ended, Fail}, Moments.{Moment, data_stage as stage_of_data}}
+use Rattle.block_command.specs.Moments.{first_data_stage, is_ended, is_queued, is_verify, opening, part_count, part_len, read_end, read_on, turn_of}
 use Rattle.block_command.specs.Laws.{Comes, Fails, Flushes, Goes, Input, Ledger, Loads, Stores, after}
+use Rattle.block_command.specs.declared.command.Protocol.TheVariants as protocol
 use Rattle.block_command.proofs.Door.{Agrees, at as moment}
-use Rattle.block_disk.specs.Table.{Table, has_wire, is_under_way, none_under_way, wants_wire, with_command, with_input}
-use Rattle.block_disk.specs.Requests.{Books, asks_at, is_answer, is_request, no_books, with_table}
+use Rattle.block_disk.specs.{Table.{Table, has_wire, is_under_way, none_under_way, wants_wire, with_command, with_input}, Requests.{Books, asks_at}}
+use Rattle.block_disk.specs.Requests.{is_answer, is_request, no_books, with_table}
 use Rattle.block_disk.proofs.Door.{each_is}
 use Rattle.block_queue.specs.Deeds as deed
-use Rattle.block_queue.specs.Deeds.{Deed, IsDeed, after_deed, seen_of}
-use Rattle.block_queue.specs.Line.{Line, command_at, may_send, may_start_at, starts}
+use Rattle.block_queue.specs.{Deeds.{Deed, IsDeed, after_deed, seen_of}, Line.{Line, command_at, may_send, may_start_at, starts}}
 use Rattle.block_queue.proofs.Door.{of_and}
-use Rattle.block_scheduler.specs.Schedule.{ends_all, ends_sent}
-use Rattle.block_scheduler.specs.Sets.{ends_at, is_end, is_fail, turn_at}
+use Rattle.block_scheduler.specs.{Schedule.{ends_all, ends_sent}, Sets.{ends_at, is_end, is_fail, turn_at}, Laws.{all_deeds, deeds_of, end_deeds}}
+use Rattle.block_scheduler.specs.Laws.{ends_deeds}
 use Rattle.block_scheduler.specs.Laws as move
-use Rattle.block_scheduler.specs.Laws.{all_deeds, deeds_of, end_deeds, ends_deeds}
 use Rattle.block_engine.specs.Laws as engine
 use Rattle.block_engine.specs.Laws.{Step as EngineStep, all_moves}
-use Rattle.ata_front.specs.CommandFis.{asks_by}
-use Rattle.ata_front.specs.Fronts.{heard_data}
-use Rattle.ata_front.specs.declared.task.Act.{Act}
+use Rattle.ata_front.specs.{CommandFis.asks_by, Fronts.heard_data, declared.task.Act.Act}
 use Rattle.ata_front.specs.declared.task.Act.TheVariants as act
 use Rattle.ata_reply.specs.declared.reply.Reply.{Reply}
 use Rattle.ata_reply.specs.declared.reply.Reply.TheVariants as replies
 use Rattle.disk_pages.specs.declared.profile.Profile.{Profile}
-use Rattle.sata_disk.specs.State.{DiskState, commands, data_place, new_disk}
-use Rattle.sata_disk.specs.Hearing.{data_by, fis_heard, is_receiving, receives, register_told}
-use Rattle.sata_disk.specs.Sending.{IsOut, out_at}
-use Rattle.sata_disk.specs.declared.out.Out.{Out}
+use Rattle.sata_disk.specs.{State.{DiskState, commands, data_place, new_disk}, Hearing.{data_by, fis_heard, is_receiving, receives, register_told}}
+use Rattle.sata_disk.specs.{Sending.{IsOut, out_at}, declared.out.Out.Out}
 use Rattle.sata_disk.specs.declared.out.Out.TheVariants as out
 use Rattle.sata_disk_laws.specs.Calls as call
-use Rattle.sata_disk_laws.specs.Calls.{AreCalls, Call, IsCall, act_steps, after_call, after_calls, fis_steps, out_steps, steps_of}
-use Rattle.sata_disk_laws.specs.Laws.{reached, seen_in}
+use Rattle.sata_disk_laws.specs.{Calls.{AreCalls, Call, IsCall, act_steps, after_call, after_calls, fis_steps, out_steps, steps_of}, Laws.reached}
+use Rattle.sata_disk_laws.specs.Laws.{seen_in}
 use Rattle.sata_disk_laws.proofs.Door.{calls_after}
-use Rattle.sata_disk_books.specs.Books.{books_after, page_in}
-use Rattle.sata_disk_books.specs.Counted.{Counted, counted_after, counted_call, more_by, set_up_by}
-use Rattle.sata_disk_books.specs.InTurn.{AreOfQueue, AsksInTurn, AwaitsNone, AwaitsWhatItAsked, IsNoPio, IsOfQueue, IsQueuedFis, IsQueuedOut, call_steps, calls_steps, data_steps, sign_out, sign_reply}
-use Rattle.sata_disk_books.specs.Taken.{AreTakenFor, DataAreTaken, is_awaited, set_up_out, taken_after, taken_call, taken_fis}
-use Rattle.sata_disk_books.specs.Talks.{AreInTurn, Asks, Down, IsInTurn, Plain, SetsUp, Sign, Step, Talk, Up, quiet_talk, talk_after, talk_by}
-use Rattle.sata_disk_books.proofs.Sound.{IsOwn, Stands, and_true, deed_stands, may_free, paged}
-use Rattle.sata_disk_books.proofs.Does.{AreDone, IsQuietCall, call_are, call_quiet, deeds_by, line_by, place_low, sent_deeds, steps_done}
-use Rattle.sata_disk_books.proofs.Counted.{Good, call_good, calls_good, data_stage, new_good, reply_or}
-use Rattle.sata_disk_books.proofs.Taken.{AreStill, AreStillSteps, IsStill, ask_still, call_still, holder_place, receiving_stage, start_still}
-use Rattle.sata_disk_books.proofs.Walks.{after_deeds}
+use Rattle.sata_disk_books.specs.{Books.{books_after, page_in}, Counted.{Counted, counted_after, counted_call, more_by, set_up_by}, InTurn.AreOfQueue}
+use Rattle.sata_disk_books.specs.InTurn.{AsksInTurn, AwaitsNone, AwaitsWhatItAsked, IsNoPio, IsOfQueue, IsQueuedFis, IsQueuedOut, call_steps}
+use Rattle.sata_disk_books.specs.{InTurn.{calls_steps, data_steps, sign_out, sign_reply}, Taken.{AreTakenFor, DataAreTaken, is_awaited, set_up_out}}
+use Rattle.sata_disk_books.specs.{Taken.{taken_after, taken_call, taken_fis}, Talks.{AreInTurn, Asks, Down, IsInTurn, Plain, SetsUp, Sign, Step}}
+use Rattle.sata_disk_books.specs.Talks.{Talk, Up, quiet_talk, talk_after, talk_by}
+use Rattle.sata_disk_books.proofs.{Sound.{IsOwn, Stands, and_true, deed_stands, may_free, paged}, Does.{AreDone, IsQuietCall, call_are, call_quiet}}
+use Rattle.sata_disk_books.proofs.{Does.{deeds_by, line_by, place_low, sent_deeds, steps_done}, Counted.{Good, call_good, calls_good, data_stage}}
+use Rattle.sata_disk_books.proofs.{Counted.{new_good, reply_or}, Taken.{AreStill, AreStillSteps, IsStill, ask_still, call_still, holder_place}}
+use Rattle.sata_disk_books.proofs.{Taken.{receiving_stage, start_still}, Walks.after_deeds}
 
 -- ## One input
 

@@ -1,31 +1,24 @@
 -- A run that goes on: what it shows is what it showed before, and then what the last calls show where the disk stands then.
 use Rattle.std.proofs.Common.{◌≡◌, ℕ, zero, suc, true, false, List, [], ◌∷◌, ◌++◌, drop, Some, None, refl, sym, ap, ◌∙◌, append_assoc}
 use Rattle.std.specs.Prelude.{Option, Bool, if◌then◌else◌, Result, Ok}
-use Rattle.fis_view.specs.Seen.{seen as view_seen}
-use Rattle.fis_view.specs.declared.view.Fis.{Fis}
+use Rattle.fis_view.specs.{Seen.seen as view_seen, declared.view.{Fis.Fis, FisFault.FisFault}}
 use Rattle.fis_view.specs.declared.view.Fis.TheVariants as view
-use Rattle.fis_view.specs.declared.view.FisFault.{FisFault}
 use Rattle.block_disk.specs.Requests.{AreSeenRightly, Books, Seen, entered_by, seen}
 use Rattle.block_queue.specs.Deeds as deed
-use Rattle.block_queue.specs.Deeds.{Deed, act_of, after_deed, seen_of}
-use Rattle.block_queue.specs.Line.{Line, line_gone, line_reset}
-use Rattle.block_scheduler.specs.Schedule.{Schedule, ends_sent, with_line}
-use Rattle.block_scheduler.specs.Laws.{Move, Sends, SendsEnds, after_move, after_moves, all_deeds, deeds_of, ends_deeds}
-use Rattle.block_engine.specs.declared.request.Range.{Range}
-use Rattle.block_engine.specs.Engine.{EngineState, started}
+use Rattle.block_queue.specs.{Deeds.{Deed, act_of, after_deed, seen_of}, Line.{Line, line_gone, line_reset}}
+use Rattle.block_scheduler.specs.{Schedule.{Schedule, ends_sent, with_line}, Laws.{Move, Sends, SendsEnds, after_move, after_moves, all_deeds}}
+use Rattle.block_scheduler.specs.Laws.{deeds_of, ends_deeds}
+use Rattle.block_engine.specs.{declared.request.Range.Range, Engine.{EngineState, started}, Laws.{Step, after_step, after_steps, all_moves, moves_of}}
 use Rattle.block_engine.specs.Laws as engine
-use Rattle.block_engine.specs.Laws.{Step, after_step, after_steps, all_moves, moves_of}
 use Rattle.block_engine.proofs.Runs as engine_runs
-use Rattle.ata_front.specs.Fronts.{heard_data}
-use Rattle.ata_front.specs.declared.task.Act.{Act}
+use Rattle.ata_front.specs.{Fronts.heard_data, declared.task.Act.Act}
 use Rattle.ata_front.specs.declared.task.Act.TheVariants as act
-use Rattle.sata_disk.specs.State.{DiskState, commands}
-use Rattle.sata_disk.specs.Hearing.{data_by, discarding, engine_acted, fis_heard, register_told}
-use Rattle.sata_disk.specs.Sending.{after_sent}
+use Rattle.sata_disk.specs.{State.{DiskState, commands}, Hearing.{data_by, discarding, engine_acted, fis_heard, register_told}, Sending.after_sent}
 use Rattle.sata_disk.specs.declared.out.Out.{Out}
 use Rattle.sata_disk.specs.declared.out.Out.TheVariants as out
 use Rattle.sata_disk_laws.specs.Calls as call
-use Rattle.sata_disk_laws.specs.Calls.{Call, act_steps, after_call, after_calls, all_steps, ask_steps, asked_by, data_steps, fis_steps, out_steps, range_steps, start_steps, steps_of}
+use Rattle.sata_disk_laws.specs.Calls.{Call, act_steps, after_call, after_calls, all_steps, ask_steps, asked_by, data_steps, fis_steps, out_steps}
+use Rattle.sata_disk_laws.specs.Calls.{range_steps, start_steps, steps_of}
 use Rattle.sata_disk_books.specs.Books.{books_after}
 
 -- ## Books

@@ -3,20 +3,15 @@
 use Rattle.std.specs.Prelude.{ℕ, ◌≡◌, ◌++◌, List, [], ◌∷◌, Option, Some, None, Ok}
 use Rattle.fis_view.specs.Seen.{seen}
 use Rattle.fis_view.specs.declared.view.Fis.TheVariants as view
-use Rattle.block_command.specs.Laws.{Ledger}
-use Rattle.block_command.specs.declared.command.Command.{Command}
-use Rattle.block_disk.specs.Laws.{Page, at_page}
-use Rattle.block_disk.specs.Requests.{Books, Seen, entered_by, no_books}
+use Rattle.block_command.specs.{Laws.Ledger, declared.command.Command.Command}
+use Rattle.block_disk.specs.{Laws.{Page, at_page}, Requests.{Books, Seen, entered_by, no_books}}
 use Rattle.block_queue.specs.Line.{command_at}
 use Rattle.ata_command.specs.declared.asked.Asked.TheVariants as ask
 use Rattle.ata_command.specs.declared.asked.Move.{Move}
 use Rattle.disk_pages.specs.declared.profile.Profile.{Profile}
-use Rattle.sata_disk.specs.Hearing.{asked_of}
-use Rattle.sata_disk.specs.Sending.{IsOut, part_at}
-use Rattle.sata_disk.specs.State.{commands, new_disk}
+use Rattle.sata_disk.specs.{Hearing.asked_of, Sending.{IsOut, part_at}, State.{commands, new_disk}}
 use Rattle.sata_disk.specs.declared.out.Out.TheVariants as out
-use Rattle.sata_disk_laws.specs.Calls.{AreCalls, Call, Hears}
-use Rattle.sata_disk_laws.specs.Laws.{reached, seen_in}
+use Rattle.sata_disk_laws.specs.{Calls.{AreCalls, Call, Hears}, Laws.{reached, seen_in}}
 
 -- the books behind what was seen
 unfoldable pub books_after : Books → List Seen → Books

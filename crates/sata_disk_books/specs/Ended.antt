@@ -10,13 +10,9 @@ use Rattle.ata_reply.specs.declared.reply.Reply.TheVariants as replies
 use Rattle.ata_command.specs.declared.asked.Asked.TheVariants as ask
 use Rattle.ata_command.specs.declared.asked.Move.{Move}
 use Rattle.disk_pages.specs.declared.profile.Profile.{Profile}
-use Rattle.sata_disk.specs.Hearing.{asked_of}
-use Rattle.sata_disk.specs.Sending.{IsFis, IsOut}
-use Rattle.sata_disk.specs.State.{DiskState, new_disk}
-use Rattle.sata_disk.specs.declared.out.Out.{Out}
+use Rattle.sata_disk.specs.{Hearing.asked_of, Sending.{IsFis, IsOut}, State.{DiskState, new_disk}, declared.out.Out.Out}
 use Rattle.sata_disk.specs.declared.out.Out.TheVariants as out
-use Rattle.sata_disk_laws.specs.Calls.{AreCalls, Call}
-use Rattle.sata_disk_laws.specs.Laws.{reached}
+use Rattle.sata_disk_laws.specs.{Calls.{AreCalls, Call}, Laws.reached}
 use Rattle.sata_disk_books.specs.Books.{page_in}
 
 -- The command of a page has earned its end: of a read all bytes were given for its sectors, and all were sent; of a write all that came were

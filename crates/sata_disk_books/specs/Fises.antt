@@ -1,20 +1,13 @@
 -- What the FISes of a disk say of the Data that follow, by their bytes alone (Serial ATA 3.x, 10.5, DMA Setup and Data).
 use Rattle.std.specs.Prelude.{ℕ, ◌≡◌, ◌<◌, ◌⊎◌, ◌-◌, ◌%◌, List, [], ◌∷◌, ◌++◌, length, Option, Some, None, Result, Ok}
-use Rattle.fis_view.specs.Seen.{seen}
+use Rattle.fis_view.specs.{Seen.seen, Table.field, declared.view.{Fis.Fis, FisFault.FisFault}}
 use Rattle.fis_view.specs.Table as table
-use Rattle.fis_view.specs.Table.{field}
-use Rattle.fis_view.specs.declared.view.Fis.{Fis}
 use Rattle.fis_view.specs.declared.view.Fis.TheVariants as view
-use Rattle.fis_view.specs.declared.view.FisFault.{FisFault}
 use Rattle.disk_pages.specs.declared.profile.Profile.{Profile}
-use Rattle.sata_disk.specs.Sending.{IsFis, IsOut}
-use Rattle.sata_disk.specs.State.{DiskState, new_disk}
-use Rattle.sata_disk.specs.declared.out.Out.{Out}
+use Rattle.sata_disk.specs.{Sending.{IsFis, IsOut}, State.{DiskState, new_disk}, declared.out.Out.Out}
 use Rattle.sata_disk.specs.declared.out.Out.TheVariants as out
-use Rattle.sata_disk_laws.specs.Calls.{AreCalls, Call, Sends, after_call}
-use Rattle.sata_disk_laws.specs.Laws.{reached}
-use Rattle.sata_disk_books.specs.Books.{page_in}
-use Rattle.sata_disk_books.specs.Counted.{AreCounted, Counted, more_by}
+use Rattle.sata_disk_laws.specs.{Calls.{AreCalls, Call, Sends, after_call}, Laws.reached}
+use Rattle.sata_disk_books.specs.{Books.page_in, Counted.{AreCounted, Counted, more_by}}
 
 -- what a FIS says: a DMA Setup FIS has the tag, in bits 4:0 of its buffer identifier, and the offset; Data go on behind those before
 abbrev pub told_by : Result Fis FisFault → Option Counted → Option Counted

@@ -1,10 +1,8 @@
 -- A disk that serves queued commands alone asks for Data in turn: it sends a DMA Setup FIS or a DMA Activate FIS only where it awaits none, and what it
 -- awaits are Data of the command that its last DMA Setup FIS named (Serial ATA 3.x, 10.5, DMA Setup, DMA Activate and Data, and 13.6).
 use Rattle.std.specs.Prelude.{ℕ, ◌≡◌, ◌<◌, ◌⊎◌, ◌&&◌, true, false, not, List, [], ◌∷◌, ◌++◌, drop, length, Option, None, Result, Ok}
-use Rattle.fis_view.specs.Seen.{seen}
-use Rattle.fis_view.specs.declared.view.Fis.{Fis}
+use Rattle.fis_view.specs.{Seen.seen, declared.view.{Fis.Fis, FisFault.FisFault}}
 use Rattle.fis_view.specs.declared.view.Fis.TheVariants as view
-use Rattle.fis_view.specs.declared.view.FisFault.{FisFault}
 use Rattle.block_command.specs.declared.command.Command.{Command}
 use Rattle.block_disk.specs.Laws.{Page}
 use Rattle.block_queue.specs.Line.{command_at}
@@ -13,14 +11,10 @@ use Rattle.ata_front.specs.declared.task.Act.TheVariants as act
 use Rattle.ata_reply.specs.declared.reply.Reply.{Reply}
 use Rattle.ata_reply.specs.declared.reply.Reply.TheVariants as replies
 use Rattle.disk_pages.specs.declared.profile.Profile.{Profile}
-use Rattle.sata_disk.specs.Hearing.{receives, register_told}
-use Rattle.sata_disk.specs.State.{DiskState, commands, new_disk}
-use Rattle.sata_disk.specs.declared.out.Out.{Out}
+use Rattle.sata_disk.specs.{Hearing.{receives, register_told}, State.{DiskState, commands, new_disk}, declared.out.Out.Out}
 use Rattle.sata_disk.specs.declared.out.Out.TheVariants as out
-use Rattle.sata_disk_laws.specs.Calls.{AreCalls, Call, Hears, Plugs, Sends, after_call}
-use Rattle.sata_disk_laws.specs.Laws.{reached}
-use Rattle.sata_disk_books.specs.Books.{page_in}
-use Rattle.sata_disk_books.specs.Talks.{AreInTurn, Asks, Down, Plain, SetsUp, Sign, Step, Talk, Up, quiet_talk, talk_after}
+use Rattle.sata_disk_laws.specs.{Calls.{AreCalls, Call, Hears, Plugs, Sends, after_call}, Laws.reached}
+use Rattle.sata_disk_books.specs.{Books.page_in, Talks.{AreInTurn, Asks, Down, Plain, SetsUp, Sign, Step, Talk, Up, quiet_talk, talk_after}}
 use Rattle.sata_disk_books.specs.Taken.{AreTakenFor}
 
 -- ---- queued commands alone

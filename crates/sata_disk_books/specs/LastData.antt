@@ -1,23 +1,16 @@
 -- The last Data FIS of a PIO data-in ends its command: the PIO Setup FIS before it has the Status that holds behind it, and no FIS follows (ACS-3, 4, PIO
 -- data-in protocol; Serial ATA 3.x, 10.5, PIO Setup and Data). Such a command is alone: no queued one is open beside it (Serial ATA 3.x, 13.6).
 use Rattle.std.specs.Prelude.{ℕ, ◌≡◌, ◌&&◌, Bool, true, false, List, [], ◌∷◌, ◌++◌, Some, Result, Ok}
-use Rattle.fis_view.specs.Seen.{seen}
-use Rattle.fis_view.specs.declared.view.Fis.{Fis}
+use Rattle.fis_view.specs.{Seen.seen, declared.view.{Fis.Fis, FisFault.FisFault}}
 use Rattle.fis_view.specs.declared.view.Fis.TheVariants as view
-use Rattle.fis_view.specs.declared.view.FisFault.{FisFault}
 use Rattle.block_command.specs.Laws.{IsEarned}
 use Rattle.block_disk.specs.Laws.{Page}
 use Rattle.ata_reply.specs.declared.reply.Reply.{Reply}
 use Rattle.ata_reply.specs.declared.reply.Reply.TheVariants as replies
 use Rattle.disk_pages.specs.declared.profile.Profile.{Profile}
-use Rattle.sata_disk.specs.Hearing.{is_command}
-use Rattle.sata_disk.specs.Sending.{IsOut}
-use Rattle.sata_disk.specs.State.{new_disk}
-use Rattle.sata_disk.specs.declared.out.Out.{Out}
+use Rattle.sata_disk.specs.{Hearing.is_command, Sending.IsOut, State.new_disk, declared.out.Out.Out}
 use Rattle.sata_disk.specs.declared.out.Out.TheVariants as out
-use Rattle.sata_disk_laws.specs.Calls.{AreCalls, Call, Hears, Sends}
-use Rattle.sata_disk_laws.specs.Laws.{reached}
-use Rattle.sata_disk_laws.specs.Once.{ForLast, host_of, new_host}
+use Rattle.sata_disk_laws.specs.{Calls.{AreCalls, Call, Hears, Sends}, Laws.reached, Once.{ForLast, host_of, new_host}}
 use Rattle.sata_disk_books.specs.Books.{page_in}
 
 -- ---- the command is alone

@@ -1,22 +1,16 @@
 -- Where the bytes of the host's Data stand in the queued command for which a disk takes them (Serial ATA 3.x, 10.5, DMA Setup, DMA Activate and Data,
 -- and 13.6, native command queuing). One DMA Setup FIS goes for all Data of a command, with its tag and offset 0.
 use Rattle.std.specs.Prelude.{ℕ, ◌≡◌, ◌<◌, ◌⊎◌, Bool, true, false, List, [], ◌∷◌, ◌++◌, drop, length, Option, Some, None, if◌then◌else◌, Result, Ok}
-use Rattle.fis_view.specs.Seen.{seen}
-use Rattle.fis_view.specs.declared.view.Fis.{Fis}
+use Rattle.fis_view.specs.{Seen.seen, declared.view.{Fis.Fis, FisFault.FisFault}}
 use Rattle.fis_view.specs.declared.view.Fis.TheVariants as view
-use Rattle.fis_view.specs.declared.view.FisFault.{FisFault}
 use Rattle.block_disk.specs.Laws.{Page}
 use Rattle.block_queue.specs.Line.{command_at}
 use Rattle.ata_front.specs.Fronts.{heard_data}
 use Rattle.disk_pages.specs.declared.profile.Profile.{Profile}
-use Rattle.sata_disk.specs.Hearing.{receives}
-use Rattle.sata_disk.specs.State.{DiskState, commands, data_place, new_disk}
-use Rattle.sata_disk.specs.declared.out.Out.{Out}
+use Rattle.sata_disk.specs.{Hearing.receives, State.{DiskState, commands, data_place, new_disk}, declared.out.Out.Out}
 use Rattle.sata_disk.specs.declared.out.Out.TheVariants as out
-use Rattle.sata_disk_laws.specs.Calls.{AreCalls, Call, Hears, Sends, after_call}
-use Rattle.sata_disk_laws.specs.Laws.{reached}
-use Rattle.sata_disk_books.specs.Books.{page_in}
-use Rattle.sata_disk_books.specs.Counted.{Counted, more_by, set_up_by}
+use Rattle.sata_disk_laws.specs.{Calls.{AreCalls, Call, Hears, Sends, after_call}, Laws.reached}
+use Rattle.sata_disk_books.specs.{Books.page_in, Counted.{Counted, more_by, set_up_by}}
 
 -- Data that come now are taken for a command: it awaits them, and a DATA SET MANAGEMENT does not
 abbrev pub is_awaited : DiskState → Option ℕ → Bool

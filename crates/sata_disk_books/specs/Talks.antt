@@ -2,10 +2,8 @@
 -- DMA Setup, DMA Activate, PIO Setup and Data).
 use Rattle.std.specs.Prelude.{ℕ, ◌≡◌, ◌%◌, ◌==◌, ◌&&◌, Bool, true, false, not, List, [], ◌∷◌, Option, Some, None, if◌then◌else◌, Result, Ok}
 use Rattle.fis_view.specs.Table as table
-use Rattle.fis_view.specs.Table.{field}
-use Rattle.fis_view.specs.declared.view.Fis.{Fis}
+use Rattle.fis_view.specs.{Table.field, declared.view.{Fis.Fis, FisFault.FisFault}}
 use Rattle.fis_view.specs.declared.view.Fis.TheVariants as view
-use Rattle.fis_view.specs.declared.view.FisFault.{FisFault}
 use Rattle.sata_disk_books.specs.Counted.{Counted, more_by}
 
 -- what a FIS of a device says of Data that are to go to it

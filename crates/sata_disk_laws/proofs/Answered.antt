@@ -1,30 +1,22 @@
 -- Each call of a disk keeps what its host has open and what the disk is alike, and each FIS is due.
-use Rattle.std.proofs.Common.{◌≡◌, ℕ, ◌<◌, true, false, Some, None, refl, sym, ap, ◌∙◌, subst, arith, inl, inr}
+use Rattle.std.proofs.{Common.{◌≡◌, ℕ, ◌<◌, true, false, Some, None, refl, sym, ap, ◌∙◌, subst, arith, inl, inr}, lemmas.Bool.{and_right, cases_lt}}
+use Rattle.std.proofs.lemmas.Bool.{lt-ltb}
 use Rattle.std.specs.Prelude.{Option, Bool, not, ◌&&◌}
-use Rattle.std.proofs.lemmas.Bool.{and_right, cases_lt, lt-ltb}
-use Rattle.block_command.specs.declared.command.Stage.{Stage}
-use Rattle.block_command.specs.declared.command.Stage.TheVariants.{End}
-use Rattle.block_command.specs.Moments.{Moment, turn_of}
-use Rattle.block_command.specs.Laws.{Goes}
+use Rattle.block_command.specs.{declared.command.Stage.{Stage, TheVariants.End}, Moments.{Moment, turn_of}, Laws.Goes}
 use Rattle.block_disk.specs.Table.{is_under_way}
 use Rattle.block_queue.specs.Line.{IsLine, Line, command_at, has_bit}
-use Rattle.block_scheduler.specs.Sets.{IsTagsOf, ends_at, is_end, turn_at}
-use Rattle.block_scheduler.specs.Schedule.{IsNextFis}
+use Rattle.block_scheduler.specs.{Sets.{IsTagsOf, ends_at, is_end, turn_at}, Schedule.IsNextFis}
 use Rattle.block_scheduler.specs.declared.scheduler.NextFis.TheVariants as fis
 use Rattle.block_engine.specs.declared.aside.AsideStage.{AsideStage}
 use Rattle.ata_reply.specs.declared.reply.Reply.TheVariants as replies
-use Rattle.ata_front.specs.Fronts.{owed}
-use Rattle.ata_front.specs.declared.front.Front.{Front}
-use Rattle.ata_front.specs.declared.task.Task.{Task}
+use Rattle.ata_front.specs.{Fronts.owed, declared.{front.Front.Front, task.Task.Task}}
 use Rattle.ata_front.specs.declared.task.Task.TheVariants as tasks
-use Rattle.sata_disk.specs.State.{DiskState, commands, is_taken}
-use Rattle.sata_disk.specs.Sending.{IsOut, after_sent}
+use Rattle.sata_disk.specs.{State.{DiskState, commands, is_taken}, Sending.{IsOut, after_sent}}
 use Rattle.sata_disk.specs.declared.out.Out.TheVariants as out
 use Rattle.sata_disk_laws.specs.Once.{Host, IsDue, out_got, tags_closed}
-use Rattle.sata_disk_laws.proofs.Over.{AreEnded, all_ended}
+use Rattle.sata_disk_laws.proofs.{Over.{AreEnded, all_ended}, Speaks.queued_idle, Tracks.{FitsPlace, LoneTags, NoTags, SameTags, TagsAs, Tracks}}
+use Rattle.sata_disk_laws.proofs.Tracks.{WaitsAs, fits_then}
 use Rattle.sata_disk_laws.proofs.Over as ends
-use Rattle.sata_disk_laws.proofs.Speaks.{queued_idle}
-use Rattle.sata_disk_laws.proofs.Tracks.{FitsPlace, LoneTags, NoTags, SameTags, TagsAs, Tracks, WaitsAs, fits_then}
 
 abbrev pub Knows : Host → DiskState → Type 0
 Knows h d = Tracks h d.front d.engine.stage (commands d)

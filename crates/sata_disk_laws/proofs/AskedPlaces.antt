@@ -1,34 +1,23 @@
 -- What the command of a FIS asks for is at the place that the FIS names, and moves whole sectors.
-use Rattle.std.proofs.Common.{◌≡◌, ℕ, zero, suc, ◌+◌, ◌-◌, ◌*◌, ◌/◌, ◌%◌, ◌<◌, ◌≤◌, ◌^◌, ◌⊎◌, true, false, List, Some, None, refl, sym, ap, ◌∙◌, subst, arith, inl, inr}
-use Rattle.std.specs.Prelude.{Option, Bool, not, ◌==◌, ◌||◌, ◌&&◌, nat_le, if◌then◌else◌}
-use Rattle.std.specs.Int.{bit_at}
-use Rattle.std.proofs.lemmas.Bool.{cases_eq, eqb-true, lt-ltb}
-use Rattle.std.proofs.lemmas.Nat.Bits.{bit_at_above, bit_at_cat_high, bit_at_cat_low}
+use Rattle.std.proofs.Common.{◌≡◌, ℕ, zero, suc, ◌+◌, ◌-◌, ◌*◌, ◌/◌, ◌%◌, ◌<◌, ◌≤◌, ◌^◌, ◌⊎◌, true, false, List, Some, None, refl, sym, ap, ◌∙◌}
+use Rattle.std.proofs.{Common.{subst, arith, inl, inr}, lemmas.{Bool.{cases_eq, eqb-true, lt-ltb}, Nat.Bits.{bit_at_above, bit_at_cat_high}}}
+use Rattle.std.proofs.lemmas.Nat.Bits.{bit_at_cat_low}
+use Rattle.std.specs.{Prelude.{Option, Bool, not, ◌==◌, ◌||◌, ◌&&◌, nat_le, if◌then◌else◌}, Int.bit_at}
 use Rattle.fis_view.specs.Table.{H2d, Command, Count, Device, Features, Lba, field}
 use Rattle.block_command.specs.declared.command.Command as block
 use Rattle.block_command.specs.declared.command.Protocol.TheVariants as protocol
 use Rattle.block_queue.specs.Line.{Line}
 use Rattle.ata_reply.specs.declared.reply.AtaError.TheVariants.{Aborted}
-use Rattle.ata_command.specs.Asks.{DiskFacts, asked, asked_by, block_in, block_of, moved, queued, sectors_asked, tag_of_place, transferred_by, sets, sets_multiple, trimmed, smart_asked, does_smart}
-use Rattle.ata_command.specs.Modes.{sectors_in}
-use Rattle.ata_command.specs.Opcodes.{opcode_of, or_other, transfer_of}
-use Rattle.ata_command.specs.declared.asked.Asked.{Asked}
+use Rattle.ata_command.specs.Asks.{DiskFacts, asked, asked_by, block_in, block_of, moved, queued, sectors_asked, tag_of_place, transferred_by, sets}
+use Rattle.ata_command.specs.{Asks.{sets_multiple, trimmed, smart_asked, does_smart}, Modes.sectors_in, Opcodes.{opcode_of, or_other, transfer_of}}
+use Rattle.ata_command.specs.declared.{asked.{Asked.Asked, LogPage.LogPage, Move.Move, Refusal.Refusal, SmartTask.SmartTask}, opcode.Opcode.Opcode}
+use Rattle.ata_command.specs.declared.{opcode.Way.Way, settings.Multiple.{Multiple, TheVariants.{Off, One, Two, Four, Eight, Sixteen}}}
+use Rattle.ata_command.specs.declared.settings.{Setting.Setting, Settings.Settings}
 use Rattle.ata_command.specs.declared.asked.Asked.TheVariants as ask
-use Rattle.ata_command.specs.declared.asked.LogPage.{LogPage}
-use Rattle.ata_command.specs.declared.asked.Move.{Move}
-use Rattle.ata_command.specs.declared.asked.Refusal.{Refusal}
-use Rattle.ata_command.specs.declared.asked.SmartTask.{SmartTask}
-use Rattle.ata_command.specs.declared.opcode.Opcode.{Opcode}
 use Rattle.ata_command.specs.declared.opcode.Opcode.TheVariants as code
 use Rattle.ata_command.specs.declared.opcode.Transfer as moves
-use Rattle.ata_command.specs.declared.opcode.Way.{Way}
 use Rattle.ata_command.specs.declared.opcode.Way.TheVariants as way
-use Rattle.ata_command.specs.declared.settings.Multiple.{Multiple}
-use Rattle.ata_command.specs.declared.settings.Multiple.TheVariants.{Off, One, Two, Four, Eight, Sixteen}
-use Rattle.ata_command.specs.declared.settings.Setting.{Setting}
-use Rattle.ata_command.specs.declared.settings.Settings.{Settings}
-use Rattle.sata_disk.specs.State.{is_taken, tags_below, tags_of}
-use Rattle.sata_disk.specs.Hearing.{page_asked, with_logs}
+use Rattle.sata_disk.specs.{State.{is_taken, tags_below, tags_of}, Hearing.{page_asked, with_logs}}
 use Rattle.sata_disk_laws.specs.Once.{place_in}
 use Rattle.sata_disk_laws.proofs.Tracks.{NoTags}
 

@@ -8,11 +8,9 @@ use Rattle.ata_front.specs.declared.task.Task.{Task}
 use Rattle.ata_front.specs.declared.task.Task.TheVariants as tasks
 use Rattle.sata_disk.specs.State.{commands}
 use Rattle.sata_disk.specs.declared.out.Out.TheVariants as out
-use Rattle.sata_disk_laws.specs.Awaited.{AsidesAreAwaited, OutsAreUnderWay, SinglesAreAwaited}
-use Rattle.sata_disk_laws.specs.Laws.{reached}
-use Rattle.sata_disk_laws.specs.Once.{ForEnd, ForLast, Host, host_of, is_for_data, new_host}
-use Rattle.sata_disk_laws.proofs.Calls.{known, sent_is}
-use Rattle.sata_disk_laws.proofs.Tracks.{MovesAs, WaitsAs}
+use Rattle.sata_disk_laws.specs.{Awaited.{AsidesAreAwaited, OutsAreUnderWay, SinglesAreAwaited}, Laws.reached, Once.{ForEnd, ForLast, Host, host_of}}
+use Rattle.sata_disk_laws.specs.Once.{is_for_data, new_host}
+use Rattle.sata_disk_laws.proofs.{Calls.{known, sent_is}, Tracks.{MovesAs, WaitsAs}}
 
 end_or_last : (b : Bool) → is_for_data (if b then ForLast else ForEnd) ≡ true
 end_or_last true = refl

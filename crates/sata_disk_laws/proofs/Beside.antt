@@ -3,17 +3,13 @@ use Rattle.std.proofs.Common.{◌≡◌, ℕ, true, false, List, [], ◌∷◌, 
 use Rattle.std.specs.Prelude.{Option, Bool, if◌then◌else◌}
 use Rattle.block_queue.proofs.Door.{of_and}
 use Rattle.block_engine.specs.Aside as aside
-use Rattle.block_engine.specs.Aside.{AsideStep, asks_for, is_over, is_waiting, settled}
-use Rattle.block_engine.specs.Engine.{EngineState, answered, done_at, failed_by, line, loaded_at, none_engaged, place_of}
+use Rattle.block_engine.specs.{Aside.{AsideStep, asks_for, is_over, is_waiting, settled}, Engine.{EngineState, answered, done_at, failed_by, line}}
+use Rattle.block_engine.specs.{Engine.{loaded_at, none_engaged, place_of}, Laws.{AreSteps, IsStep, Step, after_step, after_steps}}
+use Rattle.block_engine.specs.declared.{aside.AsideStage.{AsideStage, TheVariants.{Idle, Waiting}}, request.Answer.Answer}
 use Rattle.block_engine.specs.Laws as engine
-use Rattle.block_engine.specs.Laws.{AreSteps, IsStep, Step, after_step, after_steps}
-use Rattle.block_engine.specs.declared.aside.AsideStage.{AsideStage}
-use Rattle.block_engine.specs.declared.aside.AsideStage.TheVariants.{Idle, Waiting}
-use Rattle.block_engine.specs.declared.request.Answer.{Answer}
 use Rattle.block_engine.specs.declared.request.Answer.TheVariants as answers
 use Rattle.sata_disk.specs.State.{new_disk}
-use Rattle.sata_disk_laws.specs.Calls.{all_steps}
-use Rattle.sata_disk_laws.specs.Asides.{AsidesAreEarned, after_asides, answer_aside, aside_of, asides_of}
+use Rattle.sata_disk_laws.specs.{Calls.all_steps, Asides.{AsidesAreEarned, after_asides, answer_aside, aside_of, asides_of}}
 use Rattle.sata_disk_laws.proofs.Runs.{all_after, all_are}
 
 none_asides : (a : AsideStage) → a ≡ after_asides a []

@@ -1,58 +1,41 @@
 -- Every call, every run: each FIS is due.
 use Rattle.std.proofs.Common.{◌≡◌, ℕ, ◌/◌, ◌<◌, true, false, List, [], ◌∷◌, drop, Some, None, refl, sym, ap, ◌∙◌, subst, arith, inl, inr, ◌⊎◌}
-use Rattle.std.specs.Prelude.{Option, Bool, Result, Ok, if◌then◌else◌}
 use Rattle.std.proofs.lemmas.Bool.{cases_lt, lt-ltb}
-use Rattle.fis_view.specs.Seen.{seen}
-use Rattle.fis_view.specs.declared.view.Fis.{Fis}
+use Rattle.std.specs.Prelude.{Option, Bool, Result, Ok, if◌then◌else◌}
+use Rattle.fis_view.specs.{Seen.seen, declared.view.{Fis.Fis, FisFault.FisFault}}
 use Rattle.fis_view.specs.declared.view.Fis.TheVariants as view
-use Rattle.fis_view.specs.declared.view.FisFault.{FisFault}
-use Rattle.block_command.specs.declared.command.Stage.{Stage}
-use Rattle.block_command.specs.declared.command.Stage.TheVariants.{Sending, Ended}
-use Rattle.block_command.specs.Moments.{Moment, turn_of}
+use Rattle.block_command.specs.{declared.command.Stage.{Stage, TheVariants.{Sending, Ended}}, Moments.{Moment, turn_of}}
 use Rattle.block_disk.specs.Table.{is_under_way}
 use Rattle.block_disk.proofs.Door.{each_is}
 use Rattle.block_queue.specs.Line.{IsLine, Line, command_at}
 use Rattle.block_queue.proofs.Door.{new_line, of_and}
 use Rattle.block_scheduler.specs.Sets.{sends_alone, turn_at}
-use Rattle.block_engine.specs.declared.aside.AsideStage.{AsideStage}
+use Rattle.block_engine.specs.{declared.{aside.AsideStage.AsideStage, request.{Answer.Answer, Failure.Failure, Request.Request}}, Aside.asks_for}
+use Rattle.block_engine.specs.{Aside.{is_waiting, settled}, Engine.{EngineState, IsAskedOf, IsEngineStart, answered, done_at, failed_by, line}}
+use Rattle.block_engine.specs.Engine.{loaded_at, place_of, started}
 use Rattle.block_engine.specs.declared.aside.AsideStage.TheVariants as stages
-use Rattle.block_engine.specs.declared.request.Answer.{Answer}
 use Rattle.block_engine.specs.declared.request.Answer.TheVariants as answers
-use Rattle.block_engine.specs.declared.request.Failure.{Failure}
-use Rattle.block_engine.specs.declared.request.Request.{Request}
-use Rattle.block_engine.specs.Aside.{asks_for, is_waiting, settled}
-use Rattle.block_engine.specs.Engine.{EngineState, IsAskedOf, IsEngineStart, answered, done_at, failed_by, line, loaded_at, place_of, started}
 use Rattle.ata_reply.specs.declared.reply.Reply.{Reply}
 use Rattle.ata_reply.specs.declared.reply.Reply.TheVariants as replies
 use Rattle.ata_command.specs.Courses.{resets}
-use Rattle.ata_front.specs.Fronts.{controlled, owed, standing}
-use Rattle.ata_front.specs.declared.front.Front.{Front}
-use Rattle.ata_front.specs.declared.task.Task.{Task}
+use Rattle.ata_front.specs.{Fronts.{controlled, owed, standing}, declared.{front.Front.Front, task.Task.Task}}
 use Rattle.ata_front.specs.declared.task.Task.TheVariants as tasks
-use Rattle.disk_pages.specs.Profiles.{facts_of}
-use Rattle.disk_pages.specs.declared.profile.Profile.{Profile}
-use Rattle.sata_disk.specs.State.{DiskState, IsBeside, commands, is_taken, new_disk, tags_of}
-use Rattle.sata_disk.specs.Hearing.{MayAct, MayHear, command_told, command_unheard, fis_heard, is_command, register_unheard}
-use Rattle.sata_disk.specs.Sending.{IsCommandOut, IsOut, after_sent, is_done, out_at, trouble_at}
-use Rattle.sata_disk.specs.declared.out.Out.{Out}
+use Rattle.disk_pages.specs.{Profiles.facts_of, declared.profile.Profile.Profile}
+use Rattle.sata_disk.specs.{State.{DiskState, IsBeside, commands, is_taken, new_disk, tags_of}, Hearing.{MayAct, MayHear, command_told}}
+use Rattle.sata_disk.specs.{Hearing.{command_unheard, fis_heard, is_command, register_unheard}, Sending.{IsCommandOut, IsOut, after_sent, is_done}}
+use Rattle.sata_disk.specs.{Sending.{out_at, trouble_at}, declared.out.Out.Out}
 use Rattle.sata_disk.specs.declared.out.Out.TheVariants as out
-use Rattle.sata_disk_laws.specs.Calls.{Answers, AreCalls, Asks, Call, Hears, IsCall, Plugs, Sends, Starts, after_call, after_calls, asked_by, steps_of}
-use Rattle.sata_disk_laws.specs.Once.{AreDue, ForNothing, Host, IsCallDue, IsDataAt, IsFilling, IsOpenAt, IsOutDue, IsQueued, IsSingle, command_given, control_given, fis_given, host_after, host_of, new_host, out_got, place_in, unheard_of, waits_for_nothing}
+use Rattle.sata_disk_laws.specs.Calls.{Answers, AreCalls, Asks, Call, Hears, IsCall, Plugs, Sends, Starts, after_call, after_calls, asked_by}
+use Rattle.sata_disk_laws.specs.{Calls.steps_of, Once.{AreDue, ForNothing, Host, IsCallDue, IsDataAt, IsFilling, IsOpenAt, IsOutDue, IsQueued}}
+use Rattle.sata_disk_laws.specs.Once.{IsSingle, command_given, control_given, fis_given, host_after, host_of, new_host, out_got, place_in, unheard_of}
+use Rattle.sata_disk_laws.specs.{Once.{waits_for_nothing, IsHostOf}, Laws.reached}
 use Rattle.sata_disk_laws.specs.Once as wanted
-use Rattle.sata_disk_laws.specs.Once.{IsHostOf}
-use Rattle.sata_disk_laws.specs.Laws.{reached}
-use Rattle.sata_disk_laws.proofs.Answered.{Knows, ends_due}
-use Rattle.sata_disk_laws.proofs.AskedPlaces.{asked_at, place_low}
-use Rattle.sata_disk_laws.proofs.Commands.{TracksOf, command_tracks, control_tracks, heard_is, owes_waits, plug_tracks}
-use Rattle.sata_disk_laws.proofs.Left.{IsSome, part_some_sectors}
-use Rattle.sata_disk_laws.proofs.Owed.{beside_tracks, data_tracks, page_tracks, said_tracks}
-use Rattle.sata_disk_laws.proofs.Quiet.{Same, answered_quiet, asked_quiet, started_quiet}
-use Rattle.sata_disk_laws.proofs.Replies.{SentAs, queued_data, queued_reply}
-use Rattle.sata_disk_laws.proofs.Runs.{call_after, call_are}
-use Rattle.sata_disk_laws.proofs.Silent.{steps_line}
-use Rattle.sata_disk_laws.proofs.Single.{single_data, single_reply}
-use Rattle.sata_disk_laws.proofs.Speaks.{next_sends, queued_idle}
-use Rattle.sata_disk_laws.proofs.Tracks.{FitsPlace, IsPlace, LoneTags, OwedTags, OwesAs, TagsAs, Tracks, WaitsAs, quiet_tracks}
+use Rattle.sata_disk_laws.proofs.{Answered.{Knows, ends_due}, AskedPlaces.{asked_at, place_low}, Commands.{TracksOf, command_tracks, control_tracks}}
+use Rattle.sata_disk_laws.proofs.{Commands.{heard_is, owes_waits, plug_tracks}, Left.{IsSome, part_some_sectors}, Owed.{beside_tracks, data_tracks}}
+use Rattle.sata_disk_laws.proofs.{Owed.{page_tracks, said_tracks}, Quiet.{Same, answered_quiet, asked_quiet, started_quiet}, Replies.SentAs}
+use Rattle.sata_disk_laws.proofs.{Replies.{queued_data, queued_reply}, Runs.{call_after, call_are}, Silent.steps_line, Single.single_data}
+use Rattle.sata_disk_laws.proofs.{Single.single_reply, Speaks.{next_sends, queued_idle}, Tracks.{FitsPlace, IsPlace, LoneTags, OwedTags, OwesAs}}
+use Rattle.sata_disk_laws.proofs.Tracks.{TagsAs, Tracks, WaitsAs, quiet_tracks}
 
 -- ## The FIS of a command
 

@@ -1,51 +1,33 @@
 -- A FIS of the host keeps what it has open and what the disk is alike.
-use Rattle.std.proofs.Common.{◌≡◌, ℕ, ◌<◌, ◌⊎◌, true, false, Some, None, refl, sym, ap, ◌∙◌, subst, arith, inl, inr}
-use Rattle.std.specs.Prelude.{Option, Bool, nat_lt, ◌==◌, ◌||◌, if◌then◌else◌}
-use Rattle.std.specs.Option.{is_some}
-use Rattle.std.specs.Int.{bit_at}
-use Rattle.std.proofs.lemmas.Bool.{cases_eq, eq-eqb, ne_eqb, lt-ltb, or_left}
-use Rattle.std.proofs.lemmas.List.{get_or-set_same, get_or-set_other}
-use Rattle.block_command.specs.declared.command.Command.{Command}
-use Rattle.block_command.specs.Moments.{IsCommand, Moment, is_queued, opening}
-use Rattle.block_disk.specs.Table.{is_under_way, with_command}
-use Rattle.block_disk.specs.Requests.{with_table}
+use Rattle.std.proofs.{Common.{◌≡◌, ℕ, ◌<◌, ◌⊎◌, true, false, Some, None, refl, sym, ap, ◌∙◌, subst, arith, inl, inr}, lemmas.Bool.{cases_eq, eq-eqb}}
+use Rattle.std.proofs.lemmas.{Bool.{ne_eqb, lt-ltb, or_left}, List.{get_or-set_same, get_or-set_other}}
+use Rattle.std.specs.{Prelude.{Option, Bool, nat_lt, ◌==◌, ◌||◌, if◌then◌else◌}, Option.is_some, Int.bit_at}
+use Rattle.block_command.specs.{declared.command.Command.Command, Moments.{IsCommand, Moment, is_queued, opening}}
+use Rattle.block_disk.specs.{Table.{is_under_way, with_command}, Requests.with_table}
 use Rattle.block_disk.proofs.Door.{each_is}
 use Rattle.block_queue.specs.Line.{IsLine, Line, command_at, line_reset, line_taken, moved_back}
 use Rattle.block_queue.proofs.Door.{of_and}
-use Rattle.block_engine.specs.declared.aside.AsideStage.{AsideStage}
+use Rattle.block_engine.specs.{declared.aside.AsideStage.AsideStage, Engine.{EngineState, line}}
 use Rattle.block_engine.specs.declared.aside.AsideStage.TheVariants as stages
-use Rattle.block_engine.specs.Engine.{EngineState, line}
-use Rattle.ata_reply.specs.declared.reply.Failure.{Failure}
-use Rattle.ata_reply.specs.declared.reply.Reply.{Reply}
+use Rattle.ata_reply.specs.declared.reply.{Failure.Failure, Reply.Reply}
 use Rattle.ata_reply.specs.declared.reply.Reply.TheVariants as replies
-use Rattle.ata_command.specs.Courses.{course, is_error_log, is_queued_free, stands_beside, tag_course}
-use Rattle.ata_command.specs.declared.asked.Asked.{Asked}
+use Rattle.ata_command.specs.{Courses.{course, is_error_log, is_queued_free, stands_beside, tag_course}, declared.asked.{Asked.Asked, Move.Move}}
+use Rattle.ata_command.specs.declared.{asked.{PowerTask.PowerTask, Refusal.Refusal, SmartTask.SmartTask}, control.Course.TheVariants.Refuse}
+use Rattle.ata_command.specs.declared.{control.Course.TheVariants.{AbortAll, Take}, settings.Setting.Setting}
 use Rattle.ata_command.specs.declared.asked.Asked.TheVariants as ask
-use Rattle.ata_command.specs.declared.asked.Move.{Move}
-use Rattle.ata_command.specs.declared.asked.PowerTask.{PowerTask}
 use Rattle.ata_command.specs.declared.asked.PowerTask.TheVariants as power
-use Rattle.ata_command.specs.declared.asked.Refusal.{Refusal}
-use Rattle.ata_command.specs.declared.asked.SmartTask.{SmartTask}
 use Rattle.ata_command.specs.declared.asked.SmartTask.TheVariants as smart
-use Rattle.ata_command.specs.declared.control.Course.TheVariants.{Refuse, AbortAll, Take}
 use Rattle.ata_command.specs.declared.control.Standing.TheVariants as stand
-use Rattle.ata_command.specs.declared.settings.Setting.{Setting}
 use Rattle.ata_command.specs.declared.settings.Setting.TheVariants as set'
-use Rattle.ata_front.specs.Fronts.{after_plug, commanded_by, controlled, refused_by, standing, standing_by, taken}
-use Rattle.ata_front.specs.declared.front.Front.{Front}
-use Rattle.ata_front.specs.declared.front.Heard.{Heard}
+use Rattle.ata_front.specs.{Fronts.{after_plug, commanded_by, controlled, refused_by, standing, standing_by, taken}, declared.front.Front.Front}
+use Rattle.ata_front.specs.declared.{front.Heard.Heard, task.{Fault.Fault, Task.Task}}
 use Rattle.ata_front.specs.declared.task.Act.TheVariants as act
-use Rattle.ata_front.specs.declared.task.Fault.{Fault}
-use Rattle.ata_front.specs.declared.task.Task.{Task}
 use Rattle.ata_front.specs.declared.task.Task.TheVariants as tasks
-use Rattle.sata_disk.specs.State.{IsBeside, is_taken, tags_of}
-use Rattle.sata_disk.specs.Hearing.{MayAct, command_unheard, engine_acted}
-use Rattle.sata_disk.specs.declared.unheard.Unheard.{Unheard}
+use Rattle.sata_disk.specs.{State.{IsBeside, is_taken, tags_of}, Hearing.{MayAct, command_unheard, engine_acted}, declared.unheard.Unheard.Unheard}
 use Rattle.sata_disk.specs.declared.unheard.Unheard.TheVariants.{Busy, InReset}
-use Rattle.sata_disk_laws.specs.Once.{ForAnswer, ForEnd, ForLast, ForSignature, Host, IsAccepted, IsRefused, IsSingle, Wait}
-use Rattle.sata_disk_laws.specs.Once.{command_given, control_given, none_open, opened, unheard_of, wait_for, waits_for_nothing}
-use Rattle.sata_disk_laws.proofs.Fits.{IsWhole}
-use Rattle.sata_disk_laws.proofs.Tracks.{FitsPlace, IsPlace, LoneTags, MovesAs, NoTags, OwesAs, SameTags, TagsAs, Tracks, WaitsAs}
+use Rattle.sata_disk_laws.specs.Once.{ForAnswer, ForEnd, ForLast, ForSignature, Host, IsAccepted, IsRefused, IsSingle, Wait, command_given}
+use Rattle.sata_disk_laws.specs.Once.{control_given, none_open, opened, unheard_of, wait_for, waits_for_nothing}
+use Rattle.sata_disk_laws.proofs.{Fits.IsWhole, Tracks.{FitsPlace, IsPlace, LoneTags, MovesAs, NoTags, OwesAs, SameTags, TagsAs, Tracks, WaitsAs}}
 use Rattle.sata_disk_laws.proofs.AskedPlaces.{AskedAt, IsBlock, no_tags}
 
 abbrev pub TracksOf : Host → Heard → EngineState → Type 0

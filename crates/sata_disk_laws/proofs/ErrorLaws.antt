@@ -1,46 +1,25 @@
 -- While an error stands, commands are aborted and the log tells of it.
-use Rattle.std.proofs.Common.{◌≡◌, ℕ, ◌<◌, ◌⊎◌, true, false, drop, Some, None, refl, sym, ap, ◌∙◌, subst, arith, inl, inr}
-use Rattle.std.specs.Prelude.{Option, Bool}
-use Rattle.std.specs.Option.{is_some}
-use Rattle.std.proofs.lemmas.Bool.{cases_lt}
-use Rattle.block_command.specs.declared.command.Stage.{Stage}
-use Rattle.block_command.specs.declared.command.Stage.TheVariants.{Ended}
-use Rattle.block_command.specs.Moments.{Moment, turn_of}
-use Rattle.block_disk.specs.Table.{is_under_way}
-use Rattle.block_disk.specs.Requests.{asks_at, is_request}
+use Rattle.std.proofs.{Common.{◌≡◌, ℕ, ◌<◌, ◌⊎◌, true, false, drop, Some, None, refl, sym, ap, ◌∙◌, subst, arith, inl, inr}, lemmas.Bool.cases_lt}
+use Rattle.std.specs.{Prelude.{Option, Bool}, Option.is_some}
+use Rattle.block_command.specs.{declared.command.Stage.{Stage, TheVariants.Ended}, Moments.{Moment, turn_of}}
+use Rattle.block_disk.specs.{Table.is_under_way, Requests.{asks_at, is_request}}
 use Rattle.block_queue.specs.Line.{Line, command_at, has_bit, may_start_at, starts}
 use Rattle.block_queue.proofs.Door.{of_and}
-use Rattle.block_scheduler.specs.Sets.{IsTagsOf, ends_at, is_end, turn_at}
-use Rattle.block_scheduler.specs.Schedule.{IsNextFis}
+use Rattle.block_scheduler.specs.{Sets.{IsTagsOf, ends_at, is_end, turn_at}, Schedule.IsNextFis}
 use Rattle.block_scheduler.specs.declared.scheduler.NextFis.TheVariants as fis
-use Rattle.block_engine.specs.declared.aside.AsideStage.{AsideStage}
+use Rattle.block_engine.specs.{declared.{aside.AsideStage.AsideStage, request.Request.Request}, Aside.is_waiting, Engine.{EngineState, IsAskedOf}}
 use Rattle.block_engine.specs.declared.aside.AsideStage.TheVariants as stages
-use Rattle.block_engine.specs.declared.request.Request.{Request}
-use Rattle.block_engine.specs.Aside.{is_waiting}
-use Rattle.block_engine.specs.Engine.{EngineState, IsAskedOf}
 use Rattle.block_engine.specs.Laws as engine
 use Rattle.ata_reply.specs.declared.reply.Reply.{Reply}
-use Rattle.ata_front.specs.Fronts.{aborted, is_log_10, owed, page_announced}
-use Rattle.ata_front.specs.declared.task.Fault.{Fault}
+use Rattle.ata_front.specs.{Fronts.{aborted, is_log_10, owed, page_announced}, declared.task.{Fault.Fault, Page.Page, Task.Task}}
 use Rattle.ata_front.specs.declared.task.Owed.TheVariants as owe
-use Rattle.ata_front.specs.declared.task.Page.{Page}
-use Rattle.ata_front.specs.declared.task.Task.{Task}
 use Rattle.ata_front.specs.declared.task.Task.TheVariants as tasks
 use Rattle.disk_pages.specs.declared.log.LogPage as log
-use Rattle.sata_disk.specs.State.{DiskState, IsBeside, commands, is_taken}
-use Rattle.sata_disk.specs.Pages.{IsErrorLog, IsLog}
-use Rattle.sata_disk.specs.Sending.{IsOut}
-use Rattle.sata_disk.specs.declared.out.Out.{Out}
+use Rattle.sata_disk.specs.{State.{DiskState, IsBeside, commands, is_taken}, Pages.{IsErrorLog, IsLog}, Sending.IsOut, declared.out.Out.Out}
 use Rattle.sata_disk.specs.declared.out.Out.TheVariants as out
-use Rattle.sata_disk_laws.specs.Laws.{reached}
-use Rattle.sata_disk_laws.specs.Once.{ForNothing, Host, Wait, host_of, new_host, waits_for_nothing}
-use Rattle.sata_disk_laws.specs.Errors.{AbortedUntilRead, IsOfError, LogTellsOfFailure, Watch, or_fault, watch_in}
-use Rattle.sata_disk_laws.proofs.Answered.{Knows}
-use Rattle.sata_disk_laws.proofs.Calls.{known, sent_is}
-use Rattle.sata_disk_laws.proofs.Commands.{owes_waits}
-use Rattle.sata_disk_laws.proofs.Owed.{not_over}
-use Rattle.sata_disk_laws.proofs.Tracks.{WaitsAs}
-use Rattle.sata_disk_laws.proofs.Watched.{watches_in}
+use Rattle.sata_disk_laws.specs.{Laws.reached, Once.{ForNothing, Host, Wait, host_of, new_host, waits_for_nothing}, Errors.AbortedUntilRead}
+use Rattle.sata_disk_laws.specs.Errors.{IsOfError, LogTellsOfFailure, Watch, or_fault, watch_in}
+use Rattle.sata_disk_laws.proofs.{Answered.Knows, Calls.{known, sent_is}, Commands.owes_waits, Owed.not_over, Tracks.WaitsAs, Watched.watches_in}
 use Rattle.sata_disk_laws.proofs.Watching.{FaultAs, ForError, OwesFault, WatchesOf, not_both, same_page, same_reply}
 
 -- ## A command is aborted

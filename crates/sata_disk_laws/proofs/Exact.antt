@@ -1,44 +1,30 @@
 -- Data of the host come for the queued command that the last DMA Setup FIS named: a command whose Data are on the link has the link.
 use Rattle.std.proofs.Common.{◌≡◌, ℕ, zero, suc, ◌<◌, ◌≤◌, arith, true, false, List, [], ◌∷◌, ◌++◌, drop, Some, None, refl, sym, ap, ◌∙◌, subst}
-use Rattle.std.specs.Prelude.{Option, Bool, Result, Ok, not, is_none, ◌&&◌, ◌||◌, if◌then◌else◌}
 use Rattle.std.proofs.lemmas.Option.{same_Some}
-use Rattle.fis_view.specs.Seen.{seen}
-use Rattle.fis_view.specs.declared.view.Fis.{Fis}
+use Rattle.std.specs.Prelude.{Option, Bool, Result, Ok, not, is_none, ◌&&◌, ◌||◌, if◌then◌else◌}
+use Rattle.fis_view.specs.{Seen.seen, declared.view.{Fis.Fis, FisFault.FisFault}}
 use Rattle.fis_view.specs.declared.view.Fis.TheVariants as view
-use Rattle.fis_view.specs.declared.view.FisFault.{FisFault}
-use Rattle.block_command.specs.declared.command.Command.{Command}
-use Rattle.block_command.specs.declared.command.Stage.{Stage}
-use Rattle.block_command.specs.declared.command.Stage.TheVariants.{Waiting, Load, Store, Flush}
-use Rattle.block_command.specs.Moments.{Moment, turn_of}
-use Rattle.block_command.specs.Laws.{Input, Goes, Comes, Loads, Stores, Flushes, Fails}
+use Rattle.block_command.specs.{declared.command.{Command.Command, Stage.{Stage, TheVariants.{Waiting, Load, Store, Flush}}}, Moments.Moment}
+use Rattle.block_command.specs.{Moments.turn_of, Laws.{Input, Goes, Comes, Loads, Stores, Flushes, Fails}}
 use Rattle.block_disk.specs.Laws as laws
-use Rattle.block_disk.specs.Laws.{shown, wire_after}
-use Rattle.block_disk.specs.Table.{Table, may_go_at, wants_wire, with_input}
-use Rattle.block_disk.specs.Requests.{Queue, asks_at, is_answer, is_request, with_table}
+use Rattle.block_disk.specs.{Laws.{shown, wire_after}, Table.{Table, may_go_at, wants_wire, with_input}, Requests.{Queue, asks_at, is_answer}}
+use Rattle.block_disk.specs.Requests.{is_request, with_table}
 use Rattle.block_disk.proofs.Door.{Held, none_held, stays_held}
 use Rattle.block_queue.specs.Line.{Line, awaits, command_at, first_below, line_gone, line_reset, may_send, may_start_at, or_this, starts}
 use Rattle.block_queue.proofs.Door.{of_and}
-use Rattle.block_scheduler.specs.Sets.{ends_at}
-use Rattle.block_scheduler.specs.Schedule.{Schedule, ends_sent}
-use Rattle.block_engine.specs.Aside.{settled}
-use Rattle.block_engine.specs.declared.aside.AsideStage.{AsideStage}
-use Rattle.block_engine.specs.declared.request.Failure.{Failure}
-use Rattle.block_engine.specs.declared.request.Answer.{Answer}
+use Rattle.block_scheduler.specs.{Sets.ends_at, Schedule.{Schedule, ends_sent}}
+use Rattle.block_engine.specs.{Aside.settled, declared.{aside.AsideStage.AsideStage, request.{Failure.Failure, Answer.Answer, Range.Range}}}
+use Rattle.block_engine.specs.{Engine.{EngineState, answered, done_at, done_of, failed_by, line, loaded_at, place_of}, Laws.{AreHeard, AreSteps}}
+use Rattle.block_engine.specs.Laws.{IsHeard, IsStep, Step, after_step, after_steps}
 use Rattle.block_engine.specs.declared.request.Answer.TheVariants as answers
-use Rattle.block_engine.specs.declared.request.Range.{Range}
-use Rattle.block_engine.specs.Engine.{EngineState, answered, done_at, done_of, failed_by, line, loaded_at, place_of}
 use Rattle.block_engine.specs.Laws as engine
-use Rattle.block_engine.specs.Laws.{AreHeard, AreSteps, IsHeard, IsStep, Step, after_step, after_steps}
 use Rattle.block_engine.proofs.Runs.{found_low}
-use Rattle.ata_front.specs.Fronts.{heard_data}
-use Rattle.ata_front.specs.declared.task.Act.{Act}
+use Rattle.ata_front.specs.{Fronts.heard_data, declared.task.Act.Act}
 use Rattle.ata_front.specs.declared.task.Act.TheVariants as act
-use Rattle.sata_disk.specs.State.{DiskState, commands, data_place, has_link, new_disk, or_single}
-use Rattle.sata_disk.specs.Hearing.{register_told}
-use Rattle.sata_disk.specs.declared.out.Out.{Out}
+use Rattle.sata_disk.specs.{State.{DiskState, commands, data_place, has_link, new_disk, or_single}, Hearing.register_told, declared.out.Out.Out}
 use Rattle.sata_disk.specs.declared.out.Out.TheVariants as out
-use Rattle.sata_disk_laws.specs.Calls.{Call, Hears, Starts, Asks, Answers, Sends, AreCalls, after_call}
-use Rattle.sata_disk_laws.specs.Calls.{act_steps, all_steps, ask_steps, data_steps, fis_steps, out_steps, range_steps, start_steps, steps_of}
+use Rattle.sata_disk_laws.specs.Calls.{Call, Hears, Starts, Asks, Answers, Sends, AreCalls, after_call, act_steps, all_steps, ask_steps, data_steps}
+use Rattle.sata_disk_laws.specs.Calls.{fis_steps, out_steps, range_steps, start_steps, steps_of}
 use Rattle.sata_disk_laws.specs.Laws as wanted
 use Rattle.sata_disk_laws.proofs.Runs.{call_after, call_are, all_are}
 

@@ -1,16 +1,12 @@
 -- What the command of a place keeps at each stage: how much of it moved, and that its Data are whole sectors.
-use Rattle.std.proofs.Common.{◌≡◌, ℕ, ◌+◌, ◌-◌, ◌*◌, ◌<◌, ◌≤◌, true, false, List, [], ◌++◌, length, take, drop, refl, sym, ◌∙◌, subst, arith, inl, inr, ◌⊎◌, length-take-le, length-drop}
+use Rattle.std.proofs.Common.{◌≡◌, ℕ, ◌+◌, ◌-◌, ◌*◌, ◌<◌, ◌≤◌, true, false, List, [], ◌++◌, length, take, drop, refl, sym, ◌∙◌, subst, arith, inl}
+use Rattle.std.proofs.{Common.{inr, ◌⊎◌, length-take-le, length-drop}, lemmas.Bool.{eqb-true, ltb-true, ltb-false}}
 use Rattle.std.specs.Prelude.{Bool, nat_lt, if◌then◌else◌, ◌==◌, ◌&&◌}
-use Rattle.std.proofs.lemmas.Bool.{eqb-true, ltb-true, ltb-false}
-use Rattle.block_command.specs.declared.command.Command.{Command}
-use Rattle.block_command.specs.declared.command.Protocol.{Protocol}
-use Rattle.block_command.specs.declared.command.Protocol.TheVariants.{Pio}
-use Rattle.block_command.specs.declared.command.Stage.{Stage}
-use Rattle.block_command.specs.declared.command.Stage.TheVariants.{Waiting, Load, Loading, SetUpRead, Announce, Sending}
-use Rattle.block_command.specs.declared.command.Stage.TheVariants.{SetUpWrite, Activate, Receiving}
-use Rattle.block_command.specs.declared.command.Stage.TheVariants.{Store, Storing, Flush, Flushing, End, Fail}
-use Rattle.block_command.specs.Moments.{Moment, chunk, data_stage, first_data_stage, is_queued, is_verify, part_count, part_len, read_end, read_on}
-use Rattle.block_command.specs.Laws.{Input, Goes, Loads, Comes, Stores, Flushes, Fails, after}
+use Rattle.block_command.specs.declared.command.{Command.Command, Protocol.{Protocol, TheVariants.Pio}, Stage.{Stage, TheVariants.{Waiting, Load}}}
+use Rattle.block_command.specs.declared.command.Stage.TheVariants.{Loading, SetUpRead, Announce, Sending, SetUpWrite, Activate, Receiving, Store}
+use Rattle.block_command.specs.{declared.command.Stage.TheVariants.{Storing, Flush, Flushing, End, Fail}, Moments.{Moment, chunk, data_stage}}
+use Rattle.block_command.specs.{Moments.{first_data_stage, is_queued, is_verify, part_count, part_len, read_end, read_on}, Laws.{Input, Goes, Loads}}
+use Rattle.block_command.specs.Laws.{Comes, Stores, Flushes, Fails, after}
 use Rattle.block_command.proofs.Door.{at}
 use Rattle.block_queue.proofs.Door.{of_and}
 

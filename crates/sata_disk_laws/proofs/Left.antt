@@ -1,16 +1,12 @@
 -- The sectors that a read by PIO has left: its last PIO Setup FIS is that of the block that ends it.
 use Rattle.std.proofs.Common.{◌≡◌, ℕ, ◌+◌, ◌-◌, ◌*◌, ◌/◌, ◌<◌, ◌≤◌, true, false, List, [], ◌++◌, length, refl, sym, ap, ◌∙◌, arith, inl, inr, subst}
-use Rattle.std.specs.Prelude.{Bool, nat_le, nat_lt, not, if◌then◌else◌, ◌&&◌}
 use Rattle.std.proofs.lemmas.Bool.{cases_Bool, ltb-true, ltb-false, le-leb, lt-leb}
-use Rattle.block_command.specs.declared.command.Command.{Command}
-use Rattle.block_command.specs.declared.command.Protocol.{Protocol}
-use Rattle.block_command.specs.declared.command.Protocol.TheVariants.{Pio, Verify}
-use Rattle.block_command.specs.declared.command.Stage.{Stage}
-use Rattle.block_command.specs.declared.command.Stage.TheVariants.{Waiting, Load, Loading, SetUpRead, Announce, Sending}
-use Rattle.block_command.specs.declared.command.Stage.TheVariants.{SetUpWrite, Activate, Receiving}
-use Rattle.block_command.specs.declared.command.Stage.TheVariants.{Store, Storing, Flush, Flushing, End, Fail}
-use Rattle.block_command.specs.Moments.{Moment, data_stage, first_data_stage, is_ended, is_verify, part_count, part_of, read_end, read_on, turn_of}
-use Rattle.block_command.specs.Laws.{Input, Goes, Loads, Comes, Stores, Flushes, Fails, after}
+use Rattle.std.specs.Prelude.{Bool, nat_le, nat_lt, not, if◌then◌else◌, ◌&&◌}
+use Rattle.block_command.specs.declared.command.{Command.Command, Protocol.{Protocol, TheVariants.{Pio, Verify}}, Stage.{Stage, TheVariants.Waiting}}
+use Rattle.block_command.specs.declared.command.Stage.TheVariants.{Load, Loading, SetUpRead, Announce, Sending, SetUpWrite, Activate, Receiving}
+use Rattle.block_command.specs.{declared.command.Stage.TheVariants.{Store, Storing, Flush, Flushing, End, Fail}, Moments.{Moment, data_stage}}
+use Rattle.block_command.specs.{Moments.{first_data_stage, is_ended, is_verify, part_count, part_of, read_end, read_on, turn_of}, Laws.{Input, Goes}}
+use Rattle.block_command.specs.Laws.{Loads, Comes, Stores, Flushes, Fails, after}
 use Rattle.block_command.proofs.Door.{at}
 use Rattle.block_disk.specs.Requests.{is_fis}
 use Rattle.sata_disk_laws.proofs.Fits.{IsPart, IsWhole, is_pio, next_is, part_some}

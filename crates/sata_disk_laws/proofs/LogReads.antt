@@ -1,24 +1,17 @@
 -- Which commands read the NCQ Command Error log.
-use Rattle.std.proofs.Common.{◌≡◌, ℕ, ◌/◌, ◌%◌, true, false, List, Some, None, refl, ap, ◌∙◌}
+use Rattle.std.proofs.{Common.{◌≡◌, ℕ, ◌/◌, ◌%◌, true, false, List, Some, None, refl, ap, ◌∙◌}, lemmas.Bool.{eqb-true}}
 use Rattle.std.specs.Prelude.{Option, Bool, nat_le, ◌==◌, ◌||◌, ◌&&◌, if◌then◌else◌}
-use Rattle.std.proofs.lemmas.Bool.{eqb-true}
 use Rattle.fis_view.specs.Table.{H2d, Command, Count, field}
 use Rattle.block_command.specs.declared.command.Command as block
 use Rattle.block_queue.proofs.Door.{of_and}
 use Rattle.ata_reply.specs.declared.reply.AtaError.TheVariants.{Aborted}
 use Rattle.ata_command.specs.Asks.{DiskFacts, aborted, asked, asked_by, does_smart, log_page, moved, queued, sets, sets_multiple, transferred_by}
-use Rattle.ata_command.specs.Courses.{is_error_log}
-use Rattle.ata_command.specs.Opcodes.{opcode_of, or_other, transfer_of}
-use Rattle.ata_command.specs.declared.asked.Asked.{Asked}
+use Rattle.ata_command.specs.{Courses.is_error_log, Opcodes.{opcode_of, or_other, transfer_of}, declared.asked.{Asked.Asked, LogPage.LogPage}}
+use Rattle.ata_command.specs.declared.{asked.SmartTask.SmartTask, opcode.Opcode.Opcode, settings.{Multiple.Multiple, Setting.Setting}}
+use Rattle.ata_command.specs.declared.settings.Settings.{Settings}
 use Rattle.ata_command.specs.declared.asked.Asked.TheVariants as ask
-use Rattle.ata_command.specs.declared.asked.LogPage.{LogPage}
-use Rattle.ata_command.specs.declared.asked.SmartTask.{SmartTask}
-use Rattle.ata_command.specs.declared.opcode.Opcode.{Opcode}
 use Rattle.ata_command.specs.declared.opcode.Opcode.TheVariants as code
 use Rattle.ata_command.specs.declared.opcode.Transfer as moves
-use Rattle.ata_command.specs.declared.settings.Multiple.{Multiple}
-use Rattle.ata_command.specs.declared.settings.Setting.{Setting}
-use Rattle.ata_command.specs.declared.settings.Settings.{Settings}
 use Rattle.disk_pages.specs.Logs.{reads_log}
 use Rattle.sata_disk.specs.Hearing.{page_asked, with_logs}
 use Rattle.sata_disk_laws.specs.Errors.{reads_error}

@@ -1,23 +1,15 @@
 -- The ends of queued commands go together.
 use Rattle.std.proofs.Common.{◌≡◌, ℕ, zero, suc, ◌<◌, ◌≤◌, ◌⊎◌, true, false, List, get_or, set, Some, None, refl, sym, ap, ◌∙◌, arith, inl, inr}
-use Rattle.std.specs.Prelude.{Option, Bool, is_none, ◌&&◌, if◌then◌else◌}
-use Rattle.std.specs.Option.{option_map}
-use Rattle.std.proofs.lemmas.Bool.{and_from, cases_Bool, cases_eq}
-use Rattle.std.proofs.lemmas.List.{get_or-set_same, get_or-set_other}
-use Rattle.block_command.specs.declared.command.Command.{Command}
-use Rattle.block_command.specs.declared.command.Stage.{Stage}
-use Rattle.block_command.specs.declared.command.Stage.TheVariants.{End}
-use Rattle.block_command.specs.Moments.{Moment, is_queued, turn_of}
-use Rattle.block_command.specs.Laws.{Goes, after}
+use Rattle.std.proofs.lemmas.{Bool.{and_from, cases_Bool, cases_eq}, List.{get_or-set_same, get_or-set_other}}
+use Rattle.std.specs.{Prelude.{Option, Bool, is_none, ◌&&◌, if◌then◌else◌}, Option.option_map}
+use Rattle.block_command.specs.{declared.command.{Command.Command, Stage.{Stage, TheVariants.End}}, Moments.{Moment, is_queued, turn_of}, Laws.Goes}
+use Rattle.block_command.specs.Laws.{after}
 use Rattle.block_command.proofs.Door.{at}
-use Rattle.block_disk.specs.Table.{Table, is_under_way, may_go_at, wire_with}
-use Rattle.block_disk.specs.Requests.{sends_at}
+use Rattle.block_disk.specs.{Table.{Table, is_under_way, may_go_at, wire_with}, Requests.sends_at}
 use Rattle.block_queue.specs.Line.{IsLine, Line, command_at, line_gone, may_send}
 use Rattle.block_queue.proofs.Door.{of_and}
-use Rattle.block_scheduler.specs.Sets.{ends_at, is_end, turn_at}
-use Rattle.block_scheduler.specs.Schedule.{ends_sent}
-use Rattle.sata_disk_laws.proofs.Left.{and_none}
-use Rattle.sata_disk_laws.proofs.Silent.{ends_line}
+use Rattle.block_scheduler.specs.{Sets.{ends_at, is_end, turn_at}, Schedule.ends_sent}
+use Rattle.sata_disk_laws.proofs.{Left.and_none, Silent.ends_line}
 
 pub record AreEnded (l k : Line) (n : ℕ) : Type 0 where
   pub ended : (q : ℕ) → q < 33 → q < n → ends_at l q ≡ true → command_at k q ≡ option_map (λ m. after m Goes) (command_at l q)

@@ -1,31 +1,22 @@
 -- What a disk owes of itself is due to its host.
-use Rattle.std.proofs.Common.{◌≡◌, ℕ, true, false, List, Some, None, refl, sym, ap, ◌∙◌, subst, inl}
-use Rattle.std.specs.Prelude.{Option, Bool, not, ◌==◌}
-use Rattle.std.specs.Option.{is_some}
-use Rattle.std.proofs.lemmas.Bool.{and_right}
+use Rattle.std.proofs.{Common.{◌≡◌, ℕ, true, false, List, Some, None, refl, sym, ap, ◌∙◌, subst, inl}, lemmas.Bool.and_right}
+use Rattle.std.specs.{Prelude.{Option, Bool, not, ◌==◌}, Option.is_some}
 use Rattle.block_disk.specs.Table.{is_under_way}
 use Rattle.block_queue.specs.Line.{IsLine, Line, command_at}
-use Rattle.block_engine.specs.declared.aside.AsideStage.{AsideStage}
+use Rattle.block_engine.specs.{declared.{aside.AsideStage.AsideStage, request.Range.Range}, Aside.is_over}
 use Rattle.block_engine.specs.declared.aside.AsideStage.TheVariants as stages
-use Rattle.block_engine.specs.declared.request.Range.{Range}
-use Rattle.block_engine.specs.Aside.{is_over}
 use Rattle.ata_command.specs.declared.settings.Settings.{Settings}
 use Rattle.ata_reply.specs.declared.reply.Reply.{Reply}
 use Rattle.ata_reply.specs.declared.reply.Reply.TheVariants as replies
-use Rattle.ata_front.specs.Fronts.{beside_sent, heard_data, over, owed, said_by}
-use Rattle.ata_front.specs.declared.front.Front.{Front}
-use Rattle.ata_front.specs.declared.task.Fault.{Fault}
+use Rattle.ata_front.specs.{Fronts.{beside_sent, heard_data, over, owed, said_by}, declared.{front.Front.Front, task.{Fault.Fault, Page.Page}}}
+use Rattle.ata_front.specs.declared.task.{Task.Task, Trouble.Trouble}
 use Rattle.ata_front.specs.declared.task.Owed.TheVariants as owe
-use Rattle.ata_front.specs.declared.task.Page.{Page}
-use Rattle.ata_front.specs.declared.task.Task.{Task}
 use Rattle.ata_front.specs.declared.task.Task.TheVariants as tasks
-use Rattle.ata_front.specs.declared.task.Trouble.{Trouble}
-use Rattle.sata_disk.specs.State.{DiskState, IsBeside, commands, data_place}
-use Rattle.sata_disk.specs.Hearing.{data_by, discarding}
-use Rattle.sata_disk_laws.specs.Once.{ForEnd, ForLast, ForNothing, Host, IsDue, IsFilling, IsRefused, IsSingle, Wait, data_got, data_got_by, is_for_data, none_open, reply_got, single_over}
-use Rattle.sata_disk_laws.proofs.Quiet.{heard_quiet}
-use Rattle.sata_disk_laws.proofs.Runs.{place_low}
-use Rattle.sata_disk_laws.proofs.Tracks.{LoneTags, NoTags, OwedTags, OwesAs, SameTags, TagsAs, Tracks, WaitsAs, quiet_tracks}
+use Rattle.sata_disk.specs.{State.{DiskState, IsBeside, commands, data_place}, Hearing.{data_by, discarding}}
+use Rattle.sata_disk_laws.specs.Once.{ForEnd, ForLast, ForNothing, Host, IsDue, IsFilling, IsRefused, IsSingle, Wait, data_got, data_got_by}
+use Rattle.sata_disk_laws.specs.Once.{is_for_data, none_open, reply_got, single_over}
+use Rattle.sata_disk_laws.proofs.{Quiet.heard_quiet, Runs.place_low, Tracks.{LoneTags, NoTags, OwedTags, OwesAs, SameTags, TagsAs, Tracks, WaitsAs}}
+use Rattle.sata_disk_laws.proofs.Tracks.{quiet_tracks}
 
 -- ## The host waits for nothing any more
 

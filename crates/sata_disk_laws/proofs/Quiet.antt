@@ -1,23 +1,15 @@
 -- What no FIS of the disk tells: each place is as it was, or what it was given changes nothing that its host sees.
 use Rattle.std.proofs.Common.{◌≡◌, ℕ, ◌<◌, true, false, List, length, get_or, set, Some, None, refl, sym, ap, ◌∙◌, arith, inl, inr}
-use Rattle.std.specs.Prelude.{Option, Bool, if◌then◌else◌}
-use Rattle.std.specs.Option.{option_map}
-use Rattle.std.proofs.lemmas.Bool.{cases_eq}
-use Rattle.std.proofs.lemmas.List.{get_or-set_same, get_or-set_other}
-use Rattle.block_command.specs.declared.command.Stage.{Stage}
-use Rattle.block_command.specs.declared.command.Stage.TheVariants.{Waiting, Load, Store, Flush}
-use Rattle.block_command.specs.Moments.{Moment, turn_of}
-use Rattle.block_command.specs.Laws.{Input, Goes, Comes, Loads, Stores, Flushes, Fails, after}
-use Rattle.block_disk.specs.Requests.{asks, asks_at, is_answer, is_request, with_asked, with_table}
-use Rattle.block_disk.specs.Table.{with_input}
+use Rattle.std.proofs.lemmas.{Bool.cases_eq, List.{get_or-set_same, get_or-set_other}}
+use Rattle.std.specs.{Prelude.{Option, Bool, if◌then◌else◌}, Option.option_map}
+use Rattle.block_command.specs.{declared.command.Stage.{Stage, TheVariants.{Waiting, Load, Store, Flush}}, Moments.{Moment, turn_of}, Laws.Input}
+use Rattle.block_command.specs.Laws.{Goes, Comes, Loads, Stores, Flushes, Fails, after}
+use Rattle.block_disk.specs.{Requests.{asks, asks_at, is_answer, is_request, with_asked, with_table}, Table.with_input}
 use Rattle.block_queue.specs.Line.{IsLine, Line, awaits, command_at, line_answered, line_gone, may_start, may_start_at, starts, with_queue}
 use Rattle.block_queue.proofs.Door.{of_and}
-use Rattle.block_engine.specs.declared.aside.AsideStage.{AsideStage}
-use Rattle.block_engine.specs.declared.request.Answer.{Answer}
+use Rattle.block_engine.specs.{declared.{aside.AsideStage.AsideStage, request.{Answer.Answer, Failure.Failure}}, Aside.settled, Engine.EngineState}
+use Rattle.block_engine.specs.Engine.{answered, done_at, done_of, failed_by, line, loaded_at, place_of}
 use Rattle.block_engine.specs.declared.request.Answer.TheVariants as answers
-use Rattle.block_engine.specs.declared.request.Failure.{Failure}
-use Rattle.block_engine.specs.Aside.{settled}
-use Rattle.block_engine.specs.Engine.{EngineState, answered, done_at, done_of, failed_by, line, loaded_at, place_of}
 use Rattle.sata_disk_laws.proofs.Left.{is_quiet}
 use Rattle.block_engine.proofs.Runs.{found_low}
 

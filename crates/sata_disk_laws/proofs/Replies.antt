@@ -1,15 +1,9 @@
 -- The FIS of each command is due to its host, and keeps host and disk alike.
-use Rattle.std.proofs.Common.{◌≡◌, ℕ, ◌*◌, ◌/◌, ◌<◌, true, false, List, length, Some, refl, sym, ap, ◌∙◌, subst, inr}
-use Rattle.std.specs.Prelude.{Bool, nat_le, nat_lt, not, ◌&&◌, if◌then◌else◌}
-use Rattle.std.specs.Option.{option_map}
-use Rattle.std.proofs.lemmas.Bool.{lt-ltb}
-use Rattle.block_command.specs.declared.command.Command.{Command}
-use Rattle.block_command.specs.declared.command.Protocol.{Protocol}
-use Rattle.block_command.specs.declared.command.Protocol.TheVariants.{Queued, Pio}
-use Rattle.block_command.specs.declared.command.Stage.{Stage}
+use Rattle.std.proofs.{Common.{◌≡◌, ℕ, ◌*◌, ◌/◌, ◌<◌, true, false, List, length, Some, refl, sym, ap, ◌∙◌, subst, inr}, lemmas.Bool.{lt-ltb}}
+use Rattle.std.specs.{Prelude.{Bool, nat_le, nat_lt, not, ◌&&◌, if◌then◌else◌}, Option.option_map}
+use Rattle.block_command.specs.declared.command.{Command.Command, Protocol.{Protocol, TheVariants.{Queued, Pio}}, Stage.Stage}
 use Rattle.block_command.specs.declared.command.Stage.TheVariants.{SetUpRead, Announce, Sending, SetUpWrite, Activate, Receiving, End, Fail}
-use Rattle.block_command.specs.Moments.{Moment, is_ended, is_queued, part_of, turn_of}
-use Rattle.block_command.specs.Laws.{Goes, after}
+use Rattle.block_command.specs.{Moments.{Moment, is_ended, is_queued, part_of, turn_of}, Laws.{Goes, after}}
 use Rattle.block_command.proofs.Door.{at}
 use Rattle.block_disk.specs.Table.{is_under_way}
 use Rattle.block_queue.specs.Line.{IsLine, command_at}
@@ -17,17 +11,12 @@ use Rattle.block_queue.proofs.Door.{of_and}
 use Rattle.block_scheduler.specs.Sets.{is_fail, sends_alone, turn_at}
 use Rattle.ata_reply.specs.declared.reply.Reply.{Reply}
 use Rattle.ata_reply.specs.declared.reply.Reply.TheVariants as replies
-use Rattle.ata_front.specs.CommandFis.{asks_by, failure_of, set_up}
+use Rattle.ata_front.specs.{CommandFis.{asks_by, failure_of, set_up}, declared.task.Trouble.Trouble}
 use Rattle.ata_front.specs.declared.task.Task.TheVariants as tasks
-use Rattle.ata_front.specs.declared.task.Trouble.{Trouble}
-use Rattle.sata_disk.specs.State.{DiskState, commands}
-use Rattle.sata_disk.specs.Sending.{command_sent, out_at}
+use Rattle.sata_disk.specs.{State.{DiskState, commands}, Sending.{command_sent, out_at}}
 use Rattle.sata_disk.specs.declared.out.Out.TheVariants as out
 use Rattle.sata_disk_laws.specs.Once.{Host, IsDue, IsOfPlace, IsQueued, Wait, data_got, data_got_by, reply_got}
-use Rattle.sata_disk_laws.proofs.Fits.{is_pio}
-use Rattle.sata_disk_laws.proofs.Left.{last_ends}
-use Rattle.sata_disk_laws.proofs.Speaks.{queued_fails, queued_stays}
-use Rattle.sata_disk_laws.proofs.Tracks.{IsPlace, Tracks}
+use Rattle.sata_disk_laws.proofs.{Fits.is_pio, Left.last_ends, Speaks.{queued_fails, queued_stays}, Tracks.{IsPlace, Tracks}}
 
 -- the disk after the FIS of a place
 abbrev pub SentAs : Host → DiskState → (p n : ℕ) → Type 0

@@ -1,12 +1,9 @@
 -- Rows of the walk along the FISes, worked out.
 use Rattle.std.proofs.Common.{◌≡◌, ℕ, true, false, List, [], ◌∷◌, Some, refl, arith}
 use Rattle.std.specs.Option.{is_some}
-use Rattle.fis_view.specs.Bits.{bits}
-use Rattle.fis_view.specs.Seen.{seen}
-use Rattle.fis_view.specs.Table.{field, places, spelled}
+use Rattle.fis_view.specs.{Bits.bits, Seen.seen, Table.{field, places, spelled}}
 use Rattle.block_queue.specs.Line.{any_below}
-use Rattle.ata_reply.specs.declared.reply.AtaError.TheVariants.{NotFound, Uncorrectable}
-use Rattle.ata_reply.specs.declared.reply.Failure.{Failure}
+use Rattle.ata_reply.specs.declared.reply.{AtaError.TheVariants.{NotFound, Uncorrectable}, Failure.Failure}
 use Rattle.ata_reply.specs.declared.reply.Reply.TheVariants as replies
 use Rattle.ata_front.specs.Fronts.{page_announced}
 use Rattle.ata_front.specs.declared.task.Fault.TheVariants as faults
@@ -14,9 +11,8 @@ use Rattle.ata_front.specs.declared.task.Page.TheVariants as pages
 use Rattle.disk_pages.specs.declared.profile.Profile.{Profile}
 use Rattle.sata_disk.specs.State.{new_disk}
 use Rattle.sata_disk.specs.declared.out.Out.TheVariants as out
-use Rattle.sata_disk_laws.specs.Calls.{Call, Hears, Plugs, Sends}
-use Rattle.sata_disk_laws.specs.Errors.{Watch, new_watch, watch_of}
-use Rattle.sata_disk_laws.specs.Once.{ForAnswer, ForEnd, ForLast, ForNothing, ForSignature, IsDue, host_of, new_host, none_open}
+use Rattle.sata_disk_laws.specs.{Calls.{Call, Hears, Plugs, Sends}, Errors.{Watch, new_watch, watch_of}, Once.{ForAnswer, ForEnd, ForLast}}
+use Rattle.sata_disk_laws.specs.Once.{ForNothing, ForSignature, IsDue, host_of, new_host, none_open}
 
 -- a Register FIS of these first bytes and this Count
 abbrev fis : (flags code count : ℕ) → (control : ℕ) → List ℕ

@@ -1,28 +1,19 @@
 -- A run of a disk is one of its engine.
 use Rattle.std.proofs.Common.{◌≡◌, ℕ, ◌<◌, ◌⊎◌, arith, true, List, [], ◌∷◌, ◌++◌, drop, Some, None, refl, sym, ap, ◌∙◌, subst}
 use Rattle.std.specs.Prelude.{Option, Result, Ok}
-use Rattle.fis_view.specs.Seen.{seen}
-use Rattle.fis_view.specs.declared.view.Fis.{Fis}
+use Rattle.fis_view.specs.{Seen.seen, declared.view.{Fis.Fis, FisFault.FisFault}}
 use Rattle.fis_view.specs.declared.view.Fis.TheVariants as view
-use Rattle.fis_view.specs.declared.view.FisFault.{FisFault}
 use Rattle.block_disk.specs.Table.{is_under_way}
-use Rattle.block_queue.specs.Line.{Line, command_at}
-use Rattle.block_queue.specs.Deeds.{Goes}
+use Rattle.block_queue.specs.{Line.{Line, command_at}, Deeds.Goes}
 use Rattle.block_engine.specs.declared.aside.AsideStage.TheVariants as stages
-use Rattle.block_engine.specs.declared.request.Range.{Range}
-use Rattle.block_engine.specs.declared.request.Request.{Request}
-use Rattle.block_engine.specs.Engine.{EngineState, IsAskedOf, IsEngineStart, discards, line, none_engaged, started}
+use Rattle.block_engine.specs.{declared.request.{Range.Range, Request.Request}, Engine.{EngineState, IsAskedOf, IsEngineStart, discards, line}}
+use Rattle.block_engine.specs.{Engine.{none_engaged, started}, Laws.{AreSteps, IsStill, Step, after_step, after_steps}}
 use Rattle.block_engine.specs.Laws as engine
-use Rattle.block_engine.specs.Laws.{AreSteps, IsStill, Step, after_step, after_steps}
 use Rattle.block_engine.proofs.Runs.{found_low}
-use Rattle.ata_front.specs.Fronts.{heard_data}
-use Rattle.ata_front.specs.declared.task.Act.{Act}
+use Rattle.ata_front.specs.{Fronts.heard_data, declared.task.{Act.Act, Task.Task}}
 use Rattle.ata_front.specs.declared.task.Act.TheVariants as act
-use Rattle.ata_front.specs.declared.task.Task.{Task}
-use Rattle.sata_disk.specs.State.{DiskState, commands, data_place, has_link, new_disk, or_single}
-use Rattle.sata_disk.specs.Hearing.{MayAct, MayHear, MayRange, data_by, discarding, engine_acted, fis_heard, register_told}
-use Rattle.sata_disk.specs.Sending.{IsOut, after_sent}
-use Rattle.sata_disk.specs.declared.out.Out.{Out}
+use Rattle.sata_disk.specs.{State.{DiskState, commands, data_place, has_link, new_disk, or_single}, Hearing.{MayAct, MayHear, MayRange, data_by}}
+use Rattle.sata_disk.specs.{Hearing.{discarding, engine_acted, fis_heard, register_told}, Sending.{IsOut, after_sent}, declared.out.Out.Out}
 use Rattle.sata_disk.specs.declared.out.Out.TheVariants as out
 use Rattle.sata_disk_laws.specs.Calls.{Call, Plugs, Hears, Starts, Asks, Answers, Sends, IsCall, AreCalls, after_call, after_calls, asked_by}
 use Rattle.sata_disk_laws.specs.Calls.{act_steps, all_steps, ask_steps, data_steps, fis_steps, out_steps, range_steps, start_steps, steps_of}

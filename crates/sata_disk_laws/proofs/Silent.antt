@@ -1,33 +1,26 @@
 -- A silent disk waits for somebody.
-use Rattle.std.proofs.Common.{◌≡◌, ℕ, zero, suc, ◌<◌, ◌≤◌, ◌^◌, ◌⊎◌, inl, inr, arith, true, false, List, [], ◌∷◌, Some, None, refl, sym, ap, ◌∙◌, subst}
+use Rattle.std.proofs.Common.{◌≡◌, ℕ, zero, suc, ◌<◌, ◌≤◌, ◌^◌, ◌⊎◌, inl, inr, arith, true, false, List, [], ◌∷◌, Some, None, refl, sym, ap, ◌∙◌}
+use Rattle.std.proofs.{Common.subst, lemmas.Bool.{ltb-true}}
 use Rattle.std.specs.Prelude.{Option, Bool, not, nat_lt, ◌&&◌, if◌then◌else◌}
-use Rattle.std.proofs.lemmas.Bool.{ltb-true}
-use Rattle.block_command.specs.declared.command.Command.{Command}
-use Rattle.block_command.specs.declared.command.Stage.{Stage}
-use Rattle.block_command.specs.declared.command.Stage.TheVariants.{Waiting, Load, Loading, Announce, Sending, Activate, Receiving, Store, Storing}
-use Rattle.block_command.specs.Moments.{Moment, is_set_up, turn_of}
-use Rattle.block_command.specs.Laws.{Loads, Stores, Flushes, Fails}
+use Rattle.block_command.specs.declared.command.{Command.Command, Stage.{Stage, TheVariants.{Waiting, Load, Loading, Announce, Sending, Activate}}}
+use Rattle.block_command.specs.{declared.command.Stage.TheVariants.{Receiving, Store, Storing}, Moments.{Moment, is_set_up, turn_of}, Laws.Loads}
+use Rattle.block_command.specs.Laws.{Stores, Flushes, Fails}
 use Rattle.block_command.proofs.Door.{at}
-use Rattle.block_disk.specs.Table.{has_wire}
+use Rattle.block_disk.specs.{Table.has_wire, Requests.{is_answer, is_fis}}
 use Rattle.block_disk.specs.Requests as requests
-use Rattle.block_disk.specs.Requests.{is_answer, is_fis}
-use Rattle.block_queue.specs.Line.{IsLine, Line, PassesNowhere, awaits, command_at, line_gone, line_reset, may_send, starts}
+use Rattle.block_queue.specs.{Line.{IsLine, Line, PassesNowhere, awaits, command_at, line_gone, line_reset, may_send, starts}, Deeds.{Goes, MovesAt}}
+use Rattle.block_queue.specs.Deeds.{MayStart, MaySend, MayAsk, CallerOwes, HostOwes, StoreOwed, waits_for_caller, waits_for_host}
 use Rattle.block_queue.specs.Deeds as deed
-use Rattle.block_queue.specs.Deeds.{Goes, MovesAt, MayStart, MaySend, MayAsk, CallerOwes, HostOwes, StoreOwed, waits_for_caller, waits_for_host}
 use Rattle.block_queue.proofs.Door.{line_after, new_line, of_and}
-use Rattle.block_scheduler.specs.Sets.{asks_at, ends_at, is_end, sends_alone, sends_at, turn_at}
-use Rattle.block_scheduler.specs.Schedule.{EndsNowhere, IsNextFis, Schedule, ends_sent}
-use Rattle.block_engine.specs.Aside.{settled}
-use Rattle.block_engine.specs.declared.aside.AsideStage.{AsideStage}
-use Rattle.block_engine.specs.declared.request.Answer.{Answer}
-use Rattle.block_engine.specs.declared.request.Answer.TheVariants as answers
-use Rattle.block_engine.specs.declared.request.Failure.{Failure}
-use Rattle.block_engine.specs.Engine.{AsksNothing, EngineState, answered, discards, done_at, done_of, failed_by, line, loaded_at, none_engaged, place_of}
-use Rattle.block_engine.specs.Laws as engine
+use Rattle.block_scheduler.specs.{Sets.{asks_at, ends_at, is_end, sends_alone, sends_at, turn_at}, Schedule.{EndsNowhere, IsNextFis, Schedule}}
+use Rattle.block_scheduler.specs.Schedule.{ends_sent}
+use Rattle.block_engine.specs.{Aside.settled, declared.{aside.AsideStage.AsideStage, request.{Answer.Answer, Failure.Failure}}, Engine.AsksNothing}
+use Rattle.block_engine.specs.Engine.{EngineState, answered, discards, done_at, done_of, failed_by, line, loaded_at, none_engaged, place_of}
 use Rattle.block_engine.specs.Laws.{AreSteps, IsStep, Step, after_step, after_steps}
+use Rattle.block_engine.specs.declared.request.Answer.TheVariants as answers
+use Rattle.block_engine.specs.Laws as engine
 use Rattle.sata_disk.specs.State.{DiskState, commands, new_disk}
-use Rattle.sata_disk_laws.specs.Calls.{after_calls, all_steps}
-use Rattle.sata_disk_laws.specs.Laws.{IsSilent, Owed, ByCaller, ByHost, OfStore, SilenceIsOwed, reached}
+use Rattle.sata_disk_laws.specs.{Calls.{after_calls, all_steps}, Laws.{IsSilent, Owed, ByCaller, ByHost, OfStore, SilenceIsOwed, reached}}
 use Rattle.sata_disk_laws.proofs.Runs as runs
 use Rattle.sata_disk_laws.proofs.Runs.{all_after, all_are}
 use Rattle.block_engine.proofs.Runs.{found_low}

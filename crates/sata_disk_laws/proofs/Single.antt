@@ -1,37 +1,25 @@
 -- The FIS of the command that moves sectors and is not queued is due to its host.
 use Rattle.std.proofs.Common.{◌≡◌, ℕ, ◌-◌, ◌*◌, ◌/◌, ◌<◌, true, false, List, length, Some, refl, sym, ap, ◌∙◌, subst, arith, inl}
-use Rattle.std.specs.Prelude.{Option, Bool, nat_le, nat_lt, not, ◌==◌, ◌&&◌, if◌then◌else◌}
-use Rattle.std.specs.Option.{option_map}
 use Rattle.std.proofs.lemmas.Bool.{and_right}
-use Rattle.block_command.specs.declared.command.Command.{Command}
-use Rattle.block_command.specs.declared.command.Protocol.{Protocol}
-use Rattle.block_command.specs.declared.command.Protocol.TheVariants.{Pio}
-use Rattle.block_command.specs.declared.command.Stage.{Stage}
-use Rattle.block_command.specs.declared.command.Stage.TheVariants.{SetUpRead, Announce, Sending, SetUpWrite, Activate, End, Fail}
-use Rattle.block_command.specs.Moments.{Moment, is_ended, part_of}
-use Rattle.block_command.specs.Laws.{Goes, after}
+use Rattle.std.specs.{Prelude.{Option, Bool, nat_le, nat_lt, not, ◌==◌, ◌&&◌, if◌then◌else◌}, Option.option_map}
+use Rattle.block_command.specs.declared.command.{Command.Command, Protocol.{Protocol, TheVariants.Pio}, Stage.{Stage, TheVariants.SetUpRead}}
+use Rattle.block_command.specs.{declared.command.Stage.TheVariants.{Announce, Sending, SetUpWrite, Activate, End, Fail}, Moments.{Moment, is_ended}}
+use Rattle.block_command.specs.{Moments.part_of, Laws.{Goes, after}}
 use Rattle.block_command.proofs.Door.{at}
 use Rattle.block_disk.specs.Table.{is_under_way}
 use Rattle.block_queue.specs.Line.{IsLine, Line, command_at, line_gone}
 use Rattle.block_engine.specs.declared.aside.AsideStage.{AsideStage}
 use Rattle.ata_reply.specs.declared.reply.Reply.{Reply}
 use Rattle.ata_reply.specs.declared.reply.Reply.TheVariants as replies
-use Rattle.ata_front.specs.CommandFis.{announced_read, asks_by, failure_of}
-use Rattle.ata_front.specs.Fronts.{task_less}
-use Rattle.ata_front.specs.declared.front.Front.{Front}
-use Rattle.ata_front.specs.declared.task.Moving.{Moving}
-use Rattle.ata_front.specs.declared.task.Task.{Task}
+use Rattle.ata_front.specs.{CommandFis.{announced_read, asks_by, failure_of}, Fronts.task_less, declared.{front.Front.Front, task.Moving.Moving}}
+use Rattle.ata_front.specs.declared.task.{Task.Task, Trouble.Trouble}
 use Rattle.ata_front.specs.declared.task.Task.TheVariants as tasks
-use Rattle.ata_front.specs.declared.task.Trouble.{Trouble}
-use Rattle.sata_disk.specs.State.{DiskState, IsBeside, commands, is_taken}
-use Rattle.sata_disk.specs.Sending.{moving_of, out_at, single_front, trouble_at}
+use Rattle.sata_disk.specs.{State.{DiskState, IsBeside, commands, is_taken}, Sending.{moving_of, out_at, single_front, trouble_at}}
 use Rattle.sata_disk.specs.declared.out.Out.TheVariants as out
-use Rattle.sata_disk_laws.specs.Once.{ForEnd, ForLast, ForNothing, Host, IsFilling, IsSingle, Wait, announced, data_got, data_got_by, is_for_data, none_open, single_over}
-use Rattle.sata_disk_laws.proofs.Left.{CountsAt, is_last, last_ends, sending_counts, sending_last}
-use Rattle.sata_disk_laws.proofs.Owed.{single_refused}
-use Rattle.sata_disk_laws.proofs.Replies.{IsGood, SentAs, by_reply}
-use Rattle.sata_disk_laws.proofs.Speaks.{IsGone, gone_fits, gone_is}
-use Rattle.sata_disk_laws.proofs.Tracks.{IsPlace, LoneTags, MovesAs, TagsAs, Tracks, WaitsAs}
+use Rattle.sata_disk_laws.specs.Once.{ForEnd, ForLast, ForNothing, Host, IsFilling, IsSingle, Wait, announced, data_got, data_got_by, is_for_data}
+use Rattle.sata_disk_laws.specs.Once.{none_open, single_over}
+use Rattle.sata_disk_laws.proofs.{Left.{CountsAt, is_last, last_ends, sending_counts, sending_last}, Owed.single_refused, Replies.{IsGood, SentAs}}
+use Rattle.sata_disk_laws.proofs.{Replies.by_reply, Speaks.{IsGone, gone_fits, gone_is}, Tracks.{IsPlace, LoneTags, MovesAs, TagsAs, Tracks, WaitsAs}}
 
 -- ## Its task
 

@@ -1,28 +1,18 @@
 -- The FIS of a command is due to its host: the queued ones.
-use Rattle.std.proofs.Common.{◌≡◌, ℕ, ◌<◌, true, false, Some, None, refl, sym, ap, ◌∙◌, subst, arith, inl, inr}
-use Rattle.std.specs.Prelude.{Option, Bool, nat_lt, not, ◌&&◌, if◌then◌else◌}
-use Rattle.std.specs.Option.{option_map}
-use Rattle.std.proofs.lemmas.Bool.{and_right, cases_eq, lt-ltb}
-use Rattle.std.proofs.lemmas.List.{get_or-set_same, get_or-set_other}
-use Rattle.block_command.specs.Moments.{Moment}
-use Rattle.block_command.specs.Laws.{Goes, after}
+use Rattle.std.proofs.{Common.{◌≡◌, ℕ, ◌<◌, true, false, Some, None, refl, sym, ap, ◌∙◌, subst, arith, inl, inr}, lemmas.Bool.{and_right, cases_eq}}
+use Rattle.std.proofs.lemmas.{Bool.{lt-ltb}, List.{get_or-set_same, get_or-set_other}}
+use Rattle.std.specs.{Prelude.{Option, Bool, nat_lt, not, ◌&&◌, if◌then◌else◌}, Option.option_map}
+use Rattle.block_command.specs.{Moments.Moment, Laws.{Goes, after}}
 use Rattle.block_disk.specs.Table.{is_under_way}
 use Rattle.block_queue.specs.Line.{IsLine, Line, command_at, line_gone, line_reset}
-use Rattle.block_scheduler.specs.Sets.{is_fail, sends_at, turn_at}
-use Rattle.block_scheduler.specs.Schedule.{IsNextFis, Schedule, ends_all, line_sent}
+use Rattle.block_scheduler.specs.{Sets.{is_fail, sends_at, turn_at}, Schedule.{IsNextFis, Schedule, ends_all, line_sent}}
 use Rattle.block_scheduler.specs.declared.scheduler.NextFis.TheVariants as fis
-use Rattle.block_engine.specs.declared.aside.AsideStage.{AsideStage}
-use Rattle.block_engine.specs.Engine.{line}
-use Rattle.ata_front.specs.Fronts.{owed, queued_failed}
-use Rattle.ata_front.specs.declared.front.Front.{Front}
-use Rattle.ata_front.specs.declared.task.Task.{Task}
+use Rattle.block_engine.specs.{declared.aside.AsideStage.AsideStage, Engine.line}
+use Rattle.ata_front.specs.{Fronts.{owed, queued_failed}, declared.{front.Front.Front, task.{Task.Task, Trouble.Trouble}}}
 use Rattle.ata_front.specs.declared.task.Task.TheVariants as tasks
-use Rattle.ata_front.specs.declared.task.Trouble.{Trouble}
-use Rattle.sata_disk.specs.State.{DiskState, commands, is_taken}
-use Rattle.sata_disk.specs.Sending.{command_sent, front_sent, place_sent, single_front, trouble_at}
+use Rattle.sata_disk.specs.{State.{DiskState, commands, is_taken}, Sending.{command_sent, front_sent, place_sent, single_front, trouble_at}}
 use Rattle.sata_disk_laws.specs.Once.{ForNothing, Host, IsQueued, none_open}
-use Rattle.sata_disk_laws.proofs.Commands.{none_alive, none_fits}
-use Rattle.sata_disk_laws.proofs.Tracks.{FitsPlace, TagsAs, Tracks, WaitsAs, fits_then, tags_as}
+use Rattle.sata_disk_laws.proofs.{Commands.{none_alive, none_fits}, Tracks.{FitsPlace, TagsAs, Tracks, WaitsAs, fits_then, tags_as}}
 
 -- ## A FIS of a command goes
 

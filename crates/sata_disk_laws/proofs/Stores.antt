@@ -1,28 +1,22 @@
 -- The bytes of a store are Data that came for its command: at each place the page of the books agrees with the command.
-use Rattle.std.proofs.Common.{◌≡◌, ℕ, zero, suc, ◌<◌, ◌≤◌, true, false, List, [], ◌∷◌, ◌++◌, length, Some, None, refl, sym, ap, ◌∙◌, subst, arith, inl, inr}
+use Rattle.std.proofs.Common.{◌≡◌, ℕ, zero, suc, ◌<◌, ◌≤◌, true, false, List, [], ◌∷◌, ◌++◌, length, Some, None, refl, sym, ap, ◌∙◌, subst, arith}
+use Rattle.std.proofs.Common.{inl, inr}
 use Rattle.std.specs.Prelude.{Option, Bool, map, if◌then◌else◌}
-use Rattle.block_command.specs.declared.command.Command.{Command}
-use Rattle.block_command.specs.declared.command.Stage.{Stage}
-use Rattle.block_command.specs.declared.command.Stage.TheVariants.{Store}
-use Rattle.block_command.specs.Moments.{Moment}
-use Rattle.block_command.specs.Laws.{Goes, Ledger, happening}
+use Rattle.block_command.specs.{declared.command.{Command.Command, Stage.{Stage, TheVariants.Store}}, Moments.Moment, Laws.{Goes, Ledger, happening}}
 use Rattle.block_command.proofs.Door.{Agrees, at}
 use Rattle.block_disk.specs.Table as table
-use Rattle.block_disk.specs.Laws.{Page, at_page, shown_at}
-use Rattle.block_disk.specs.Requests.{Act, Asked, Books, Queue, AreActs, Asks, after_act, entered_by, no_books, none_queued, seen, seen_by}
+use Rattle.block_disk.specs.{Laws.{Page, at_page, shown_at}, Requests.{Act, Asked, Books, Queue, AreActs, Asks, after_act, entered_by, no_books}}
+use Rattle.block_disk.specs.Requests.{none_queued, seen, seen_by}
 use Rattle.block_disk.proofs.Door.{Agree, Matches, kept_none, one}
 use Rattle.block_queue.specs.Deeds as deed
-use Rattle.block_queue.specs.Deeds.{Deed, act_of}
-use Rattle.block_queue.specs.Line.{Line}
-use Rattle.block_scheduler.specs.Schedule.{Schedule, none_scheduled}
+use Rattle.block_queue.specs.{Deeds.{Deed, act_of}, Line.Line}
+use Rattle.block_scheduler.specs.{Schedule.{Schedule, none_scheduled}, Laws.{AreMoves, IsMove, Move, after_move, after_moves, all_deeds, deeds_in}}
+use Rattle.block_scheduler.specs.Laws.{deeds_of, ends_deeds}
 use Rattle.block_scheduler.specs.Laws as move
-use Rattle.block_scheduler.specs.Laws.{AreMoves, IsMove, Move, after_move, after_moves, all_deeds, deeds_in, deeds_of, ends_deeds}
-use Rattle.block_engine.specs.Engine.{EngineState, none_engaged}
-use Rattle.block_engine.specs.Laws.{AreSteps, Step, after_step, all_moves, moves_in, moves_of}
+use Rattle.block_engine.specs.{Engine.{EngineState, none_engaged}, Laws.{AreSteps, Step, after_step, all_moves, moves_in, moves_of}}
 use Rattle.block_engine.proofs.Runs.{moved, step_are}
 use Rattle.sata_disk.specs.State.{new_disk}
-use Rattle.sata_disk_laws.specs.Laws.{NumbersAreFresh, steps_in}
-use Rattle.sata_disk_laws.specs.Stores.{AreStoresHeard, IsStoreHeard, IsWhatCame, PageHas, StoresAreHeard}
+use Rattle.sata_disk_laws.specs.{Laws.{NumbersAreFresh, steps_in}, Stores.{AreStoresHeard, IsStoreHeard, IsWhatCame, PageHas, StoresAreHeard}}
 use Rattle.sata_disk_laws.proofs.Runs.{all_are}
 
 -- ## One command

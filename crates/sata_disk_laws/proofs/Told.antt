@@ -1,27 +1,18 @@
 -- Each FIS says what the account has.
 use Rattle.std.proofs.Common.{◌≡◌, ℕ, ◌<◌, true, false, List, drop, Some, None, refl, sym, ap, ◌∙◌, subst}
 use Rattle.std.specs.Prelude.{Option, Bool, if◌then◌else◌}
-use Rattle.block_command.specs.declared.command.Command.{Command}
-use Rattle.block_command.specs.declared.command.Protocol.{Protocol}
-use Rattle.block_command.specs.declared.command.Protocol.TheVariants.{Queued}
-use Rattle.block_command.specs.declared.command.Stage.{Stage}
-use Rattle.block_command.specs.declared.command.Stage.TheVariants.{SetUpRead, Announce, Sending, SetUpWrite, Activate, End, Fail}
-use Rattle.block_command.specs.Moments.{Moment, turn_of}
+use Rattle.block_command.specs.declared.command.{Command.Command, Protocol.{Protocol, TheVariants.Queued}, Stage.{Stage, TheVariants.SetUpRead}}
+use Rattle.block_command.specs.{declared.command.Stage.TheVariants.{Announce, Sending, SetUpWrite, Activate, End, Fail}, Moments.{Moment, turn_of}}
 use Rattle.block_command.specs.Laws.{Goes, SentActivate, SentData, SentEnd, SentError}
 use Rattle.block_command.proofs.Door.{at}
 use Rattle.block_disk.specs.Laws.{At, shown_at}
 use Rattle.block_queue.specs.Line.{command_at, has_bit}
-use Rattle.block_scheduler.specs.Sets.{is_end, turn_at}
-use Rattle.block_scheduler.specs.Schedule.{IsNextFis}
+use Rattle.block_scheduler.specs.{Sets.{is_end, turn_at}, Schedule.IsNextFis}
 use Rattle.block_scheduler.specs.declared.scheduler.NextFis.TheVariants as fis
-use Rattle.ata_reply.specs.Replies.{Carries}
-use Rattle.ata_reply.specs.declared.reply.AtaError.{AtaError}
-use Rattle.ata_reply.specs.declared.reply.Failure.{Failure}
-use Rattle.ata_reply.specs.declared.reply.Reply.{Reply}
+use Rattle.ata_reply.specs.{Replies.Carries, declared.reply.{AtaError.AtaError, Failure.Failure, Reply.Reply}}
 use Rattle.ata_reply.specs.declared.reply.Reply.TheVariants as replies
 use Rattle.ata_front.specs.CommandFis.{asks_by}
-use Rattle.sata_disk.specs.State.{DiskState, commands}
-use Rattle.sata_disk.specs.Sending.{out_at, part_at}
+use Rattle.sata_disk.specs.{State.{DiskState, commands}, Sending.{out_at, part_at}}
 use Rattle.sata_disk.specs.declared.out.Out.TheVariants as out
 use Rattle.sata_disk_laws.specs.Told.{FisesAreTold, happens, sent_at}
 

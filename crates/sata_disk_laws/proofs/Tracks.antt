@@ -1,23 +1,19 @@
 -- What its host has open, and what a disk is: each call keeps them alike.
 use Rattle.std.proofs.Common.{◌≡◌, ℕ, ◌<◌, true, false, Some, None, refl, sym, ap, ◌∙◌, subst, arith}
-use Rattle.std.specs.Prelude.{Option, nat_lt, not, if◌then◌else◌}
-use Rattle.std.specs.Option.{is_some, option_map}
-use Rattle.block_command.specs.Moments.{Moment, is_ended, is_queued}
-use Rattle.block_command.specs.Laws.{Input, after}
+use Rattle.std.specs.{Prelude.{Option, nat_lt, not, if◌then◌else◌}, Option.{is_some, option_map}}
+use Rattle.block_command.specs.{Moments.{Moment, is_ended, is_queued}, Laws.{Input, after}}
 use Rattle.block_command.proofs.Door.{same_command}
 use Rattle.block_disk.specs.Table.{is_under_way}
 use Rattle.block_queue.specs.Line.{Line, command_at}
 use Rattle.block_engine.specs.declared.aside.AsideStage.{AsideStage}
 use Rattle.ata_reply.specs.declared.reply.Reply.{Reply}
 use Rattle.ata_reply.specs.declared.reply.Reply.TheVariants as replies
-use Rattle.ata_front.specs.declared.front.Front.{Front}
-use Rattle.ata_front.specs.declared.task.Task.{Task}
+use Rattle.ata_front.specs.declared.{front.Front.Front, task.Task.Task}
 use Rattle.ata_front.specs.declared.task.Task.TheVariants as tasks
 use Rattle.sata_disk.specs.State.{IsBeside, is_taken}
 use Rattle.sata_disk_laws.specs.Once.{ForEnd, ForLast, ForNothing, ForSignature, Host, IsAccepted, IsRefused, IsSingle}
-use Rattle.sata_disk_laws.proofs.Fits.{FitsAt, IsWhole, fits_after}
-use Rattle.sata_disk_laws.proofs.Left.{CountsAt, is_last, quiet_counts, quiet_ended, quiet_last}
-use Rattle.sata_disk_laws.proofs.Quiet.{AreQuiet, Given, Quiet, Same, is_quiet_at}
+use Rattle.sata_disk_laws.proofs.{Fits.{FitsAt, IsWhole, fits_after}, Left.{CountsAt, is_last, quiet_counts, quiet_ended, quiet_last}, Quiet.AreQuiet}
+use Rattle.sata_disk_laws.proofs.Quiet.{Given, Quiet, Same, is_quiet_at}
 
 -- ## One place
 

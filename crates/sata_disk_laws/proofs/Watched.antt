@@ -1,67 +1,42 @@
 -- The error that stands by the FISes is that of the front, over every run.
-use Rattle.std.proofs.Common.{◌≡◌, ℕ, ◌/◌, ◌<◌, true, false, List, [], ◌∷◌, ◌++◌, drop, get_or, Some, None, refl, sym, ap, ◌∙◌, subst, arith, inl, inr}
-use Rattle.std.specs.Prelude.{Option, Bool, Result, Ok, not, nat_lt, ◌&&◌, if◌then◌else◌}
-use Rattle.std.specs.Option.{is_some}
-use Rattle.std.proofs.lemmas.Bool.{and_right, cases_lt, lt-ltb}
-use Rattle.fis_view.specs.Seen.{seen}
-use Rattle.fis_view.specs.declared.view.Fis.{Fis}
+use Rattle.std.proofs.Common.{◌≡◌, ℕ, ◌/◌, ◌<◌, true, false, List, [], ◌∷◌, ◌++◌, drop, get_or, Some, None, refl, sym, ap, ◌∙◌, subst, arith, inl}
+use Rattle.std.proofs.{Common.inr, lemmas.Bool.{and_right, cases_lt, lt-ltb}}
+use Rattle.std.specs.{Prelude.{Option, Bool, Result, Ok, not, nat_lt, ◌&&◌, if◌then◌else◌}, Option.is_some}
+use Rattle.fis_view.specs.{Seen.seen, declared.view.{Fis.Fis, FisFault.FisFault}}
 use Rattle.fis_view.specs.declared.view.Fis.TheVariants as view
-use Rattle.fis_view.specs.declared.view.FisFault.{FisFault}
-use Rattle.block_command.specs.declared.command.Stage.{Stage}
-use Rattle.block_command.specs.declared.command.Command.{Command}
-use Rattle.block_command.specs.declared.command.Stage.TheVariants.{Activate, Announce, End, Fail, SetUpRead, SetUpWrite}
-use Rattle.block_command.specs.declared.command.Protocol.{Protocol}
+use Rattle.block_command.specs.declared.command.{Stage.{Stage, TheVariants.{Activate, Announce, End, Fail, SetUpRead, SetUpWrite}}, Command.Command}
+use Rattle.block_command.specs.{declared.command.Protocol.Protocol, Moments.{Moment, turn_of}}
 use Rattle.block_command.specs.declared.command.Protocol.TheVariants as protocol
-use Rattle.block_command.specs.Moments.{Moment, turn_of}
 use Rattle.block_command.proofs.Door.{at}
 use Rattle.block_disk.specs.Table.{is_under_way}
 use Rattle.block_queue.specs.Line.{IsLine, command_at}
 use Rattle.block_queue.proofs.Door.{new_line, of_and}
-use Rattle.block_scheduler.specs.Sets.{is_fail, turn_at}
-use Rattle.block_scheduler.specs.Schedule.{ends_all}
-use Rattle.block_engine.specs.declared.aside.AsideStage.{AsideStage}
+use Rattle.block_scheduler.specs.{Sets.{is_fail, turn_at}, Schedule.ends_all}
+use Rattle.block_engine.specs.{declared.{aside.AsideStage.AsideStage, request.Range.Range}, Aside.is_over, Engine.{EngineState, line}, Laws.AreSteps}
+use Rattle.block_engine.specs.Laws.{Step, after_step, after_steps, failure_after, failure_in}
 use Rattle.block_engine.specs.declared.request.Failure as caller
-use Rattle.block_engine.specs.declared.request.Range.{Range}
-use Rattle.block_engine.specs.Aside.{is_over}
-use Rattle.block_engine.specs.Engine.{EngineState, line}
 use Rattle.block_engine.specs.Laws as engine
-use Rattle.block_engine.specs.Laws.{AreSteps, Step, after_step, after_steps, failure_after, failure_in}
-use Rattle.ata_reply.specs.declared.reply.AtaError.{AtaError}
-use Rattle.ata_reply.specs.declared.reply.Failure.{Failure}
-use Rattle.ata_reply.specs.declared.reply.Reply.{Reply}
+use Rattle.ata_reply.specs.declared.reply.{AtaError.AtaError, Failure.Failure, Reply.Reply}
 use Rattle.ata_reply.specs.declared.reply.Reply.TheVariants as replies
 use Rattle.ata_command.specs.Courses.{resets}
-use Rattle.ata_front.specs.CommandFis.{announced_read, asks_by, set_up}
-use Rattle.ata_front.specs.Fronts.{controlled, heard_data, over, owed, task_less}
-use Rattle.ata_front.specs.declared.front.Front.{Front}
-use Rattle.ata_front.specs.declared.task.Fault.{Fault}
-use Rattle.ata_front.specs.declared.task.Fault.TheVariants.{Queued}
-use Rattle.ata_front.specs.declared.task.Moving.{Moving}
-use Rattle.ata_front.specs.declared.task.Task.{Task}
+use Rattle.ata_front.specs.{CommandFis.{announced_read, asks_by, set_up}, Fronts.{controlled, heard_data, over, owed, task_less}}
+use Rattle.ata_front.specs.declared.{front.Front.Front, task.{Fault.{Fault, TheVariants.Queued}, Moving.Moving, Task.Task, Trouble.Trouble}}
 use Rattle.ata_front.specs.declared.task.Task.TheVariants as tasks
-use Rattle.ata_front.specs.declared.task.Trouble.{Trouble}
-use Rattle.disk_pages.specs.Profiles.{facts_of}
-use Rattle.disk_pages.specs.declared.profile.Profile.{Profile}
-use Rattle.sata_disk.specs.State.{DiskState, IsBeside, commands, is_taken, new_disk}
-use Rattle.sata_disk.specs.Hearing.{command_told, data_by, discarding, fis_heard, is_command}
-use Rattle.sata_disk.specs.Sending.{IsCommandOut, IsOut, after_sent, front_sent, is_done, moving_of, out_at, place_sent, single_front, trouble_at, trouble_by}
-use Rattle.sata_disk.specs.declared.out.Out.{Out}
+use Rattle.disk_pages.specs.{Profiles.facts_of, declared.profile.Profile.Profile}
+use Rattle.sata_disk.specs.{State.{DiskState, IsBeside, commands, is_taken, new_disk}, Hearing.{command_told, data_by, discarding, fis_heard}}
+use Rattle.sata_disk.specs.{Hearing.is_command, Sending.{IsCommandOut, IsOut, after_sent, front_sent, is_done, moving_of, out_at, place_sent}}
+use Rattle.sata_disk.specs.{Sending.{single_front, trouble_at, trouble_by}, declared.out.Out.Out}
 use Rattle.sata_disk.specs.declared.out.Out.TheVariants as out
-use Rattle.sata_disk_laws.specs.Calls.{AreCalls, Call, Hears, IsCall, Plugs, Sends, after_call, after_calls, steps_of}
-use Rattle.sata_disk_laws.specs.Laws.{reached}
-use Rattle.sata_disk_laws.specs.Once.{Host, IsCallDue, IsOfPlace, IsOutDue, IsSingle, command_given, control_given, data_got, fis_given, host_after, host_of, new_host, out_got, place_in, reply_got, unheard_of}
+use Rattle.sata_disk_laws.specs.{Calls.{AreCalls, Call, Hears, IsCall, Plugs, Sends, after_call, after_calls, steps_of}, Laws.reached, Once.Host}
+use Rattle.sata_disk_laws.specs.Once.{IsCallDue, IsOfPlace, IsOutDue, IsSingle, command_given, control_given, data_got, fis_given, host_after}
+use Rattle.sata_disk_laws.specs.{Once.{host_of, new_host, out_got, place_in, reply_got, unheard_of}, Errors.{Watch, command_watched, failures_then}}
+use Rattle.sata_disk_laws.specs.Errors.{fis_watched, new_watch, of_watched, or_fault, out_watched, reply_watched, reset_watched, watch_after}
+use Rattle.sata_disk_laws.specs.Errors.{watch_of, watched}
 use Rattle.sata_disk_laws.specs.Errors as errors
-use Rattle.sata_disk_laws.specs.Errors.{Watch, command_watched, failures_then, fis_watched, new_watch, of_watched, or_fault, out_watched, reply_watched, reset_watched, watch_after, watch_of, watched}
-use Rattle.sata_disk_laws.proofs.Answered.{Knows}
-use Rattle.sata_disk_laws.proofs.AskedPlaces.{asked_at}
-use Rattle.sata_disk_laws.proofs.Calls.{IsSent, call_due, first_knows, next_line, sent_is}
-use Rattle.sata_disk_laws.proofs.LogReads.{asked_reads}
-use Rattle.sata_disk_laws.proofs.Owed.{not_over}
-use Rattle.sata_disk_laws.proofs.Runs.{after_both, are_both, call_after, call_are}
-use Rattle.sata_disk_laws.proofs.Single.{moving_is}
-use Rattle.sata_disk_laws.proofs.Speaks.{front_case, queued_idle}
-use Rattle.sata_disk_laws.proofs.Tracks.{WaitsAs}
-use Rattle.sata_disk_laws.proofs.Watching.{FaultAs, Watches, WatchesOf, command_watches, control_watches, data_reset, got_reset, no_some, page_watches, plug_watches, said_watches}
+use Rattle.sata_disk_laws.proofs.{Answered.Knows, AskedPlaces.asked_at, Calls.{IsSent, call_due, first_knows, next_line, sent_is}}
+use Rattle.sata_disk_laws.proofs.{LogReads.asked_reads, Owed.not_over, Runs.{after_both, are_both, call_after, call_are}, Single.moving_is}
+use Rattle.sata_disk_laws.proofs.{Speaks.{front_case, queued_idle}, Tracks.WaitsAs, Watching.{FaultAs, Watches, WatchesOf, command_watches}}
+use Rattle.sata_disk_laws.proofs.Watching.{control_watches, data_reset, got_reset, no_some, page_watches, plug_watches, said_watches}
 
 -- ## A command alone ended
 

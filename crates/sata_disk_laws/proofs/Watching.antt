@@ -1,50 +1,32 @@
 -- The error that stands by the FISes, and that of the front: the FISes of the host, and what the disk owes of itself, keep them alike.
 use Rattle.std.proofs.Common.{◌≡◌, ℕ, zero, suc, ◌^◌, ◌<◌, true, false, List, Some, None, refl, sym, ap, ◌∙◌, subst, arith, inl, inr}
-use Rattle.std.specs.Prelude.{Option, Bool, not, nat_lt, ◌==◌, ◌&&◌, if◌then◌else◌}
-use Rattle.std.specs.Option.{is_some}
 use Rattle.std.proofs.lemmas.Bool.{cases_Bool, eq-eqb, ltb-true}
-use Rattle.std.specs.Int.{bit_at}
+use Rattle.std.specs.{Prelude.{Option, Bool, not, nat_lt, ◌==◌, ◌&&◌, if◌then◌else◌}, Option.is_some, Int.bit_at}
 use Rattle.block_queue.specs.Line.{Line, any_below}
 use Rattle.block_queue.proofs.Door.{any_found, any_none, of_and}
 use Rattle.block_engine.specs.declared.aside.AsideStage.{AsideStage}
-use Rattle.ata_reply.specs.declared.reply.Failure.{Failure}
-use Rattle.ata_reply.specs.declared.reply.Reply.{Reply}
+use Rattle.ata_reply.specs.declared.reply.{Failure.Failure, Reply.Reply}
 use Rattle.ata_reply.specs.declared.reply.Reply.TheVariants as replies
-use Rattle.ata_command.specs.Asks.{tag_of_place}
-use Rattle.ata_command.specs.Courses.{course, is_error_log, is_queued_free, is_tag_free, stands_beside, tag_course}
-use Rattle.ata_command.specs.declared.asked.Asked.{Asked}
+use Rattle.ata_command.specs.{Asks.tag_of_place, Courses.{course, is_error_log, is_queued_free, is_tag_free, stands_beside, tag_course}}
+use Rattle.ata_command.specs.declared.asked.{Asked.Asked, LogPage.LogPage, PowerTask.PowerTask, Refusal.Refusal, SmartTask.SmartTask}
+use Rattle.ata_command.specs.declared.{control.Course.TheVariants.{AbortAll, Refuse, Take}, settings.Setting.Setting}
 use Rattle.ata_command.specs.declared.asked.Asked.TheVariants as ask
-use Rattle.ata_command.specs.declared.asked.LogPage.{LogPage}
-use Rattle.ata_command.specs.declared.asked.PowerTask.{PowerTask}
 use Rattle.ata_command.specs.declared.asked.PowerTask.TheVariants as power
-use Rattle.ata_command.specs.declared.asked.Refusal.{Refusal}
-use Rattle.ata_command.specs.declared.asked.SmartTask.{SmartTask}
 use Rattle.ata_command.specs.declared.asked.SmartTask.TheVariants as smart
-use Rattle.ata_command.specs.declared.control.Course.TheVariants.{AbortAll, Refuse, Take}
 use Rattle.ata_command.specs.declared.control.Standing.TheVariants as stand
-use Rattle.ata_command.specs.declared.settings.Setting.{Setting}
 use Rattle.ata_command.specs.declared.settings.Setting.TheVariants as set'
-use Rattle.ata_front.specs.Fronts.{aborted, commanded_by, controlled, is_log_10, log_task, moves_task, owed, refused_by, said_by, standing, standing_by, taken, task_of_smart}
-use Rattle.ata_front.specs.declared.front.Front.{Front}
-use Rattle.ata_front.specs.declared.front.Heard.{Heard}
-use Rattle.ata_front.specs.declared.task.Fault.{Fault}
-use Rattle.ata_front.specs.declared.task.Fault.TheVariants.{Mixed, Queued}
-use Rattle.ata_front.specs.declared.task.Moving.{Moving}
-use Rattle.ata_front.specs.declared.task.Owed.{Owed}
+use Rattle.ata_front.specs.Fronts.{aborted, commanded_by, controlled, is_log_10, log_task, moves_task, owed, refused_by, said_by, standing}
+use Rattle.ata_front.specs.{Fronts.{standing_by, taken, task_of_smart}, declared.{front.{Front.Front, Heard.Heard}, task.Fault.Fault}}
+use Rattle.ata_front.specs.declared.task.{Fault.TheVariants.{Mixed, Queued}, Moving.Moving, Owed.Owed, Page.Page, Task.Task}
 use Rattle.ata_front.specs.declared.task.Owed.TheVariants as owe
-use Rattle.ata_front.specs.declared.task.Page.{Page}
 use Rattle.ata_front.specs.declared.task.Page.TheVariants as pages
-use Rattle.ata_front.specs.declared.task.Task.{Task}
 use Rattle.ata_front.specs.declared.task.Task.TheVariants as tasks
-use Rattle.sata_disk.specs.State.{is_taken, tags_below, tags_of}
-use Rattle.sata_disk.specs.Hearing.{command_unheard}
-use Rattle.sata_disk.specs.declared.unheard.Unheard.{Unheard}
-use Rattle.sata_disk_laws.specs.Once.{Host, Wait, ForAnswer, ForEnd, ForLast, ForSignature, command_given, control_given, data_got, data_got_by, none_open, reply_got, unheard_of, wait_for}
+use Rattle.sata_disk.specs.{State.{is_taken, tags_below, tags_of}, Hearing.command_unheard, declared.unheard.Unheard.Unheard}
+use Rattle.sata_disk_laws.specs.Once.{Host, Wait, ForAnswer, ForEnd, ForLast, ForSignature, command_given, control_given, data_got, data_got_by}
+use Rattle.sata_disk_laws.specs.{Once.{none_open, reply_got, unheard_of, wait_for}, Errors.{Watch, command_watched, goes_beside, or_fault}}
+use Rattle.sata_disk_laws.specs.Errors.{page_watched, reads_error, refused_for, reply_watched, reset_watched}
 use Rattle.sata_disk_laws.specs.Errors as errors
-use Rattle.sata_disk_laws.specs.Errors.{Watch, command_watched, goes_beside, or_fault, page_watched, reads_error, refused_for, reply_watched, reset_watched}
-use Rattle.sata_disk_laws.proofs.AskedPlaces.{AskedAt, no_tags, tag_free}
-use Rattle.sata_disk_laws.proofs.Commands.{heard_is}
-use Rattle.sata_disk_laws.proofs.Tracks.{NoTags, SameTags, TagsAs, Tracks}
+use Rattle.sata_disk_laws.proofs.{AskedPlaces.{AskedAt, no_tags, tag_free}, Commands.heard_is, Tracks.{NoTags, SameTags, TagsAs, Tracks}}
 
 -- ## What is alike
 

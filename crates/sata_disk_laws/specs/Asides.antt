@@ -2,18 +2,13 @@
 -- was asked for since it was taken (ACS-3, 7.5 and 7.10).
 use Rattle.std.specs.Prelude.{ℕ, ◌≡◌, true, false, List, [], ◌∷◌, ◌++◌, Option, None}
 use Rattle.block_engine.specs.Aside as aside
-use Rattle.block_engine.specs.Aside.{AreSettled, AsideStep, aside_account, blank_aside}
-use Rattle.block_engine.specs.Engine.{EngineState, line, none_engaged, place_of}
+use Rattle.block_engine.specs.{Aside.{AreSettled, AsideStep, aside_account, blank_aside}, Engine.{EngineState, line, none_engaged, place_of}}
+use Rattle.block_engine.specs.{Laws.{Step, after_step}, declared.{aside.AsideStage.{AsideStage, TheVariants.Idle}, request.Answer.Answer}}
 use Rattle.block_engine.specs.Laws as engine
-use Rattle.block_engine.specs.Laws.{Step, after_step}
-use Rattle.block_engine.specs.declared.aside.AsideStage.{AsideStage}
-use Rattle.block_engine.specs.declared.aside.AsideStage.TheVariants.{Idle}
-use Rattle.block_engine.specs.declared.request.Answer.{Answer}
 use Rattle.block_engine.specs.declared.request.Answer.TheVariants as answers
 use Rattle.disk_pages.specs.declared.profile.Profile.{Profile}
 use Rattle.sata_disk.specs.State.{new_disk}
-use Rattle.sata_disk_laws.specs.Calls.{AreCalls, Call}
-use Rattle.sata_disk_laws.specs.Laws.{reached, steps_in}
+use Rattle.sata_disk_laws.specs.{Calls.{AreCalls, Call}, Laws.{reached, steps_in}}
 
 -- an answer to what no place asked for is to the command beside the queue, or to a dropped discard
 abbrev pub answer_aside : Option ℕ → ℕ → Answer → List AsideStep

@@ -3,12 +3,9 @@
 use Rattle.std.specs.Prelude.{ℕ, ◌≡◌, true, List, Some}
 use Rattle.ata_reply.specs.declared.reply.Reply.{Reply}
 use Rattle.disk_pages.specs.declared.profile.Profile.{Profile}
-use Rattle.sata_disk.specs.Sending.{IsOut}
-use Rattle.sata_disk.specs.State.{IsBeside, commands, is_taken, new_disk}
+use Rattle.sata_disk.specs.{Sending.IsOut, State.{IsBeside, commands, is_taken, new_disk}}
 use Rattle.sata_disk.specs.declared.out.Out.TheVariants as out
-use Rattle.sata_disk_laws.specs.Calls.{AreCalls, Call}
-use Rattle.sata_disk_laws.specs.Laws.{reached}
-use Rattle.sata_disk_laws.specs.Once.{host_of, is_for_data, new_host}
+use Rattle.sata_disk_laws.specs.{Calls.{AreCalls, Call}, Laws.reached, Once.{host_of, is_for_data, new_host}}
 
 -- in every run: it waits for the end, or for the Data that end it
 abbrev pub SinglesAreAwaited : Type 0

@@ -1,24 +1,16 @@
 -- Runs of a disk: what each call does to its commands is what some calls of their engine do (`block_engine`).
 use Rattle.std.specs.Prelude.{ℕ, ◌≡◌, List, [], ◌∷◌, ◌++◌, drop, Option, Some, None, Result, Ok}
-use Rattle.fis_view.specs.Seen.{seen}
-use Rattle.fis_view.specs.declared.view.Fis.{Fis}
+use Rattle.fis_view.specs.{Seen.seen, declared.view.{Fis.Fis, FisFault.FisFault}}
 use Rattle.fis_view.specs.declared.view.Fis.TheVariants as view
-use Rattle.fis_view.specs.declared.view.FisFault.{FisFault}
-use Rattle.block_engine.specs.declared.aside.AsideKind.TheVariants.{Flush, Discard}
-use Rattle.block_engine.specs.declared.request.Answer.{Answer}
-use Rattle.block_engine.specs.declared.request.Range.{Range}
-use Rattle.block_engine.specs.declared.request.Request.{Request}
+use Rattle.block_engine.specs.declared.{aside.AsideKind.TheVariants.{Flush, Discard}, request.{Answer.Answer, Range.Range, Request.Request}}
 use Rattle.block_engine.specs.Engine.{EngineState, IsEngineStart, IsRequested, answer_refusal, answered, aside_asked, place_asked, started}
-use Rattle.block_engine.specs.Laws as engine
 use Rattle.block_engine.specs.Laws.{Step}
-use Rattle.ata_front.specs.Fronts.{heard_data}
-use Rattle.ata_front.specs.declared.task.Act.{Act}
+use Rattle.block_engine.specs.Laws as engine
+use Rattle.ata_front.specs.{Fronts.heard_data, declared.task.Act.Act}
 use Rattle.ata_front.specs.declared.task.Act.TheVariants as act
 use Rattle.disk_pages.specs.Profiles.{facts_of}
-use Rattle.sata_disk.specs.State.{DiskState, commands, data_place}
-use Rattle.sata_disk.specs.Hearing.{MayHear, fis_heard, plugged, ranges_of, register_told}
-use Rattle.sata_disk.specs.Sending.{IsOut, after_sent}
-use Rattle.sata_disk.specs.declared.out.Out.{Out}
+use Rattle.sata_disk.specs.{State.{DiskState, commands, data_place}, Hearing.{MayHear, fis_heard, plugged, ranges_of, register_told}, Sending.IsOut}
+use Rattle.sata_disk.specs.{Sending.after_sent, declared.out.Out.Out}
 use Rattle.sata_disk.specs.declared.out.Out.TheVariants as out
 
 -- the calls of a disk that change it; a call that refuses something changes nothing and is none of them

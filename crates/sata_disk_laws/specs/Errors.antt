@@ -1,44 +1,25 @@
 -- The error of a queued command ends all of them. Then each command is aborted until the NCQ Command Error log is sent, and that log tells
 -- of the command that failed (Serial ATA 3.x, 13.6, native command queuing; ACS-3, 9.13, NCQ Command Error log). Which error stands is
 -- told by the FISes, those of the host and those that it got, and by what the caller answered.
-use Rattle.std.specs.Prelude.{ℕ, ◌≡◌, ◌<◌, ◌==◌, ◌⊎◌, ◌&&◌, ◌||◌, nat_lt, Bool, true, false, not, List, [], ◌∷◌, drop, Option, Some, None, Result, Ok, if◌then◌else◌}
-use Rattle.std.specs.Option.{is_some}
-use Rattle.fis_view.specs.Table.{H2d, Command, field}
-use Rattle.fis_view.specs.Seen.{seen}
-use Rattle.fis_view.specs.declared.view.Fis.{Fis}
+use Rattle.std.specs.Prelude.{ℕ, ◌≡◌, ◌<◌, ◌==◌, ◌⊎◌, ◌&&◌, ◌||◌, nat_lt, Bool, true, false, not, List, [], ◌∷◌, drop, Option, Some, None, Result, Ok}
+use Rattle.std.specs.{Prelude.{if◌then◌else◌}, Option.is_some}
+use Rattle.fis_view.specs.{Table.{H2d, Command, field}, Seen.seen, declared.view.{Fis.Fis, FisFault.FisFault}}
 use Rattle.fis_view.specs.declared.view.Fis.TheVariants as view
-use Rattle.fis_view.specs.declared.view.FisFault.{FisFault}
 use Rattle.block_queue.specs.Line.{any_below, command_at, has_bit}
 use Rattle.block_engine.specs.declared.request.Failure as caller
-use Rattle.block_engine.specs.declared.request.Request.{Request}
-use Rattle.block_engine.specs.Engine.{EngineState, IsEngineStart, IsRequested}
-use Rattle.block_engine.specs.Laws.{failure_in}
-use Rattle.ata_command.specs.Asks.{log_page}
-use Rattle.ata_command.specs.Courses.{is_error_log, resets}
-use Rattle.ata_command.specs.declared.asked.Asked.TheVariants.{ReadsLog}
-use Rattle.ata_command.specs.declared.asked.LogPage.{LogPage}
-use Rattle.ata_reply.specs.Replies.{Carries}
-use Rattle.ata_reply.specs.declared.reply.Failure.{Failure}
-use Rattle.ata_reply.specs.declared.reply.Reply.{Reply}
+use Rattle.block_engine.specs.{declared.request.Request.Request, Engine.{EngineState, IsEngineStart, IsRequested}, Laws.failure_in}
+use Rattle.ata_command.specs.{Asks.log_page, Courses.{is_error_log, resets}, declared.asked.{Asked.TheVariants.ReadsLog, LogPage.LogPage}}
+use Rattle.ata_reply.specs.{Replies.Carries, declared.reply.{Failure.Failure, Reply.Reply}}
 use Rattle.ata_reply.specs.declared.reply.Reply.TheVariants as replies
-use Rattle.ata_front.specs.Fronts.{aborted, is_log_10, page_announced}
-use Rattle.ata_front.specs.declared.task.Fault.{Fault}
-use Rattle.ata_front.specs.declared.task.Fault.TheVariants.{Mixed, Queued}
-use Rattle.ata_front.specs.declared.task.Page.{Page}
+use Rattle.ata_front.specs.{Fronts.{aborted, is_log_10, page_announced}, declared.task.{Fault.{Fault, TheVariants.{Mixed, Queued}}, Page.Page}}
 use Rattle.ata_front.specs.declared.task.Page.TheVariants as pages
-use Rattle.disk_pages.specs.Logs.{log_named}
+use Rattle.disk_pages.specs.{Logs.log_named, declared.profile.Profile.Profile}
 use Rattle.disk_pages.specs.declared.log.LogPage.TheVariants as logs
-use Rattle.disk_pages.specs.declared.profile.Profile.{Profile}
-use Rattle.sata_disk.specs.State.{DiskState, commands, new_disk}
-use Rattle.sata_disk.specs.Hearing.{is_command}
-use Rattle.sata_disk.specs.Pages.{IsErrorLog}
-use Rattle.sata_disk.specs.Sending.{IsFis, IsOut, trouble_by}
-use Rattle.sata_disk.specs.declared.out.Out.{Out}
+use Rattle.sata_disk.specs.{State.{DiskState, commands, new_disk}, Hearing.is_command, Pages.IsErrorLog, Sending.{IsFis, IsOut, trouble_by}}
+use Rattle.sata_disk.specs.declared.{out.Out.Out, unheard.Unheard.Unheard}
 use Rattle.sata_disk.specs.declared.out.Out.TheVariants as out
-use Rattle.sata_disk.specs.declared.unheard.Unheard.{Unheard}
-use Rattle.sata_disk_laws.specs.Calls.{AreCalls, Call, Hears, Plugs, Sends, after_call, steps_of}
-use Rattle.sata_disk_laws.specs.Laws.{reached}
-use Rattle.sata_disk_laws.specs.Once.{ForAnswer, ForNothing, Host, Wait, host_after, host_of, new_host, place_in, unheard_of}
+use Rattle.sata_disk_laws.specs.{Calls.{AreCalls, Call, Hears, Plugs, Sends, after_call, steps_of}, Laws.reached, Once.{ForAnswer, ForNothing, Host}}
+use Rattle.sata_disk_laws.specs.Once.{Wait, host_after, host_of, new_host, place_in, unheard_of}
 
 pub record Watch : Type 0 where
   -- none that the host had open was in the way of the last command

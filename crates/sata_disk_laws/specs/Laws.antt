@@ -1,16 +1,12 @@
 -- The laws over every run of a new disk: whatever FISes come, whatever is answered, in whatever order.
 use Rattle.std.specs.Prelude.{ℕ, ◌≡◌, ◌<◌, ◌≤◌, ◌^◌, ◌⊎◌, true, false, List, [], map, Some, None, is_none}
-use Rattle.block_disk.specs.Table.{is_under_way}
-use Rattle.block_disk.specs.Requests.{AreSeenRightly, Rises, Seen, no_books, none_queued, numbers_given, seen_by}
+use Rattle.block_disk.specs.{Table.is_under_way, Requests.{AreSeenRightly, Rises, Seen, no_books, none_queued, numbers_given, seen_by}}
 use Rattle.block_command.specs.Moments.{Moment}
-use Rattle.block_queue.specs.Line.{Line, command_at, orphan}
-use Rattle.block_queue.specs.Deeds.{AllAreApart, AreNamed, Goes, act_of, waits_for_caller, waits_for_host}
+use Rattle.block_queue.specs.{Line.{Line, command_at, orphan}, Deeds.{AllAreApart, AreNamed, Goes, act_of, waits_for_caller, waits_for_host}}
 use Rattle.block_scheduler.specs.Laws.{deeds_in}
-use Rattle.block_engine.specs.Engine.{AsksNothing, IsEngineStart, discards}
-use Rattle.block_engine.specs.Laws.{IsStill, Step, moves_in, shown_in}
+use Rattle.block_engine.specs.{Engine.{AsksNothing, IsEngineStart, discards}, Laws.{IsStill, Step, moves_in, shown_in}}
 use Rattle.disk_pages.specs.declared.profile.Profile.{Profile}
-use Rattle.sata_disk.specs.State.{DiskState, commands, new_disk}
-use Rattle.sata_disk.specs.Sending.{IsOut}
+use Rattle.sata_disk.specs.{State.{DiskState, commands, new_disk}, Sending.IsOut}
 use Rattle.sata_disk_laws.specs.Calls.{AreCalls, Call, after_calls, all_steps}
 
 -- what a run does to the engine

@@ -1,26 +1,19 @@
 -- What a host has open at a disk, told by the FISes alone: those that it sent, and those that came. A FIS that ends a command goes only
 -- while a command is open there, so each is answered at most once, and none from before a plug or a reset (Serial ATA 3.x, 11.4, software
 -- reset, and 13.6, native command queuing; ACS-3, 4, protocols).
-use Rattle.std.specs.Prelude.{ℕ, ◌≡◌, ◌/◌, ◌%◌, ◌==◌, ◌<◌, ◌≤◌, ◌⊎◌, ◌&&◌, ◌||◌, nat_lt, Bool, true, false, not, List, [], ◌∷◌, Option, Some, None, Result, Ok, if◌then◌else◌}
-use Rattle.fis_view.specs.Table.{H2d, Command, Count, field}
-use Rattle.fis_view.specs.Seen.{seen}
-use Rattle.fis_view.specs.declared.view.Fis.{Fis}
+use Rattle.std.specs.Prelude.{ℕ, ◌≡◌, ◌/◌, ◌%◌, ◌==◌, ◌<◌, ◌≤◌, ◌⊎◌, ◌&&◌, ◌||◌, nat_lt, Bool, true, false, not, List, [], ◌∷◌, Option, Some, None}
+use Rattle.std.specs.Prelude.{Result, Ok, if◌then◌else◌}
+use Rattle.fis_view.specs.{Table.{H2d, Command, Count, field}, Seen.seen, declared.view.{Fis.Fis, FisFault.FisFault}}
 use Rattle.fis_view.specs.declared.view.Fis.TheVariants as view
-use Rattle.fis_view.specs.declared.view.FisFault.{FisFault}
 use Rattle.block_queue.specs.Line.{has_bit}
 use Rattle.ata_command.specs.Courses.{resets}
 use Rattle.ata_reply.specs.declared.reply.Reply.{Reply}
 use Rattle.ata_reply.specs.declared.reply.Reply.TheVariants as replies
 use Rattle.disk_pages.specs.declared.profile.Profile.{Profile}
-use Rattle.sata_disk.specs.State.{DiskState, commands, is_taken, new_disk}
-use Rattle.sata_disk.specs.Hearing.{is_command, register_unheard}
-use Rattle.sata_disk.specs.Sending.{IsOut}
-use Rattle.sata_disk.specs.declared.out.Out.{Out}
+use Rattle.sata_disk.specs.{State.{DiskState, commands, is_taken, new_disk}, Hearing.{is_command, register_unheard}, Sending.IsOut}
+use Rattle.sata_disk.specs.declared.{out.Out.Out, unheard.Unheard.{Unheard, TheVariants.{InReset, Busy}}}
 use Rattle.sata_disk.specs.declared.out.Out.TheVariants as out
-use Rattle.sata_disk.specs.declared.unheard.Unheard.{Unheard}
-use Rattle.sata_disk.specs.declared.unheard.Unheard.TheVariants.{InReset, Busy}
-use Rattle.sata_disk_laws.specs.Calls.{AreCalls, Call, Hears, Plugs, Sends}
-use Rattle.sata_disk_laws.specs.Laws.{reached}
+use Rattle.sata_disk_laws.specs.{Calls.{AreCalls, Call, Hears, Plugs, Sends}, Laws.reached}
 
 -- what a host waits for before it may send a command (BSY)
 pub data Wait : Type 0 where

@@ -2,10 +2,8 @@
 -- each PIO Setup and each DMA Setup with auto-activate of that command (Serial ATA 3.x, 10.5 and 13.6). A plug, a reset and an error close
 -- all pages, so what came before counts for nothing.
 use Rattle.std.specs.Prelude.{◌≡◌, ◌+◌, ◌*◌, List, [], ◌∷◌, ◌++◌, length, Option, Some, None}
-use Rattle.block_command.specs.declared.command.Command.{Command}
-use Rattle.block_command.specs.Laws.{AskedStore, Happening, Ledger}
-use Rattle.block_disk.specs.Laws.{At, Page, at_page}
-use Rattle.block_disk.specs.Requests.{Asked, Books, Seen, entered_by, no_books}
+use Rattle.block_command.specs.{declared.command.Command.Command, Laws.{AskedStore, Happening, Ledger}}
+use Rattle.block_disk.specs.{Laws.{At, Page, at_page}, Requests.{Asked, Books, Seen, entered_by, no_books}}
 use Rattle.sata_disk_laws.specs.Laws.{OfEachRun}
 
 -- all that came is what was stored, and these bytes behind it; they are for the sectors behind those

@@ -3,12 +3,9 @@ use Rattle.std.specs.Prelude.{ℕ, ◌≡◌, ◌<◌, true, List, drop, Some, i
 use Rattle.block_command.specs.Laws.{Goes, Happening, Waited, SentSetUp, SentAnnounce, SentData, SentActivate, SentEnd, SentError}
 use Rattle.block_disk.specs.Laws.{At, Shown, shown_at}
 use Rattle.block_queue.specs.Line.{command_at, has_bit}
-use Rattle.ata_reply.specs.Replies.{Carries, Shows}
-use Rattle.ata_reply.specs.declared.reply.Reply.{Reply}
+use Rattle.ata_reply.specs.{Replies.{Carries, Shows}, declared.reply.Reply.Reply}
 use Rattle.ata_reply.specs.declared.reply.Reply.TheVariants as replies
-use Rattle.sata_disk.specs.State.{DiskState, commands}
-use Rattle.sata_disk.specs.Sending.{IsFis, IsOut, beside_reply}
-use Rattle.sata_disk.specs.declared.out.Out.{Out}
+use Rattle.sata_disk.specs.{State.{DiskState, commands}, Sending.{IsFis, IsOut, beside_reply}, declared.out.Out.Out}
 use Rattle.sata_disk.specs.declared.out.Out.TheVariants as out
 
 -- what the account has of the FIS that the command of a place sends now

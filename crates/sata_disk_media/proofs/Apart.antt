@@ -1,9 +1,8 @@
 -- Two commands that run and share a sector both read.
-use Rattle.std.proofs.Common.{◌≡◌, ◌≢◌, ℕ, ◌+◌, ◌<◌, ◌≤◌, true, false, Some, refl, sym, ap, ◌∙◌, arith, inl, inr, subst}
+use Rattle.std.proofs.{Common.{◌≡◌, ◌≢◌, ℕ, ◌+◌, ◌<◌, ◌≤◌, true, false, Some, refl, sym, ap, ◌∙◌, arith, inl, inr, subst}, lemmas.Bool.cases_lt}
+use Rattle.std.proofs.lemmas.Bool.{lt-ltb}
 use Rattle.std.specs.Prelude.{Bool, not, ◌&&◌}
-use Rattle.std.proofs.lemmas.Bool.{cases_lt, lt-ltb}
-use Rattle.block_command.specs.declared.command.Command.{Command}
-use Rattle.block_command.specs.Moments.{Moment, is_ended, runs}
+use Rattle.block_command.specs.{declared.command.Command.Command, Moments.{Moment, is_ended, runs}}
 use Rattle.block_queue.specs.Line.{IsLine, Line, command_at, conflict, is_in_way, rank, share}
 use Rattle.block_queue.proofs.Door.{of_or}
 

@@ -1,38 +1,29 @@
 -- What a call of a disk does to its commands are deeds that may be done; those of a call that asks and answers nothing are calm.
 use Rattle.std.proofs.Common.{◌≡◌, ℕ, zero, suc, ◌<◌, ◌≤◌, true, false, List, [], ◌∷◌, ◌++◌, drop, Some, None, refl, sym, arith, subst}
 use Rattle.std.specs.Prelude.{Option, Bool, ◌&&◌, if◌then◌else◌, Result, Ok}
-use Rattle.fis_view.specs.Seen.{seen as view_seen}
-use Rattle.fis_view.specs.declared.view.Fis.{Fis}
+use Rattle.fis_view.specs.{Seen.seen as view_seen, declared.view.{Fis.Fis, FisFault.FisFault}}
 use Rattle.fis_view.specs.declared.view.Fis.TheVariants as view
-use Rattle.fis_view.specs.declared.view.FisFault.{FisFault}
 use Rattle.block_queue.specs.Deeds as deed
-use Rattle.block_queue.specs.Deeds.{AreDeeds, Deed, after_deed}
-use Rattle.block_queue.specs.Line.{Line, may_send}
+use Rattle.block_queue.specs.{Deeds.{AreDeeds, Deed, after_deed}, Line.{Line, may_send}}
 use Rattle.block_queue.proofs.Door.{of_and}
-use Rattle.block_scheduler.specs.Sets.{ends_at}
-use Rattle.block_scheduler.specs.Schedule.{Schedule, ends_all, ends_sent}
+use Rattle.block_scheduler.specs.{Sets.ends_at, Schedule.{Schedule, ends_all, ends_sent}, Laws.{AreMoves, IsMove, Move, after_move, after_moves}}
+use Rattle.block_scheduler.specs.Laws.{all_deeds, deeds_of, end_deeds, ends_deeds}
 use Rattle.block_scheduler.specs.Laws as move
-use Rattle.block_scheduler.specs.Laws.{AreMoves, IsMove, Move, after_move, after_moves, all_deeds, deeds_of, end_deeds, ends_deeds}
 use Rattle.block_engine.specs.declared.aside.AsideStage.TheVariants as stages
-use Rattle.block_engine.specs.declared.request.Range.{Range}
-use Rattle.block_engine.specs.declared.request.Request.{Request}
-use Rattle.block_engine.specs.Engine.{EngineState, IsAskedOf, IsEngineStart}
+use Rattle.block_engine.specs.{declared.request.{Range.Range, Request.Request}, Engine.{EngineState, IsAskedOf, IsEngineStart}, Laws.{AreSteps, Step}}
+use Rattle.block_engine.specs.Laws.{after_step, all_moves, moves_of}
 use Rattle.block_engine.specs.Laws as engine
-use Rattle.block_engine.specs.Laws.{AreSteps, Step, after_step, all_moves, moves_of}
 use Rattle.block_engine.proofs.Runs as engine_runs
 use Rattle.block_engine.proofs.Runs.{found_low}
-use Rattle.ata_front.specs.Fronts.{heard_data}
-use Rattle.ata_front.specs.declared.task.Act.{Act}
+use Rattle.ata_front.specs.{Fronts.heard_data, declared.task.{Act.Act, Task.Task}}
 use Rattle.ata_front.specs.declared.task.Act.TheVariants as act
-use Rattle.ata_front.specs.declared.task.Task.{Task}
 use Rattle.disk_pages.specs.Profiles.{facts_of}
-use Rattle.sata_disk.specs.State.{DiskState, commands, data_place, has_link, or_single}
-use Rattle.sata_disk.specs.Hearing.{MayAct, MayHear, MayRange, ranges_of, register_told}
-use Rattle.sata_disk.specs.Sending.{IsOut}
-use Rattle.sata_disk.specs.declared.out.Out.{Out}
+use Rattle.sata_disk.specs.{State.{DiskState, commands, data_place, has_link, or_single}, Hearing.{MayAct, MayHear, MayRange, ranges_of}}
+use Rattle.sata_disk.specs.{Hearing.register_told, Sending.IsOut, declared.out.Out.Out}
 use Rattle.sata_disk.specs.declared.out.Out.TheVariants as out
 use Rattle.sata_disk_laws.specs.Calls as call
-use Rattle.sata_disk_laws.specs.Calls.{Call, IsCall, act_steps, ask_steps, asked_by, data_steps, fis_steps, out_steps, range_steps, start_steps, steps_of}
+use Rattle.sata_disk_laws.specs.Calls.{Call, IsCall, act_steps, ask_steps, asked_by, data_steps, fis_steps, out_steps, range_steps, start_steps}
+use Rattle.sata_disk_laws.specs.Calls.{steps_of}
 use Rattle.sata_disk_books.proofs.Door.{after_deeds, ends_after, moved}
 use Rattle.sata_disk_media.proofs.Stored.{is_calm}
 

@@ -1,36 +1,28 @@
 -- A discard that is out, or that a reset dropped while it was out, stays so until it is answered. Meanwhile no command runs.
 use Rattle.std.proofs.Common.{◌≡◌, ◌≢◌, ◌⊎◌, ℕ, true, false, List, [], ◌∷◌, ◌++◌, Some, None, refl, sym, ap, ◌∙◌, subst, inl, inr}
-use Rattle.std.specs.Prelude.{Option, Bool, not, ◌==◌, ◌&&◌, ◌||◌, is_none, if◌then◌else◌}
 use Rattle.std.proofs.lemmas.Bool.{cases_eq, eqb-true, false≢true}
-use Rattle.block_command.specs.declared.answer.AnswerError.TheVariants.{NotOut}
-use Rattle.block_command.specs.declared.command.Turn.{Turn}
+use Rattle.std.specs.Prelude.{Option, Bool, not, ◌==◌, ◌&&◌, ◌||◌, is_none, if◌then◌else◌}
+use Rattle.block_command.specs.{declared.{answer.AnswerError.TheVariants.NotOut, command.Turn.Turn}, Moments.{Moment, turn_of}}
 use Rattle.block_command.specs.declared.command.Turn.TheVariants as turn
-use Rattle.block_command.specs.Moments.{Moment, turn_of}
 use Rattle.block_queue.specs.Line.{command_at}
-use Rattle.block_engine.specs.declared.aside.AsideKind.{AsideKind}
-use Rattle.block_engine.specs.declared.aside.AsideKind.TheVariants as kinds
-use Rattle.block_engine.specs.declared.aside.AsideStage.{AsideStage}
-use Rattle.block_engine.specs.declared.aside.AsideStage.TheVariants as stages
-use Rattle.block_engine.specs.declared.request.Answer.{Answer}
-use Rattle.block_engine.specs.declared.request.Answer.TheVariants as answers
-use Rattle.block_engine.specs.declared.request.Request.{Request}
-use Rattle.block_engine.specs.declared.request.What.TheVariants as what
-use Rattle.block_engine.specs.Aside.{asks_for, is_over, is_waiting, settled}
-use Rattle.block_engine.specs.Engine.{EngineState, IsAskedOf, answer_refusal, answered, aside_what, beside_refusal, discards, done_at}
-use Rattle.block_engine.specs.Engine.{done_refusal, dropped_by, fail_refusal, failed_by, is_asked, is_discard, line, loaded_at, place_of, what_at, what_of}
-use Rattle.block_engine.specs.Laws as engine
-use Rattle.block_engine.specs.Laws.{AreSteps, IsStep, Step, after_step, after_steps}
+use Rattle.block_engine.specs.declared.{aside.{AsideKind.AsideKind, AsideStage.AsideStage}, request.{Answer.Answer, Request.Request}}
+use Rattle.block_engine.specs.{Aside.{asks_for, is_over, is_waiting, settled}, Engine.{EngineState, IsAskedOf, answer_refusal, answered, aside_what}}
+use Rattle.block_engine.specs.Engine.{beside_refusal, discards, done_at, done_refusal, dropped_by, fail_refusal, failed_by, is_asked, is_discard}
+use Rattle.block_engine.specs.{Engine.{line, loaded_at, place_of, what_at, what_of}, Laws.{AreSteps, IsStep, Step, after_step, after_steps}}
 use Rattle.block_engine.specs.Numbers.{is_number}
+use Rattle.block_engine.specs.declared.aside.AsideKind.TheVariants as kinds
+use Rattle.block_engine.specs.declared.aside.AsideStage.TheVariants as stages
+use Rattle.block_engine.specs.declared.request.Answer.TheVariants as answers
+use Rattle.block_engine.specs.declared.request.What.TheVariants as what
+use Rattle.block_engine.specs.Laws as engine
 use Rattle.disk_pages.specs.declared.profile.Profile.{Profile}
 use Rattle.sata_disk.specs.State.{DiskState, commands, new_disk}
 use Rattle.sata_disk_laws.specs.Calls as call
-use Rattle.sata_disk_laws.specs.Calls.{AreCalls, Answers, Asks, Call, IsCall, after_call, after_calls, ask_steps, asked_by, steps_of}
-use Rattle.sata_disk_laws.specs.Laws.{reached}
+use Rattle.sata_disk_laws.specs.{Calls.{AreCalls, Answers, Asks, Call, IsCall, after_call, after_calls, ask_steps, asked_by, steps_of}, Laws.reached}
 use Rattle.sata_disk_laws.proofs.Door.{calls_after}
 use Rattle.sata_disk_books.proofs.Door.{call_after}
 use Rattle.sata_disk_media.specs.Settled.{IsAnsweredIn}
-use Rattle.sata_disk_media.proofs.Called.{AllOf, call_are, call_calm, calm_step}
-use Rattle.sata_disk_media.proofs.Runs.{are_then}
+use Rattle.sata_disk_media.proofs.{Called.{AllOf, call_are, call_calm, calm_step}, Runs.are_then}
 
 -- ## A discard that is not answered
 

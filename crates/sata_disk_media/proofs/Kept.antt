@@ -1,55 +1,38 @@
 -- The laws of read after write.
-use Rattle.std.proofs.Common.{◌≡◌, ℕ, ◌+◌, ◌-◌, ◌*◌, ◌<◌, ◌≤◌, true, false, List, [], ◌∷◌, ◌++◌, length, take, drop, set, Some, None, refl, sym, ap, ◌∙◌, arith, append_assoc, subst}
+use Rattle.std.proofs.Common.{◌≡◌, ℕ, ◌+◌, ◌-◌, ◌*◌, ◌<◌, ◌≤◌, true, false, List, [], ◌∷◌, ◌++◌, length, take, drop, set, Some, None, refl, sym, ap}
+use Rattle.std.proofs.{Common.{◌∙◌, arith, append_assoc, subst}, lemmas.{Bool.{leb-true, ltb-true}, List.{append-nil, get_or-set_same}}}
+use Rattle.std.proofs.{lemmas.List.{length-append, length-drop, take-append-le, drop-append-le}, Math.Seq.{drop-append-add}}
 use Rattle.std.specs.Prelude.{Option, Bool, nat_lt, if◌then◌else◌}
-use Rattle.std.proofs.lemmas.Bool.{leb-true, ltb-true}
-use Rattle.std.proofs.lemmas.List.{append-nil, get_or-set_same, length-append, length-drop, take-append-le, drop-append-le}
-use Rattle.std.proofs.Math.Seq.{drop-append-add}
-use Rattle.block_command.specs.declared.command.Command.{Command}
-use Rattle.block_command.specs.declared.command.Stage.{Stage}
-use Rattle.block_command.specs.declared.command.Stage.TheVariants as stage
-use Rattle.block_command.specs.declared.command.Protocol.{Protocol}
-use Rattle.block_command.specs.declared.command.Protocol.TheVariants as protocol
-use Rattle.block_command.specs.Laws.{Goes, IsEarned, Ledger, blank}
+use Rattle.block_command.specs.{declared.command.{Command.Command, Stage.Stage, Protocol.Protocol}, Laws.{Goes, IsEarned, Ledger, blank}}
 use Rattle.block_command.specs.Moments.{Moment, turn_of}
+use Rattle.block_command.specs.declared.command.Stage.TheVariants as stage
+use Rattle.block_command.specs.declared.command.Protocol.TheVariants as protocol
 use Rattle.block_command.proofs.Door.{Agrees, at, rights_then}
-use Rattle.block_disk.specs.Laws.{Page, Refused, Took, at_page}
-use Rattle.block_disk.specs.Requests.{Books, OnLink, Seen, entered_by, no_books}
-use Rattle.block_disk.specs.Table.{is_under_way}
-use Rattle.block_queue.specs.Deeds.{seen_of}
-use Rattle.block_queue.specs.Line.{Line, command_at}
+use Rattle.block_disk.specs.{Laws.{Page, Refused, Took, at_page}, Requests.{Books, OnLink, Seen, entered_by, no_books}, Table.is_under_way}
+use Rattle.block_queue.specs.{Deeds.seen_of, Line.{Line, command_at}}
 use Rattle.block_queue.proofs.Door.{of_and}
-use Rattle.block_scheduler.specs.Laws.{all_deeds}
-use Rattle.block_scheduler.specs.Sets.{IsTagsOf, ends_at, is_end, turn_at}
-use Rattle.block_scheduler.specs.Schedule.{IsNextFis}
+use Rattle.block_scheduler.specs.{Laws.all_deeds, Sets.{IsTagsOf, ends_at, is_end, turn_at}, Schedule.IsNextFis}
 use Rattle.block_scheduler.specs.declared.scheduler.NextFis.TheVariants as next_fis
-use Rattle.block_engine.specs.declared.request.Answer.{Answer}
+use Rattle.block_engine.specs.{declared.request.{Answer.Answer, Range.Range, What.What}, Laws.all_moves}
 use Rattle.block_engine.specs.declared.request.Answer.TheVariants as answers
-use Rattle.block_engine.specs.declared.request.Range.{Range}
-use Rattle.block_engine.specs.declared.request.What.{What}
 use Rattle.block_engine.specs.declared.request.What.TheVariants as what
 use Rattle.block_engine.specs.Laws as engine
-use Rattle.block_engine.specs.Laws.{all_moves}
 use Rattle.ata_front.specs.CommandFis.{asks_by}
-use Rattle.ata_reply.specs.declared.reply.AtaError.{AtaError}
-use Rattle.ata_reply.specs.declared.reply.Failure.{Failure}
+use Rattle.ata_reply.specs.declared.reply.{AtaError.AtaError, Failure.Failure}
 use Rattle.ata_reply.specs.declared.reply.Reply.TheVariants as replies
 use Rattle.disk_pages.specs.declared.profile.Profile.{Profile}
-use Rattle.sata_disk.specs.Sending.{IsOut, out_at}
-use Rattle.sata_disk.specs.State.{DiskState, commands, new_disk}
-use Rattle.sata_disk.specs.declared.out.Out.{Out}
+use Rattle.sata_disk.specs.{Sending.{IsOut, out_at}, State.{DiskState, commands, new_disk}, declared.out.Out.Out}
 use Rattle.sata_disk.specs.declared.out.Out.TheVariants as out
 use Rattle.sata_disk_laws.specs.Calls.{AreCalls, Answers, Asks, Call, Hears, Sends, act_steps, after_call, after_calls, fis_steps, steps_of}
 use Rattle.sata_disk_laws.specs.Laws.{reached, seen_in}
 use Rattle.sata_disk_books.specs.Books.{AreNext, AreOfPage, DataAreGiven, books_after, page_in}
 use Rattle.sata_disk_books.proofs.Door.{books_both, shown_both, shown_from}
-use Rattle.sata_disk_media.specs.Cells.{Cell, Kept, Unknown, answered_cell, asked_cell, covers, in_ranges, kept_in, sector_of}
-use Rattle.sata_disk_media.specs.Laws.{AreSparing, EndsWell, GivenIsWritten, HasSector, IsBehindWrite, IsBrought, IsTakenAt, IsUnread, LoadsBringWhatIsKept, ReadsBringWrites, Spares, WritesAreKept, next_data, sector_in, touches}
-use Rattle.sata_disk_media.specs.Media.{IsHonest, cell_after, cell_of, kept, store_bytes}
-use Rattle.sata_disk_media.proofs.Called.{deeds_by}
-use Rattle.sata_disk_media.proofs.Moments.{is_over}
-use Rattle.sata_disk_media.proofs.Requested.{page_of}
-use Rattle.sata_disk_media.proofs.Runs.{are_first, are_then, books_in, calls_given, run_held, unread_given}
-use Rattle.sata_disk_media.proofs.Walk.{shown_one}
+use Rattle.sata_disk_media.specs.{Cells.{Cell, Kept, Unknown, answered_cell, asked_cell, covers, in_ranges, kept_in, sector_of}, Laws.AreSparing}
+use Rattle.sata_disk_media.specs.Laws.{EndsWell, GivenIsWritten, HasSector, IsBehindWrite, IsBrought, IsTakenAt, IsUnread, LoadsBringWhatIsKept}
+use Rattle.sata_disk_media.specs.{Laws.{ReadsBringWrites, Spares, WritesAreKept, next_data, sector_in, touches}, Media.{IsHonest, cell_after}}
+use Rattle.sata_disk_media.specs.Media.{cell_of, kept, store_bytes}
+use Rattle.sata_disk_media.proofs.{Called.deeds_by, Moments.is_over, Requested.page_of, Runs.{are_first, are_then, books_in, calls_given, run_held}}
+use Rattle.sata_disk_media.proofs.{Runs.unread_given, Walk.shown_one}
 
 -- ## Loads
 

@@ -1,27 +1,21 @@
 -- Of a command the loads that were asked for, and the sectors that they brought: what each deed of the commands leaves of that.
-use Rattle.std.proofs.Common.{◌≡◌, ◌≢◌, ℕ, ◌+◌, ◌-◌, ◌*◌, ◌<◌, ◌≤◌, true, false, List, ◌++◌, length, take, drop, get_or, set, Some, None, refl, sym, ap, ◌∙◌, arith, inl, inr, subst}
-use Rattle.std.specs.Prelude.{Option, Bool, ◌==◌, ◌&&◌, replicate, if◌then◌else◌}
-use Rattle.std.specs.Option.{option_map}
-use Rattle.std.proofs.lemmas.Bool.{cases_eq, cases_lt, eqb-true, le-leb, lt-ltb, ltb-true}
-use Rattle.std.proofs.lemmas.Option.{same_Some}
-use Rattle.std.proofs.lemmas.List.{get_or-set_same, get_or-set_other, length-append, take-append-le, drop-append-le, length-drop}
+use Rattle.std.proofs.Common.{◌≡◌, ◌≢◌, ℕ, ◌+◌, ◌-◌, ◌*◌, ◌<◌, ◌≤◌, true, false, List, ◌++◌, length, take, drop, get_or, set, Some, None, refl, sym}
+use Rattle.std.proofs.{Common.{ap, ◌∙◌, arith, inl, inr, subst}, lemmas.Bool.{cases_eq, cases_lt, eqb-true, le-leb, lt-ltb, ltb-true}}
+use Rattle.std.proofs.lemmas.{Option.same_Some, List.{get_or-set_same, get_or-set_other, length-append, take-append-le, drop-append-le, length-drop}}
 use Rattle.std.proofs.Math.Seq.{drop-append-add}
-use Rattle.block_command.specs.declared.command.Command.{Command}
-use Rattle.block_command.specs.declared.command.Stage.{Stage}
+use Rattle.std.specs.{Prelude.{Option, Bool, ◌==◌, ◌&&◌, replicate, if◌then◌else◌}, Option.option_map}
+use Rattle.block_command.specs.{declared.command.{Command.Command, Stage.Stage, Turn.Turn}, Moments.{Moment, part_count, turn_of}, Laws.{Input, Goes}}
+use Rattle.block_command.specs.Laws.{Comes, Loads, Happening, Ledger, AskedLoad, Loaded, SentSetUp, CameData, Stored, Flushed, after, blank, entered}
+use Rattle.block_command.specs.Laws.{given_to, happening, is_behind, shown, stored_in}
 use Rattle.block_command.specs.declared.command.Stage.TheVariants as stage
-use Rattle.block_command.specs.declared.command.Turn.{Turn}
 use Rattle.block_command.specs.declared.command.Turn.TheVariants as turn
-use Rattle.block_command.specs.Moments.{Moment, part_count, turn_of}
 use Rattle.block_command.specs.Laws as command
-use Rattle.block_command.specs.Laws.{Input, Goes, Comes, Loads, Happening, Ledger, AskedLoad, Loaded, SentSetUp, CameData, Stored, Flushed, after, blank, entered, given_to, happening, is_behind, shown, stored_in}
 use Rattle.block_command.proofs.Door.{Agrees, at}
-use Rattle.block_disk.specs.Table.{is_under_way}
-use Rattle.block_disk.specs.Laws.{At, Page, Refused, Took, at_page, entered_in, page_entered, shown_at}
-use Rattle.block_disk.specs.Requests.{Books, asks_at, entered_by, is_fis, is_out, is_request, out_after, seen, sends_at, told}
+use Rattle.block_disk.specs.{Table.is_under_way, Laws.{At, Page, Refused, Took, at_page, entered_in, page_entered, shown_at}, Requests.Books}
+use Rattle.block_disk.specs.Requests.{asks_at, entered_by, is_fis, is_out, is_request, out_after, seen, sends_at, told}
 use Rattle.block_disk.proofs.Door.{Matches, each_is}
 use Rattle.block_queue.specs.Deeds as deed
-use Rattle.block_queue.specs.Deeds.{Deed, IsDeed, act_of}
-use Rattle.block_queue.specs.Line.{Line, command_at, may_start_at, starts}
+use Rattle.block_queue.specs.{Deeds.{Deed, IsDeed, act_of}, Line.{Line, command_at, may_start_at, starts}}
 use Rattle.block_queue.proofs.Door.{of_and}
 use Rattle.block_engine.specs.declared.request.What.TheVariants as what
 use Rattle.block_engine.specs.Engine.{what_at}

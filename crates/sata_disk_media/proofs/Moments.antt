@@ -1,17 +1,14 @@
 -- What one command does, and does not, to what its page keeps.
-use Rattle.std.proofs.Common.{◌≡◌, ℕ, ◌+◌, ◌-◌, ◌*◌, ◌<◌, ◌≤◌, true, false, List, ◌++◌, length, Some, None, refl, ap, ◌∙◌, arith, rules, inl, inr, subst}
+use Rattle.std.proofs.Common.{◌≡◌, ℕ, ◌+◌, ◌-◌, ◌*◌, ◌<◌, ◌≤◌, true, false, List, ◌++◌, length, Some, None, refl, ap, ◌∙◌, arith, rules, inl, inr}
+use Rattle.std.proofs.{Common.subst, lemmas.Bool.{ltb-false}}
 use Rattle.std.specs.Prelude.{Option, Bool, nat_lt, ◌&&◌, ◌==◌, if◌then◌else◌}
-use Rattle.std.proofs.lemmas.Bool.{ltb-false}
-use Rattle.block_command.specs.declared.command.Command.{Command}
-use Rattle.block_command.specs.declared.command.Protocol.{Protocol}
-use Rattle.block_command.specs.declared.command.Protocol.TheVariants.{Pio}
-use Rattle.block_command.specs.declared.command.Stage.{Stage}
-use Rattle.block_command.specs.declared.command.Stage.TheVariants.{Waiting, Load, Loading, SetUpRead, Announce, Sending}
-use Rattle.block_command.specs.declared.command.Stage.TheVariants.{SetUpWrite, Activate, Receiving}
-use Rattle.block_command.specs.declared.command.Stage.TheVariants.{Store, Storing, Flush, Flushing, End, Fail, Ended}
-use Rattle.block_command.specs.declared.command.Turn.{Turn}
-use Rattle.block_command.specs.Moments.{Moment, chunk, data_stage, first_data_stage, is_ended, is_queued, is_storing, is_verify, part_count, part_len, read_end, read_on, sent_to, with_part, with_sectors, runs, set_up_stage, started, turn_of, whole}
-use Rattle.block_command.specs.Laws.{Input, Goes, Comes, Loads, Stores, Happening, IsEarned, Ledger, Stored, Loaded, SentSetUp, CameData, Flushed, after, entered, given_to, shown}
+use Rattle.block_command.specs.declared.command.{Command.Command, Protocol.{Protocol, TheVariants.Pio}, Stage.{Stage, TheVariants.{Waiting, Load}}}
+use Rattle.block_command.specs.declared.command.Stage.TheVariants.{Loading, SetUpRead, Announce, Sending, SetUpWrite, Activate, Receiving, Store}
+use Rattle.block_command.specs.{declared.command.{Stage.TheVariants.{Storing, Flush, Flushing, End, Fail, Ended}, Turn.Turn}, Moments.{Moment, chunk}}
+use Rattle.block_command.specs.Moments.{data_stage, first_data_stage, is_ended, is_queued, is_storing, is_verify, part_count, part_len, read_end}
+use Rattle.block_command.specs.{Moments.{read_on, sent_to, with_part, with_sectors, runs, set_up_stage, started, turn_of, whole}, Laws.{Input, Goes}}
+use Rattle.block_command.specs.Laws.{Comes, Loads, Stores, Happening, IsEarned, Ledger, Stored, Loaded, SentSetUp, CameData, Flushed, after, entered}
+use Rattle.block_command.specs.Laws.{given_to, shown}
 use Rattle.block_command.proofs.Door.{Agrees, at, rights_then}
 use Rattle.block_disk.specs.Requests.{is_request}
 

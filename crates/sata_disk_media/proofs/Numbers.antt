@@ -2,14 +2,12 @@
 use Rattle.std.proofs.Common.{◌≡◌, ℕ, true, false, Some, None, refl, sym, arith, subst}
 use Rattle.std.specs.Prelude.{Option, Bool, if◌then◌else◌}
 use Rattle.block_command.specs.Laws as command
-use Rattle.block_engine.specs.declared.request.Answer.{Answer}
+use Rattle.block_engine.specs.{declared.request.Answer.Answer, Aside.settled, Engine.{EngineState, answered, done_at, done_of, failed_by, line}}
+use Rattle.block_engine.specs.{Engine.{loaded_at, none_engaged, place_of}, Laws.{Step, Takes, TakesAside, Asks, AsksAside, Answers, Sends, SendsEnds}}
+use Rattle.block_engine.specs.{Laws.{SendsAside, Forgives, Resets, after_step}, Numbers.AreNumbered}
 use Rattle.block_engine.specs.declared.request.Answer.TheVariants as answers
-use Rattle.block_engine.specs.Aside.{settled}
-use Rattle.block_engine.specs.Engine.{EngineState, answered, done_at, done_of, failed_by, line, loaded_at, none_engaged, place_of}
-use Rattle.block_engine.specs.Laws.{Step, Takes, TakesAside, Asks, AsksAside, Answers, Sends, SendsEnds, SendsAside, Forgives, Resets}
-use Rattle.block_engine.specs.Laws.{after_step}
-use Rattle.block_engine.specs.Numbers.{AreNumbered}
-use Rattle.block_engine.proofs.Holders.{answered_line, asked_aside, asked_line, drops, ends_line, none_dropped, none_numbered, reset_line, rests, same_line, sent_line, settled_less, taken_line, waits}
+use Rattle.block_engine.proofs.Holders.{answered_line, asked_aside, asked_line, drops, ends_line, none_dropped, none_numbered, reset_line, rests}
+use Rattle.block_engine.proofs.Holders.{same_line, sent_line, settled_less, taken_line, waits}
 
 abbrev pub Numbered : EngineState → Type 0
 Numbered e = AreNumbered (line e) e.stage e.dropped

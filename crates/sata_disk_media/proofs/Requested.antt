@@ -1,34 +1,27 @@
 -- What a request leaves of what is held, and what an answer does.
-use Rattle.std.proofs.Common.{◌≡◌, ◌≢◌, ℕ, ◌+◌, ◌-◌, ◌*◌, ◌<◌, ◌≤◌, true, false, List, ◌++◌, length, take, drop, get_or, set, Some, None, refl, sym, ap, ◌∙◌, arith, inl, inr, subst}
-use Rattle.std.specs.Prelude.{Option, Bool, ◌&&◌, ◌==◌, if◌then◌else◌}
-use Rattle.std.specs.Option.{option_map}
-use Rattle.std.proofs.lemmas.Bool.{cases_lt, eqb-true, leb-true, le-leb, lt-ltb, ltb-true, ne_eqb, eq-eqb}
-use Rattle.std.proofs.lemmas.Option.{same_Some}
-use Rattle.std.proofs.lemmas.List.{get_or-set_same, length-append, take-append-le, drop-append-le, length-drop}
+use Rattle.std.proofs.Common.{◌≡◌, ◌≢◌, ℕ, ◌+◌, ◌-◌, ◌*◌, ◌<◌, ◌≤◌, true, false, List, ◌++◌, length, take, drop, get_or, set, Some, None, refl, sym}
+use Rattle.std.proofs.{Common.{ap, ◌∙◌, arith, inl, inr, subst}, lemmas.Bool.{cases_lt, eqb-true, leb-true, le-leb, lt-ltb, ltb-true, ne_eqb, eq-eqb}}
+use Rattle.std.proofs.lemmas.{Option.same_Some, List.{get_or-set_same, length-append, take-append-le, drop-append-le, length-drop}}
 use Rattle.std.proofs.Math.Seq.{drop-append-add}
-use Rattle.block_command.specs.declared.command.Command.{Command}
-use Rattle.block_command.specs.declared.command.Stage.{Stage}
+use Rattle.std.specs.{Prelude.{Option, Bool, ◌&&◌, ◌==◌, if◌then◌else◌}, Option.option_map}
+use Rattle.block_command.specs.{declared.command.{Command.Command, Stage.Stage}, Moments.{Moment, is_ended, is_storing, part_count, part_lba, runs}}
+use Rattle.block_command.specs.{Moments.turn_of, Laws.{Input, Goes, Loads, Comes, Stores, Flushes, Fails, Happening, Ledger, AskedStore, after}}
+use Rattle.block_command.specs.Laws.{entered, happening, refusal}
 use Rattle.block_command.specs.declared.command.Stage.TheVariants as stage
-use Rattle.block_command.specs.Moments.{Moment, is_ended, is_storing, part_count, part_lba, runs, turn_of}
 use Rattle.block_command.specs.Laws as command
-use Rattle.block_command.specs.Laws.{Input, Goes, Loads, Comes, Stores, Flushes, Fails, Happening, Ledger, AskedStore, after, entered, happening, refusal}
 use Rattle.block_command.proofs.Door.{Agrees, at}
-use Rattle.block_disk.specs.Table.{refusal_at, with_input}
-use Rattle.block_disk.specs.Laws.{At, Page, at_page, entered_in, page_entered, shown_at}
-use Rattle.block_disk.specs.Requests.{Books, asks_at, entered_by, is_out, is_request, seen, told}
+use Rattle.block_disk.specs.{Table.{refusal_at, with_input}, Laws.{At, Page, at_page, entered_in, page_entered, shown_at}, Requests.{Books, asks_at}}
+use Rattle.block_disk.specs.Requests.{entered_by, is_out, is_request, seen, told}
 use Rattle.block_disk.proofs.Door.{Agree, Matches}
 use Rattle.block_queue.specs.Deeds as deed
-use Rattle.block_queue.specs.Deeds.{IsDeed, act_of, after_deed}
-use Rattle.block_queue.specs.Line.{IsLine, Line, command_at, line_refusal, orphan, orphan_refusal}
+use Rattle.block_queue.specs.{Deeds.{IsDeed, act_of, after_deed}, Line.{IsLine, Line, command_at, line_refusal, orphan, orphan_refusal}}
 use Rattle.block_queue.proofs.Door.{of_and}
-use Rattle.block_engine.specs.declared.request.Answer.{Answer}
+use Rattle.block_engine.specs.{declared.request.{Answer.Answer, Range.Range}, Engine.what_at}
 use Rattle.block_engine.specs.declared.request.Answer.TheVariants as answers
-use Rattle.block_engine.specs.declared.request.Range.{Range}
-use Rattle.block_engine.specs.Engine.{what_at}
 use Rattle.sata_disk_media.specs.Cells.{Cell, Kept, Storing, answered_cell, asked_cell, bytes_at, covers, sector_of}
-use Rattle.sata_disk_media.proofs.Apart.{IsRunning, alone}
-use Rattle.sata_disk_media.proofs.Moments.{HasPart, IsStoring, alive_of, done_not, is_over, is_stored, loaded_not, part_below, same_kept, store_part, storing_part, write_runs}
-use Rattle.sata_disk_media.proofs.Stored.{Claims, Each, Held, IsCalm, KeptClaim, entered_page, held_by, out_each, set_each, touch_each}
+use Rattle.sata_disk_media.proofs.{Apart.{IsRunning, alone}, Moments.{HasPart, IsStoring, alive_of, done_not, is_over, is_stored, loaded_not}}
+use Rattle.sata_disk_media.proofs.{Moments.{part_below, same_kept, store_part, storing_part, write_runs}, Stored.{Claims, Each, Held, IsCalm}}
+use Rattle.sata_disk_media.proofs.Stored.{KeptClaim, entered_page, held_by, out_each, set_each, touch_each}
 
 no_bool : (b : Bool) → b ≡ true → b ≡ false → (P : Type 0) → P
 no_bool b e f P = absurd (cc)

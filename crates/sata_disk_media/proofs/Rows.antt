@@ -1,14 +1,11 @@
 -- What is known of sectors behind a few calls, as worked rows: the caller is asked to store two sectors from 4 on, by number 7.
 use Rattle.std.proofs.Common.{◌≡◌, ℕ, List, [], ◌∷◌, Some, refl}
-use Rattle.block_engine.specs.declared.request.Answer.TheVariants.{Done, Failed}
-use Rattle.block_engine.specs.declared.request.Failure.{Failure}
-use Rattle.block_engine.specs.declared.request.Request.{Request}
+use Rattle.block_engine.specs.declared.request.{Answer.TheVariants.{Done, Failed}, Failure.Failure, Request.Request}
 use Rattle.block_engine.specs.declared.request.What.TheVariants as what
 use Rattle.block_queue.specs.Line.{command_at}
 use Rattle.sata_disk.specs.State.{DiskState, commands}
 use Rattle.sata_disk_laws.specs.Calls.{Answers, Asks, Plugs}
-use Rattle.sata_disk_media.specs.Cells.{Kept, Storing, Unknown, asked_cell, bytes_at, sector_of}
-use Rattle.sata_disk_media.specs.Media.{cell_of}
+use Rattle.sata_disk_media.specs.{Cells.{Kept, Storing, Unknown, asked_cell, bytes_at, sector_of}, Media.cell_of}
 
 abbrev store : Request
 store = record { number = 7; place = Some 0; what = what.Store 4 2 }

@@ -1,24 +1,18 @@
 -- What is held, and what loads brought, over every run of a disk.
 use Rattle.std.proofs.Common.{◌≡◌, ℕ, ◌<◌, true, false, List, [], ◌∷◌, ◌++◌, length, Some, None, refl, sym, ap, ◌∙◌, arith, append_assoc, subst}
-use Rattle.std.specs.Prelude.{Option, Bool, if◌then◌else◌, replicate}
 use Rattle.std.proofs.lemmas.List.{append-nil, length-replicate}
-use Rattle.block_command.specs.Laws.{Input, Fails, Flushes, Loads, Stores}
-use Rattle.block_command.specs.Moments.{Moment}
-use Rattle.block_disk.specs.Laws.{at_page}
-use Rattle.block_disk.specs.Requests.{Books, entered_by, no_books, seen}
+use Rattle.std.specs.Prelude.{Option, Bool, if◌then◌else◌, replicate}
+use Rattle.block_command.specs.{Laws.{Input, Fails, Flushes, Loads, Stores}, Moments.Moment}
+use Rattle.block_disk.specs.{Laws.at_page, Requests.{Books, entered_by, no_books, seen}}
 use Rattle.block_disk.proofs.Door.{each_is, kept_none}
 use Rattle.block_queue.specs.Deeds as deed
-use Rattle.block_queue.specs.Deeds.{AreDeeds, Deed, act_of, after_deed, seen_of}
-use Rattle.block_queue.specs.Line.{Line, command_at}
+use Rattle.block_queue.specs.{Deeds.{AreDeeds, Deed, act_of, after_deed, seen_of}, Line.{Line, command_at}}
 use Rattle.block_queue.proofs.Door.{new_line}
 use Rattle.block_scheduler.specs.Laws.{all_deeds}
-use Rattle.block_engine.specs.declared.request.Answer.{Answer}
+use Rattle.block_engine.specs.{declared.request.{Answer.Answer, Request.Request}, Engine.{IsAskedOf, done_of, place_of, what_at}, Laws.all_moves}
 use Rattle.block_engine.specs.declared.request.Answer.TheVariants as answers
-use Rattle.block_engine.specs.declared.request.Request.{Request}
 use Rattle.block_engine.specs.declared.request.What.TheVariants as what
-use Rattle.block_engine.specs.Engine.{IsAskedOf, done_of, place_of, what_at}
 use Rattle.block_engine.specs.Laws as engine
-use Rattle.block_engine.specs.Laws.{all_moves}
 use Rattle.disk_pages.specs.declared.profile.Profile.{Profile}
 use Rattle.sata_disk.specs.State.{DiskState, commands, new_disk}
 use Rattle.sata_disk_laws.specs.Calls as call
@@ -26,14 +20,10 @@ use Rattle.sata_disk_laws.specs.Calls.{AreCalls, Answers, Asks, Call, IsCall, af
 use Rattle.sata_disk_laws.specs.Laws.{reached, seen_in}
 use Rattle.sata_disk_books.specs.Books.{books_after}
 use Rattle.sata_disk_books.proofs.Door.{books_both, shown_both, shown_from}
-use Rattle.sata_disk_media.specs.Cells.{Cell, Unknown}
-use Rattle.sata_disk_media.specs.Laws.{IsBrought, IsUnread}
-use Rattle.sata_disk_media.specs.Media.{IsHonest, IsTrue, cell_after, cell_of, kept}
-use Rattle.sata_disk_media.proofs.Called.{AllOf, call_are, calm_call, calm_deeds, deeds_are, deeds_by}
-use Rattle.sata_disk_media.proofs.Loaded.{Brings, GivenAt, answered_given, asked_given, calm_given, given_more}
-use Rattle.sata_disk_media.proofs.Numbers.{Numbered, new_numbered}
-use Rattle.sata_disk_media.proofs.Stored.{Each, Held, calm_held, is_calm}
-use Rattle.sata_disk_media.proofs.Walk.{call_held, call_numbered, shown_by, shown_one}
+use Rattle.sata_disk_media.specs.{Cells.{Cell, Unknown}, Laws.{IsBrought, IsUnread}, Media.{IsHonest, IsTrue, cell_after, cell_of, kept}}
+use Rattle.sata_disk_media.proofs.{Called.{AllOf, call_are, calm_call, calm_deeds, deeds_are, deeds_by}, Loaded.{Brings, GivenAt, answered_given}}
+use Rattle.sata_disk_media.proofs.{Loaded.{asked_given, calm_given, given_more}, Numbers.{Numbered, new_numbered}, Stored.{Each, Held, calm_held}}
+use Rattle.sata_disk_media.proofs.{Stored.is_calm, Walk.{call_held, call_numbered, shown_by, shown_one}}
 
 -- ## Lists of calls
 

@@ -1,54 +1,37 @@
 -- As a write ends well, nothing that was asked for before can still change its sectors. A store that is out bars each other store of its sectors, so the
 -- last store of a sector that is kept is the last one of all; and a discard that is out bars each command.
-use Rattle.std.proofs.Common.{◌≡◌, ◌≢◌, ℕ, ◌+◌, ◌*◌, ◌<◌, true, false, List, [], ◌∷◌, ◌++◌, length, Some, None, refl, sym, ap, ◌∙◌, arith, subst}
-use Rattle.std.proofs.Common.{◌⊎◌, inl, inr}
-use Rattle.std.specs.Prelude.{Option, Bool, not, ◌==◌, ◌&&◌, if◌then◌else◌}
-use Rattle.std.specs.List.{filter}
-use Rattle.std.proofs.lemmas.Bool.{cases_eq, eqb-true, false≢true, leb-true, ltb-true}
-use Rattle.block_command.specs.declared.command.Command.{Command}
-use Rattle.block_command.specs.declared.command.Stage.{Stage}
+use Rattle.std.proofs.Common.{◌≡◌, ◌≢◌, ℕ, ◌+◌, ◌*◌, ◌<◌, true, false, List, [], ◌∷◌, ◌++◌, length, Some, None, refl, sym, ap, ◌∙◌, arith, subst, ◌⊎◌}
+use Rattle.std.proofs.{Common.{inl, inr}, lemmas.Bool.{cases_eq, eqb-true, false≢true, leb-true, ltb-true}}
+use Rattle.std.specs.{Prelude.{Option, Bool, not, ◌==◌, ◌&&◌, if◌then◌else◌}, List.filter}
+use Rattle.block_command.specs.{declared.command.{Command.Command, Stage.Stage}, Laws.{AskedStore, Goes}, Moments.{Moment, part_count, runs, turn_of}}
 use Rattle.block_command.specs.declared.command.Stage.TheVariants as stage
-use Rattle.block_command.specs.Laws.{AskedStore, Goes}
-use Rattle.block_command.specs.Moments.{Moment, part_count, runs, turn_of}
 use Rattle.block_command.proofs.Door.{Agrees, at}
-use Rattle.block_disk.specs.Laws.{At, Page, Reset, Shown, shown_at}
-use Rattle.block_disk.specs.Requests.{Answered, Asked, Books, Drawn, OnLink, Queue, Seen, seen}
+use Rattle.block_disk.specs.{Laws.{At, Page, Reset, Shown, shown_at}, Requests.{Answered, Asked, Books, Drawn, OnLink, Queue, Seen, seen}}
 use Rattle.block_disk.proofs.Door.{Matches}
 use Rattle.block_queue.specs.Deeds as deed
-use Rattle.block_queue.specs.Deeds.{AllAreApart, AreApart, Deed, Each, Has, act_of, after_deed, is_other, is_stored, out_after, seen_of}
-use Rattle.block_queue.specs.Line.{Line, command_at}
+use Rattle.block_queue.specs.{Deeds.{AllAreApart, AreApart, Deed, Each, Has, act_of, after_deed, is_other, is_stored, out_after, seen_of}, Line.Line}
+use Rattle.block_queue.specs.Line.{command_at}
 use Rattle.block_queue.proofs.Door.{of_and}
-use Rattle.block_scheduler.specs.Laws.{all_deeds}
-use Rattle.block_scheduler.specs.Sets.{is_end}
-use Rattle.block_engine.specs.declared.aside.AsideKind.{AsideKind}
+use Rattle.block_scheduler.specs.{Laws.all_deeds, Sets.is_end}
+use Rattle.block_engine.specs.declared.{aside.AsideKind.AsideKind, request.{Answer.Answer, Range.Range, Request.Request, What.What}}
+use Rattle.block_engine.specs.{Engine.{IsAskedOf, aside_what, place_of, runs_at, what_at}, Laws.{all_moves, answer_moves}}
 use Rattle.block_engine.specs.declared.aside.AsideKind.TheVariants as kinds
-use Rattle.block_engine.specs.declared.request.Answer.{Answer}
 use Rattle.block_engine.specs.declared.request.Answer.TheVariants as answers
-use Rattle.block_engine.specs.declared.request.Range.{Range}
-use Rattle.block_engine.specs.declared.request.Request.{Request}
-use Rattle.block_engine.specs.declared.request.What.{What}
 use Rattle.block_engine.specs.declared.request.What.TheVariants as what
-use Rattle.block_engine.specs.Engine.{IsAskedOf, aside_what, place_of, runs_at, what_at}
 use Rattle.block_engine.specs.Laws as engine
-use Rattle.block_engine.specs.Laws.{all_moves, answer_moves}
 use Rattle.disk_pages.specs.declared.profile.Profile.{Profile}
 use Rattle.sata_disk.specs.State.{DiskState, commands, new_disk}
 use Rattle.sata_disk_laws.specs.Calls as call
-use Rattle.sata_disk_laws.specs.Calls.{AreCalls, Answers, Asks, Call, IsCall, after_call, after_calls, ask_steps, asked_by}
-use Rattle.sata_disk_laws.specs.Laws.{DiscardsAreAlone, RequestsAreApart, reached}
+use Rattle.sata_disk_laws.specs.{Calls.{AreCalls, Answers, Asks, Call, IsCall, after_call, after_calls, ask_steps, asked_by}, Laws.DiscardsAreAlone}
+use Rattle.sata_disk_laws.specs.Laws.{RequestsAreApart, reached}
 use Rattle.sata_disk_books.specs.Books.{books_after}
 use Rattle.sata_disk_books.proofs.Door.{shown_both, shown_from}
 use Rattle.sata_disk_media.specs.Cells.{Cell, Kept, Storing, Unknown, answered_cell, asked_cell, covers, in_ranges, kept_in, sector_of}
-use Rattle.sata_disk_media.specs.Laws.{WritesAreKept, touches}
-use Rattle.sata_disk_media.specs.Media.{cell_after, cell_of, kept, store_bytes}
-use Rattle.sata_disk_media.specs.Settled.{IsAnsweredIn, WritesAreSettled}
-use Rattle.sata_disk_media.proofs.Called.{AllOf, calm_deeds, deeds_by}
-use Rattle.sata_disk_media.proofs.Discarded.{IsPending, discards_settled, pending_discards}
-use Rattle.sata_disk_media.proofs.Kept.{Ended, IsAtEnd, cell_both, ended}
-use Rattle.sata_disk_media.proofs.Moments.{store_part}
-use Rattle.sata_disk_media.proofs.Runs.{IsHeld, are_first, are_then, books_in, held_then, run_held}
-use Rattle.sata_disk_media.proofs.Stored.{is_calm}
-use Rattle.sata_disk_media.proofs.Walk.{shown_by, shown_one}
+use Rattle.sata_disk_media.specs.{Laws.{WritesAreKept, touches}, Media.{cell_after, cell_of, kept, store_bytes}, Settled.IsAnsweredIn}
+use Rattle.sata_disk_media.specs.Settled.{WritesAreSettled}
+use Rattle.sata_disk_media.proofs.{Called.{AllOf, calm_deeds, deeds_by}, Discarded.{IsPending, discards_settled, pending_discards}, Kept.Ended}
+use Rattle.sata_disk_media.proofs.{Kept.{IsAtEnd, cell_both, ended}, Moments.store_part, Runs.{IsHeld, are_first, are_then, books_in, held_then}}
+use Rattle.sata_disk_media.proofs.{Runs.run_held, Stored.is_calm, Walk.{shown_by, shown_one}}
 
 -- ## What is out
 

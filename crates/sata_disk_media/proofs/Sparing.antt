@@ -1,26 +1,19 @@
 -- Where no write that has a sector is under way, and no discard waits, nothing asks for a store or a discard of it.
 use Rattle.std.proofs.Common.{◌≡◌, ℕ, true, false, List, [], ◌∷◌, ◌++◌, Some, None, refl, sym, ap, ◌∙◌, append_assoc, subst}
-use Rattle.std.specs.Prelude.{Option, Bool, ◌&&◌}
 use Rattle.std.proofs.lemmas.List.{append-nil}
-use Rattle.block_command.specs.declared.command.Turn.{Turn}
+use Rattle.std.specs.Prelude.{Option, Bool, ◌&&◌}
+use Rattle.block_command.specs.{declared.command.Turn.Turn, Moments.{Moment, turn_of}}
 use Rattle.block_command.specs.declared.command.Turn.TheVariants as turn
-use Rattle.block_command.specs.Moments.{Moment, turn_of}
 use Rattle.block_queue.specs.Line.{command_at}
-use Rattle.block_engine.specs.declared.aside.AsideKind.{AsideKind}
-use Rattle.block_engine.specs.declared.aside.AsideKind.TheVariants as kinds
-use Rattle.block_engine.specs.declared.request.Range.{Range}
-use Rattle.block_engine.specs.declared.request.Request.{Request}
-use Rattle.block_engine.specs.declared.request.What.{What}
-use Rattle.block_engine.specs.declared.request.What.TheVariants as what
-use Rattle.block_engine.specs.Aside.{is_waiting}
+use Rattle.block_engine.specs.{declared.{aside.AsideKind.AsideKind, request.{Range.Range, Request.Request, What.What}}, Aside.is_waiting}
 use Rattle.block_engine.specs.Engine.{EngineState, IsAskedOf, aside_what, is_discard, line, what_at, what_of}
+use Rattle.block_engine.specs.declared.aside.AsideKind.TheVariants as kinds
+use Rattle.block_engine.specs.declared.request.What.TheVariants as what
 use Rattle.disk_pages.specs.declared.profile.Profile.{Profile}
 use Rattle.sata_disk.specs.State.{DiskState, new_disk}
-use Rattle.sata_disk_laws.specs.Calls.{AreCalls, Asks, Call, IsCall, after_call, after_calls, asked_by}
-use Rattle.sata_disk_laws.specs.Laws.{reached}
+use Rattle.sata_disk_laws.specs.{Calls.{AreCalls, Asks, Call, IsCall, after_call, after_calls, asked_by}, Laws.reached}
 use Rattle.sata_disk_laws.proofs.Door.{calls_after}
-use Rattle.sata_disk_media.specs.Cells.{covers}
-use Rattle.sata_disk_media.specs.Laws.{AreSparing, IsUndisturbed, Spares, StoresAreOfWrites, UndisturbedIsSpared, touches}
+use Rattle.sata_disk_media.specs.{Cells.covers, Laws.{AreSparing, IsUndisturbed, Spares, StoresAreOfWrites, UndisturbedIsSpared, touches}}
 use Rattle.sata_disk_media.proofs.Runs.{are_first, are_then}
 
 -- ## A discard waits before it is asked for

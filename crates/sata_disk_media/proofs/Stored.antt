@@ -1,25 +1,19 @@
 -- What a write of which the page keeps bytes has stored, a cell keeps: what each deed of the commands leaves of that.
-use Rattle.std.proofs.Common.{◌≡◌, ◌≢◌, ℕ, ◌+◌, ◌-◌, ◌*◌, ◌<◌, ◌≤◌, true, false, List, length, get_or, set, Some, None, refl, sym, ap, ◌∙◌, arith, inl, inr, subst}
-use Rattle.std.specs.Prelude.{Option, Bool, not, replicate, if◌then◌else◌}
-use Rattle.std.specs.Option.{option_map}
-use Rattle.std.proofs.lemmas.Bool.{cases_eq}
-use Rattle.std.proofs.lemmas.Option.{same_Some}
-use Rattle.std.proofs.lemmas.List.{get_or-set_same, get_or-set_other, length-replicate, length-set}
-use Rattle.block_command.specs.declared.command.Command.{Command}
-use Rattle.block_command.specs.declared.command.Stage.{Stage}
-use Rattle.block_command.specs.declared.command.Stage.TheVariants.{Ended}
-use Rattle.block_command.specs.declared.command.Turn.{Turn}
+use Rattle.std.proofs.Common.{◌≡◌, ◌≢◌, ℕ, ◌+◌, ◌-◌, ◌*◌, ◌<◌, ◌≤◌, true, false, List, length, get_or, set, Some, None, refl, sym, ap, ◌∙◌, arith}
+use Rattle.std.proofs.{Common.{inl, inr, subst}, lemmas.{Bool.cases_eq, Option.same_Some, List.{get_or-set_same, get_or-set_other, length-replicate}}}
+use Rattle.std.proofs.lemmas.List.{length-set}
+use Rattle.std.specs.{Prelude.{Option, Bool, not, replicate, if◌then◌else◌}, Option.option_map}
+use Rattle.block_command.specs.{declared.command.{Command.Command, Stage.{Stage, TheVariants.Ended}, Turn.Turn}, Moments.{Moment, is_ended}}
+use Rattle.block_command.specs.{Moments.{is_storing, opening, part_count, part_lba, turn_of}, Laws.{Input, Goes, Comes, Happening, blank, after}}
+use Rattle.block_command.specs.Laws.{happening}
 use Rattle.block_command.specs.declared.command.Turn.TheVariants as turn
-use Rattle.block_command.specs.Moments.{Moment, is_ended, is_storing, opening, part_count, part_lba, turn_of}
-use Rattle.block_command.specs.Laws.{Input, Goes, Comes, Happening, blank, after, happening}
 use Rattle.block_disk.specs.Table as table
-use Rattle.block_disk.specs.Table.{is_under_way, may_go, with_command, with_taken}
-use Rattle.block_disk.specs.Laws.{At, Page, Refused, Reset, Shown, Took, entered_in, page_entered, shown_at}
-use Rattle.block_disk.specs.Requests.{Answered, Asked, Books, Drawn, IsAct, OnLink, Queue, Seen, after_act, entered_by, is_fis, is_request, out_after, seen, sends_at, with_drawn, with_table}
+use Rattle.block_disk.specs.{Table.{is_under_way, may_go, with_command, with_taken}, Laws.{At, Page, Refused, Reset, Shown, Took, entered_in}}
+use Rattle.block_disk.specs.{Laws.{page_entered, shown_at}, Requests.{Answered, Asked, Books, Drawn, IsAct, OnLink, Queue, Seen, after_act}}
+use Rattle.block_disk.specs.Requests.{entered_by, is_fis, is_request, out_after, seen, sends_at, with_drawn, with_table}
 use Rattle.block_disk.proofs.Door.{Agree, each_is, one}
 use Rattle.block_queue.specs.Deeds as deed
-use Rattle.block_queue.specs.Deeds.{Deed, IsDeed, act_of, after_deed}
-use Rattle.block_queue.specs.Line.{IsLine, Line, command_at, may_start_at, moved_back, starts, with_queue}
+use Rattle.block_queue.specs.{Deeds.{Deed, IsDeed, act_of, after_deed}, Line.{IsLine, Line, command_at, may_start_at, moved_back, starts, with_queue}}
 use Rattle.block_queue.proofs.Door.{any_at, line_after, of_and, of_or}
 use Rattle.block_scheduler.specs.Schedule.{is_busy, is_quiet}
 use Rattle.sata_disk_media.specs.Cells.{Cell, Kept, Storing, covers, sector_of}

@@ -1,39 +1,29 @@
 -- What is held over each call of a disk.
-use Rattle.std.proofs.Common.{◌≡◌, ℕ, zero, suc, ◌<◌, true, false, List, [], ◌∷◌, ◌++◌, get_or, Some, None, refl, sym, ap, ◌∙◌, arith, inl, inr, subst}
+use Rattle.std.proofs.Common.{◌≡◌, ℕ, zero, suc, ◌<◌, true, false, List, [], ◌∷◌, ◌++◌, get_or, Some, None, refl, sym, ap, ◌∙◌, arith, inl, inr}
+use Rattle.std.proofs.{Common.subst, lemmas.{Bool.{cases_eq, eq-eqb, eqb-true, lt-ltb}, List.{append-nil}, Option.same_Some}}
 use Rattle.std.specs.Prelude.{Option, Bool, ◌&&◌, ◌||◌, ◌==◌, nat_lt, if◌then◌else◌}
-use Rattle.std.proofs.lemmas.Bool.{cases_eq, eq-eqb, eqb-true, lt-ltb}
-use Rattle.std.proofs.lemmas.List.{append-nil}
-use Rattle.std.proofs.lemmas.Option.{same_Some}
-use Rattle.block_command.specs.declared.answer.AnswerError.{AnswerError}
+use Rattle.block_command.specs.{declared.answer.AnswerError.AnswerError, Laws.{Fails, Loads, Stores, Flushes}}
 use Rattle.block_command.specs.Laws as command
-use Rattle.block_command.specs.Laws.{Fails, Loads, Stores, Flushes}
 use Rattle.block_disk.specs.Requests.{Books, Seen, entered_by, is_answer, is_out, number_at, number_of as given_number, seen}
 use Rattle.block_queue.specs.Deeds as deed
-use Rattle.block_queue.specs.Deeds.{AreDeeds, Deed, IsDeed, act_of, after_deed, seen_of}
-use Rattle.block_queue.specs.Line.{Line, awaits, command_at, first_below, is_of, line_refusal, or_this, orphan}
-use Rattle.block_queue.specs.declared.queue.Orphan.{Orphan}
-use Rattle.block_scheduler.specs.Laws.{all_deeds}
-use Rattle.block_scheduler.specs.Schedule.{is_quiet}
+use Rattle.block_queue.specs.{Deeds.{AreDeeds, Deed, IsDeed, act_of, after_deed, seen_of}, Line.{Line, awaits, command_at, first_below, is_of}}
+use Rattle.block_queue.specs.{Line.{line_refusal, or_this, orphan}, declared.queue.Orphan.Orphan}
+use Rattle.block_scheduler.specs.{Laws.all_deeds, Schedule.is_quiet}
 use Rattle.block_engine.specs.declared.numbers.Holder.TheVariants as holder
-use Rattle.block_engine.specs.declared.request.Answer.{Answer}
+use Rattle.block_engine.specs.{declared.request.{Answer.Answer, Request.Request}, Engine.{EngineState, IsAskedOf, answer_refusal, done_of}}
+use Rattle.block_engine.specs.{Engine.{done_refusal, fail_refusal, failure_misfit, line, load_refusal, or_else, place_of, what_at}, Laws.Step}
+use Rattle.block_engine.specs.{Laws.{after_step, after_steps, all_moves}, Numbers.store_number}
 use Rattle.block_engine.specs.declared.request.Answer.TheVariants as answers
-use Rattle.block_engine.specs.declared.request.Request.{Request}
-use Rattle.block_engine.specs.Engine.{EngineState, IsAskedOf, answer_refusal, done_of, done_refusal, fail_refusal, failure_misfit, line, load_refusal, or_else, place_of, what_at}
 use Rattle.block_engine.specs.Laws as engine
-use Rattle.block_engine.specs.Laws.{Step, after_step, after_steps, all_moves}
-use Rattle.block_engine.specs.Numbers.{store_number}
 use Rattle.block_engine.proofs.Runs.{found_low}
 use Rattle.sata_disk.specs.State.{DiskState, commands}
 use Rattle.sata_disk_laws.specs.Calls as call
 use Rattle.sata_disk_laws.specs.Calls.{AreCalls, Call, IsCall, after_call, after_calls, all_steps, asked_by, steps_of}
 use Rattle.sata_disk_books.specs.Books.{books_after}
 use Rattle.sata_disk_books.proofs.Door.{after_deeds, call_after, line_then, shown_from}
-use Rattle.sata_disk_media.specs.Cells.{Cell, answered_cell, asked_cell, bytes_at}
-use Rattle.sata_disk_media.specs.Media.{cell_after, store_bytes}
-use Rattle.sata_disk_media.proofs.Called.{AllOf, call_are, calm_call, calm_deeds, deeds_are, deeds_by}
-use Rattle.sata_disk_media.proofs.Numbers.{Numbered, step_numbered}
-use Rattle.sata_disk_media.proofs.Requested.{Fits, IsOnly, answered_held, asked_held, left_claims}
-use Rattle.sata_disk_media.proofs.Stored.{Held, calm_held, drawn_held, is_calm}
+use Rattle.sata_disk_media.specs.{Cells.{Cell, answered_cell, asked_cell, bytes_at}, Media.{cell_after, store_bytes}}
+use Rattle.sata_disk_media.proofs.{Called.{AllOf, call_are, calm_call, calm_deeds, deeds_are, deeds_by}, Numbers.{Numbered, step_numbered}}
+use Rattle.sata_disk_media.proofs.{Requested.{Fits, IsOnly, answered_held, asked_held, left_claims}, Stored.{Held, calm_held, drawn_held, is_calm}}
 
 -- ## One call by itself
 

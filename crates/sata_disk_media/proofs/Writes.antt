@@ -1,33 +1,22 @@
 -- A store that is asked for is of a write in the books.
-use Rattle.std.proofs.Common.{◌≡◌, ℕ, ◌+◌, ◌<◌, true, false, List, Some, None, refl, sym, ap, ◌∙◌, arith, subst}
+use Rattle.std.proofs.{Common.{◌≡◌, ℕ, ◌+◌, ◌<◌, true, false, List, Some, None, refl, sym, ap, ◌∙◌, arith, subst}, lemmas.Bool.{leb-true, ltb-true}}
 use Rattle.std.specs.Prelude.{not, Option}
-use Rattle.std.proofs.lemmas.Bool.{leb-true, ltb-true}
-use Rattle.block_command.specs.declared.command.Command.{Command}
-use Rattle.block_command.specs.declared.command.Stage.{Stage}
+use Rattle.block_command.specs.{declared.command.{Command.Command, Stage.Stage}, Moments.{Moment, is_ended, part_count, turn_of}}
 use Rattle.block_command.specs.declared.command.Stage.TheVariants as stage
-use Rattle.block_command.specs.Moments.{Moment, is_ended, part_count, turn_of}
 use Rattle.block_command.proofs.Door.{Agrees, at}
-use Rattle.block_disk.specs.Laws.{Page}
-use Rattle.block_disk.specs.Requests.{asks_at, is_request}
-use Rattle.block_disk.specs.Table.{is_under_way}
+use Rattle.block_disk.specs.{Laws.Page, Requests.{asks_at, is_request}, Table.is_under_way}
 use Rattle.block_disk.proofs.Door.{Matches}
 use Rattle.block_queue.specs.Line.{command_at}
 use Rattle.block_queue.proofs.Door.{of_and}
-use Rattle.block_engine.specs.declared.aside.AsideKind.{AsideKind}
+use Rattle.block_engine.specs.{declared.{aside.AsideKind.AsideKind, request.Request.Request}, Engine.{IsAskedOf, aside_what, what_at}}
 use Rattle.block_engine.specs.declared.aside.AsideKind.TheVariants as kinds
-use Rattle.block_engine.specs.declared.request.Request.{Request}
 use Rattle.block_engine.specs.declared.request.What.TheVariants as what
-use Rattle.block_engine.specs.Engine.{IsAskedOf, aside_what, what_at}
 use Rattle.disk_pages.specs.declared.profile.Profile.{Profile}
 use Rattle.sata_disk.specs.State.{commands}
-use Rattle.sata_disk_laws.specs.Calls.{Call, asked_by}
-use Rattle.sata_disk_laws.specs.Laws.{reached}
+use Rattle.sata_disk_laws.specs.{Calls.{Call, asked_by}, Laws.reached}
 use Rattle.sata_disk_books.specs.Books.{page_in}
-use Rattle.sata_disk_media.specs.Cells.{covers}
-use Rattle.sata_disk_media.specs.Laws.{IsOfWrite, StoresAreOfWrites}
-use Rattle.sata_disk_media.proofs.Loaded.{covered}
-use Rattle.sata_disk_media.proofs.Moments.{part_below, store_part}
-use Rattle.sata_disk_media.proofs.Runs.{run_held}
+use Rattle.sata_disk_media.specs.{Cells.covers, Laws.{IsOfWrite, StoresAreOfWrites}}
+use Rattle.sata_disk_media.proofs.{Loaded.covered, Moments.{part_below, store_part}, Runs.run_held}
 
 record OfWrite (y : Option Page) (s : ℕ) : Type 0 where
   pub page : Page

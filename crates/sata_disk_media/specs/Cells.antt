@@ -2,10 +2,7 @@
 use Rattle.std.specs.Prelude.{ℕ, ◌+◌, ◌-◌, ◌*◌, ◌==◌, ◌&&◌, nat_le, nat_lt, Bool, List, [], take, drop, Option, Some, None, if◌then◌else◌}
 use Rattle.std.specs.List.{list_any}
 use Rattle.block_command.specs.Moments.{Moment}
-use Rattle.block_engine.specs.declared.request.Answer.{Answer}
-use Rattle.block_engine.specs.declared.request.Answer.TheVariants.{Done, Failed}
-use Rattle.block_engine.specs.declared.request.Range.{Range}
-use Rattle.block_engine.specs.declared.request.What.{What}
+use Rattle.block_engine.specs.declared.request.{Answer.{Answer, TheVariants.{Done, Failed}}, Range.Range, What.What}
 use Rattle.block_engine.specs.declared.request.What.TheVariants as what
 
 pub data Cell : Type 0 where

@@ -4,27 +4,17 @@ use Rattle.fis_view.specs.Seen.{seen}
 use Rattle.fis_view.specs.declared.view.Fis.TheVariants as view
 use Rattle.block_command.specs.declared.command.Command.{Command}
 use Rattle.block_disk.specs.Laws.{Page}
-use Rattle.block_engine.specs.declared.request.Answer.{Answer}
-use Rattle.block_engine.specs.declared.request.Range.{Range}
-use Rattle.block_engine.specs.declared.request.Request.{Request}
-use Rattle.block_engine.specs.declared.request.What.{What}
+use Rattle.block_engine.specs.{declared.request.{Answer.Answer, Range.Range, Request.Request, What.What}, Aside.is_waiting, Engine.is_discard}
 use Rattle.block_engine.specs.declared.request.What.TheVariants as what
-use Rattle.block_engine.specs.Aside.{is_waiting}
-use Rattle.block_engine.specs.Engine.{is_discard}
 use Rattle.block_queue.specs.Line.{command_at, has_bit}
 use Rattle.ata_front.specs.declared.task.Act.TheVariants as act
 use Rattle.disk_pages.specs.declared.profile.Profile.{Profile}
-use Rattle.sata_disk.specs.Hearing.{register_told}
-use Rattle.sata_disk.specs.Sending.{IsOut, part_at}
-use Rattle.sata_disk.specs.State.{DiskState, commands, is_taken, new_disk}
+use Rattle.sata_disk.specs.{Hearing.register_told, Sending.{IsOut, part_at}, State.{DiskState, commands, is_taken, new_disk}, declared.out.Out.Out}
 use Rattle.ata_reply.specs.declared.reply.Reply.TheVariants as replies
-use Rattle.sata_disk.specs.declared.out.Out.{Out}
 use Rattle.sata_disk.specs.declared.out.Out.TheVariants as out
-use Rattle.sata_disk_laws.specs.Calls.{AreCalls, Answers, Asks, Call, Hears, IsCall, Sends, after_call}
-use Rattle.sata_disk_laws.specs.Laws.{reached}
+use Rattle.sata_disk_laws.specs.{Calls.{AreCalls, Answers, Asks, Call, Hears, IsCall, Sends, after_call}, Laws.reached}
 use Rattle.sata_disk_books.specs.Books.{page_in}
-use Rattle.sata_disk_media.specs.Cells.{covers, in_ranges, sector_of}
-use Rattle.sata_disk_media.specs.Media.{IsHonest, kept}
+use Rattle.sata_disk_media.specs.{Cells.{covers, in_ranges, sector_of}, Media.{IsHonest, kept}}
 
 -- ## What a load brings
 

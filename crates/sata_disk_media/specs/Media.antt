@@ -1,9 +1,6 @@
 -- What a medium was told to keep, over a run of a disk, and a medium that keeps it.
 use Rattle.std.specs.Prelude.{ℕ, ◌≡◌, true, List, [], ◌∷◌, ◌++◌, Option, Some, None}
-use Rattle.block_engine.specs.declared.request.Answer.{Answer}
-use Rattle.block_engine.specs.declared.request.Answer.TheVariants.{Loaded}
-use Rattle.block_engine.specs.declared.request.Request.{Request}
-use Rattle.block_engine.specs.declared.request.What.{What}
+use Rattle.block_engine.specs.declared.request.{Answer.{Answer, TheVariants.Loaded}, Request.Request, What.What}
 use Rattle.block_engine.specs.declared.request.What.TheVariants as what
 use Rattle.block_queue.specs.Line.{command_at}
 use Rattle.disk_pages.specs.declared.profile.Profile.{Profile}

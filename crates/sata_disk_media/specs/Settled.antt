@@ -2,17 +2,12 @@
 -- plug, a reset or an error dropped while it was out.
 use Rattle.std.specs.Prelude.{ℕ, ◌≡◌, true, List, ◌∷◌, ◌++◌, Some}
 use Rattle.block_disk.specs.Laws.{Page}
-use Rattle.block_engine.specs.declared.request.Answer.{Answer}
-use Rattle.block_engine.specs.declared.request.Request.{Request}
+use Rattle.block_engine.specs.declared.request.{Answer.Answer, Request.Request}
 use Rattle.disk_pages.specs.declared.profile.Profile.{Profile}
-use Rattle.sata_disk.specs.Sending.{IsOut}
-use Rattle.sata_disk.specs.State.{new_disk}
-use Rattle.sata_disk.specs.declared.out.Out.{Out}
+use Rattle.sata_disk.specs.{Sending.IsOut, State.new_disk, declared.out.Out.Out}
 use Rattle.sata_disk_books.specs.Books.{page_in}
-use Rattle.sata_disk_laws.specs.Calls.{AreCalls, Answers, Asks, Call}
-use Rattle.sata_disk_laws.specs.Laws.{reached}
-use Rattle.sata_disk_media.specs.Cells.{covers}
-use Rattle.sata_disk_media.specs.Laws.{EndsWell, touches}
+use Rattle.sata_disk_laws.specs.{Calls.{AreCalls, Answers, Asks, Call}, Laws.reached}
+use Rattle.sata_disk_media.specs.{Cells.covers, Laws.{EndsWell, touches}}
 
 -- one of these calls answers the request of this number
 pub record IsAnsweredIn (number : ℕ) (calls : List Call) : Type 0 where

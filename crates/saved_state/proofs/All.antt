@@ -2,9 +2,8 @@
 use Rattle.std.proofs.Common.{◌≡◌, ◌<◌, ◌+◌, ◌∙◌, ◌++◌, ℕ, List, [], ◌∷◌, Err, length, take, set, refl, sym, ap, subst, add-one, arith}
 use Rattle.std.proofs.Math.Seq.{take-suc-set}
 use Rattle.std.specs.List.{AllByRecursion}
-use Rattle.saved_state.specs.declared.words.RestoreError.{RestoreError}
-use Rattle.saved_state.specs.declared.words.RestoreError.TheVariants.{OutOfMemory, Short, NoSuch, Broken}
-use Rattle.saved_state.specs.State.{IsToldApart, NotSaved, Restores, RestoresAll, RestoresList, put_all, put_list}
+use Rattle.saved_state.specs.{declared.words.RestoreError.{RestoreError, TheVariants.{OutOfMemory, Short, NoSuch, Broken}}, State.IsToldApart}
+use Rattle.saved_state.specs.State.{NotSaved, Restores, RestoresAll, RestoresList, put_all, put_list}
 
 -- one more
 pub put_all-append : {A : Type 0} (put : A → List ℕ → List ℕ) (xs : List A) (v : A) (rest : List ℕ)

@@ -1,11 +1,7 @@
 -- Words as bytes: the word on top first, and of each the lowest byte first.
-use Rattle.std.specs.Prelude.{◌≡◌, ℕ, ◌<◌, ◌^◌, List, [], ◌∷◌, ◌++◌, Result, Ok, Err}
-use Rattle.std.specs.Int.{from_le_bytes, to_le_bytes, w64}
-use Rattle.std.proofs.Common.{ap, sym, take, ◌∙◌, refl}
-use Rattle.std.proofs.lemmas.Nat.{from_le_bytes-to_le_bytes_8}
-use Rattle.std.specs.List.{AllByRecursion}
-use Rattle.saved_state.specs.declared.words.RestoreError.{RestoreError}
-use Rattle.saved_state.specs.declared.words.RestoreError.TheVariants.{OutOfMemory}
+use Rattle.std.specs.{Prelude.{◌≡◌, ℕ, ◌<◌, ◌^◌, List, [], ◌∷◌, ◌++◌, Result, Ok, Err}, Int.{from_le_bytes, to_le_bytes, w64}, List.AllByRecursion}
+use Rattle.std.proofs.{Common.{ap, sym, take, ◌∙◌, refl}, lemmas.Nat.{from_le_bytes-to_le_bytes_8}}
+use Rattle.saved_state.specs.declared.words.RestoreError.{RestoreError, TheVariants.OutOfMemory}
 
 abbrev pub bytes_of : List ℕ → List ℕ
 bytes_of [] = []

@@ -1,10 +1,8 @@
 -- What is saved, as words: `put value rest` are the words of a value, and behind them others.
-use Rattle.std.specs.Prelude.{◌≡◌, ℕ, List, [], ◌∷◌, Option, Some, None, Bool, true, false, Result, Ok, Err, Vec, length, refl}
-use Rattle.std.specs.Global.{Global}
+use Rattle.std.specs.{Prelude.{◌≡◌, ℕ, List, [], ◌∷◌, Option, Some, None, Bool, true, false, Result, Ok, Err, Vec, length, refl}, Global.Global}
 use Rattle.std.specs.List.{AllByRecursion}
 use Rattle.std.proofs.Common.{ap, arith, sym, ◌∙◌}
-use Rattle.saved_state.specs.declared.words.RestoreError.{RestoreError}
-use Rattle.saved_state.specs.declared.words.RestoreError.TheVariants.{OutOfMemory, Short, NoSuch, Broken}
+use Rattle.saved_state.specs.declared.words.RestoreError.{RestoreError, TheVariants.{OutOfMemory, Short, NoSuch, Broken}}
 
 -- these are the words of no value
 abbrev pub NotSaved : {A : Type 0} → (A → List ℕ → List ℕ) → (A → Type 0) → List ℕ → Type 0

@@ -1,25 +1,17 @@
 -- What holds for every table still holds after a call.
-use Rattle.std.proofs.Common.{◌≡◌, ℕ, ◌/◌, ◌<◌, Bool, true, false, not, ◌&&◌, ◌||◌, List, [], get_or, length, cond, refl, sym, ◌∙◌, ap, subst, arith, inl, inr, Option, Some, None, get_or-set_same}
-use Rattle.std.specs.Prelude.{MatchOption, IfSome, IsSome, is_none}
-use Rattle.std.specs.Bool.{then_some}
-use Rattle.std.specs.Option.{is_some, option_map}
-use Rattle.std.proofs.lemmas.Bool.{cases_lt, and_parts, or_left, or_right, or_cases, cond-true, cond-false, not-true, false≢true}
-use Rattle.std.proofs.lemmas.List.{get_or_default, get_or_past, length-map, length-replicate}
-use Rattle.slots.specs.declared.table.Context.{Context}
-use Rattle.slots.specs.Commands.{MayBeSent, after_pio_done, after_sent, answer_for, answer_of, answered_issue, is_slot, may_begin, may_go, sent_issue, whole_pio, with_sent}
-use Rattle.slots.specs.declared.slot.Issued.{Issued}
-use Rattle.slots.specs.declared.work.Work.{Work}
-use Rattle.slots.specs.Work.{IsWork, needs_all}
-use Rattle.slots.specs.Issued.{issued_of, with_flags}
-use Rattle.slots.specs.Slots.{Issue, Slots, DeviceSlots, issue_at, owned_by, own_issue, slots_of, freed, has_bit, holds, is_control, is_out_issue, is_queued_issue, is_sent_pio, is_under_way, is_waiting, is_whole_issue, match_some, new_issue, sent_out, sent_pio, waiting}
-use Rattle.slots.specs.Setup.{after_setup_pio, begun, came, is_outstanding, new_context, pio_fault, pio_issue, with_own_context}
-use Rattle.slots.specs.declared.answer.Answered.{Answered}
-use Rattle.slots.specs.declared.answer.SetupError.{SetupError}
-use Rattle.slots.specs.Table.{IsIssue, IsContextOf, IsFresh, IsTable, waits_for}
-use Rattle.slots.specs.Between.{Owns}
-use Rattle.slots.proofs.StretchLemmas.{few_first}
-use Rattle.slots.proofs.MaskLemmas.{none_below}
-use Rattle.slots.proofs.TableLemmas.{Keeps, context_some, own_at, owned_own, owned_same, owns_where, table_changed, table_with_issue, with_issue}
+use Rattle.std.proofs.Common.{◌≡◌, ℕ, ◌/◌, ◌<◌, Bool, true, false, not, ◌&&◌, ◌||◌, List, [], get_or, length, cond, refl, sym, ◌∙◌, ap, subst, arith}
+use Rattle.std.proofs.{Common.{inl, inr, Option, Some, None, get_or-set_same}, lemmas.Bool.{cases_lt, and_parts, or_left, or_right, or_cases}}
+use Rattle.std.proofs.lemmas.{Bool.{cond-true, cond-false, not-true, false≢true}, List.{get_or_default, get_or_past, length-map, length-replicate}}
+use Rattle.std.specs.{Prelude.{MatchOption, IfSome, IsSome, is_none}, Bool.then_some, Option.{is_some, option_map}}
+use Rattle.slots.specs.{declared.table.Context.Context, Commands.{MayBeSent, after_pio_done, after_sent, answer_for, answer_of, answered_issue}}
+use Rattle.slots.specs.{Commands.{is_slot, may_begin, may_go, sent_issue, whole_pio, with_sent}, declared.{slot.Issued.Issued, work.Work.Work}}
+use Rattle.slots.specs.{Work.{IsWork, needs_all}, Issued.{issued_of, with_flags}, Slots.{Issue, Slots, DeviceSlots, issue_at, owned_by, own_issue}}
+use Rattle.slots.specs.Slots.{slots_of, freed, has_bit, holds, is_control, is_out_issue, is_queued_issue, is_sent_pio, is_under_way, is_waiting}
+use Rattle.slots.specs.{Slots.{is_whole_issue, match_some, new_issue, sent_out, sent_pio, waiting}, Setup.{after_setup_pio, begun, came}}
+use Rattle.slots.specs.{Setup.{is_outstanding, new_context, pio_fault, pio_issue, with_own_context}, declared.answer.Answered.Answered}
+use Rattle.slots.specs.{declared.answer.SetupError.SetupError, Table.{IsIssue, IsContextOf, IsFresh, IsTable, waits_for}, Between.Owns}
+use Rattle.slots.proofs.{StretchLemmas.few_first, MaskLemmas.none_below, TableLemmas.{Keeps, context_some, own_at, owned_own, owned_same, owns_where}}
+use Rattle.slots.proofs.TableLemmas.{table_changed, table_with_issue, with_issue}
 
 -- what is issued in a slot, if it is the device's and a test holds for it
 pub record Found (test : Issue → Bool) (dev s : ℕ) (t : Slots) : Type 0 where

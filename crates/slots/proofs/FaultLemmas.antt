@@ -1,13 +1,9 @@
 -- Why a DMA Setup for a slot is refused.
-use Rattle.std.proofs.Common.{◌≡◌, ℕ, Bool, ◌&&◌, nat_eq, cond, List, refl, sym, ◌∙◌, ap, inl, inr, Option, Some, None}
+use Rattle.std.proofs.{Common.{◌≡◌, ℕ, Bool, ◌&&◌, nat_eq, cond, List, refl, sym, ◌∙◌, ap, inl, inr, Option, Some, None}, lemmas.Bool.cases_Bool}
+use Rattle.std.proofs.lemmas.Bool.{cond-true, cond-false}
 use Rattle.std.specs.Option.{option_map}
-use Rattle.std.proofs.lemmas.Bool.{cases_Bool, cond-true, cond-false}
-use Rattle.slots.specs.declared.answer.SetupError.{SetupError}
-use Rattle.slots.specs.declared.slot.Issued.{Issued}
-use Rattle.slots.specs.Issued.{issue_in, issued_of, with_flags}
-use Rattle.slots.specs.Setup.{setup_fault, transfer_fault}
-use Rattle.slots.specs.Slots.{Issue, owned_by}
-use Rattle.slots.specs.Work.{is_queued}
+use Rattle.slots.specs.{declared.{answer.SetupError.SetupError, slot.Issued.Issued}, Issued.{issue_in, issued_of, with_flags}, Setup.setup_fault}
+use Rattle.slots.specs.{Setup.transfer_fault, Slots.{Issue, owned_by}, Work.is_queued}
 
 none_some : (i : Issued) → None ≡ Some i → ⊥
 none_some i h = cc

@@ -1,25 +1,17 @@
 -- A context of new bytes lies within its issue.
-use Rattle.std.proofs.Common.{◌≡◌, ℕ, ◌+◌, ◌%◌, ◌<◌, ◌≤◌, Bool, true, false, not, ◌&&◌, ◌||◌, nat_eq, nat_lt, nat_le, List, length, refl, sym, ◌∙◌, ap, subst, arith, inl, inr, Option, Some, None}
-use Rattle.std.specs.Prelude.{MatchOption, if◌then◌else◌, Result, Ok, Err}
-use Rattle.std.specs.Bool.{beq}
-use Rattle.std.specs.Option.{is_some, option_or}
-use Rattle.std.proofs.lemmas.Bool.{and_parts, cond-true, or_left, or_right, cases_lt, eqb-true, eqb-false, ltb-false, false≢true}
-use Rattle.slots.specs.declared.table.Context.{Context}
-use Rattle.slots.specs.declared.work.Kind.{Kind}
-use Rattle.slots.specs.declared.work.Kind.TheVariants.{QueuedRead, QueuedWrite, DmaIn, DmaOut, PioIn, PioOut, NoData, Control}
-use Rattle.slots.specs.declared.work.Work.{Work}
-use Rattle.slots.specs.Bytes.{any_over, ends_at, none_over, stretches_of}
-use Rattle.slots.specs.declared.answer.SetupError.{SetupError}
-use Rattle.slots.specs.declared.answer.SetupError.TheVariants.{NotOutstanding, WrongWay, Overflow, Twice, Fragments, BadCount}
-use Rattle.slots.specs.Data.{activated}
-use Rattle.slots.specs.Setup.{after_setup, after_setup_out, came, context_or, dma_context, is_full_at, is_outstanding, long_fault, new_context, out_context, out_fault, out_setup, setup_fault, transfer_fault, with_setup}
-use Rattle.slots.specs.Slots.{DeviceSlots, Issue, Slots, issue_at, holds, is_out_issue, is_under_way, is_waiting, match_some, own_issue, owned_by, sent_out, slots_of, waiting}
-use Rattle.slots.specs.Table.{IsContext, IsContextOf, IsFresh, IsIssue, IsTable}
-use Rattle.slots.specs.Work.{is_dma, is_out, is_read, needs_all}
-use Rattle.slots.proofs.CallLemmas.{Found, found}
-use Rattle.slots.proofs.MaskLemmas.{lowest_is}
-use Rattle.slots.proofs.StretchLemmas.{none_over_any, none_over_runs}
-use Rattle.slots.proofs.TableLemmas.{own_at, owned_own}
+use Rattle.std.proofs.Common.{◌≡◌, ℕ, ◌+◌, ◌%◌, ◌<◌, ◌≤◌, Bool, true, false, not, ◌&&◌, ◌||◌, nat_eq, nat_lt, nat_le, List, length, refl, sym, ◌∙◌}
+use Rattle.std.proofs.{Common.{ap, subst, arith, inl, inr, Option, Some, None}, lemmas.Bool.{and_parts, cond-true, or_left, or_right, cases_lt}}
+use Rattle.std.proofs.lemmas.Bool.{eqb-true, eqb-false, ltb-false, false≢true}
+use Rattle.std.specs.{Prelude.{MatchOption, if◌then◌else◌, Result, Ok, Err}, Bool.beq, Option.{is_some, option_or}}
+use Rattle.slots.specs.declared.{table.Context.Context, work.Kind.{Kind, TheVariants.{QueuedRead, QueuedWrite, DmaIn, DmaOut, PioIn, PioOut, NoData}}}
+use Rattle.slots.specs.{declared.work.{Kind.TheVariants.Control, Work.Work}, Bytes.{any_over, ends_at, none_over, stretches_of}}
+use Rattle.slots.specs.declared.answer.SetupError.{SetupError, TheVariants.{NotOutstanding, WrongWay, Overflow, Twice, Fragments, BadCount}}
+use Rattle.slots.specs.{Data.activated, Setup.{after_setup, after_setup_out, came, context_or, dma_context, is_full_at, is_outstanding, long_fault}}
+use Rattle.slots.specs.{Setup.{new_context, out_context, out_fault, out_setup, setup_fault, transfer_fault, with_setup}, Slots.{DeviceSlots, Issue}}
+use Rattle.slots.specs.Slots.{Slots, issue_at, holds, is_out_issue, is_under_way, is_waiting, match_some, own_issue, owned_by, sent_out, slots_of}
+use Rattle.slots.specs.{Slots.waiting, Table.{IsContext, IsContextOf, IsFresh, IsIssue, IsTable}, Work.{is_dma, is_out, is_read, needs_all}}
+use Rattle.slots.proofs.{CallLemmas.{Found, found}, MaskLemmas.lowest_is, StretchLemmas.{none_over_any, none_over_runs}, TableLemmas.own_at}
+use Rattle.slots.proofs.TableLemmas.{owned_own}
 
 dma_needs : (k : Kind) → is_dma k ≡ true → needs_all k ≡ true
 dma_needs QueuedRead h = absurd (false≢true h)

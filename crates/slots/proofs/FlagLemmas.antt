@@ -1,9 +1,7 @@
 -- The flags of stretches.
-use Rattle.std.proofs.Common.{◌≡◌, ℕ, ◌<◌, Bool, false, List, [], get_or, replicate, length, sym, ◌∙◌, arith}
-use Rattle.std.proofs.lemmas.List.{same_lists, length-replicate, get_or-replicate}
-use Rattle.std.proofs.lemmas.List.FromFn.{length-map-range_with_len, get_or-map-range_with_len}
-use Rattle.slots.specs.declared.moved.Stretch.{Stretch}
-use Rattle.slots.specs.Stretches.{in_one, over_of}
+use Rattle.std.proofs.{Common.{◌≡◌, ℕ, ◌<◌, Bool, false, List, [], get_or, replicate, length, sym, ◌∙◌, arith}, lemmas.List.same_lists}
+use Rattle.std.proofs.lemmas.List.{length-replicate, get_or-replicate, FromFn.{length-map-range_with_len, get_or-map-range_with_len}}
+use Rattle.slots.specs.{declared.moved.Stretch.Stretch, Stretches.{in_one, over_of}}
 
 pub length-over : (n : ℕ) (ss : List Stretch) → length (over_of n ss) ≡ n
 length-over n ss = length-map-range_with_len (in_one ss) 0 n

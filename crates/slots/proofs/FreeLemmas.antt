@@ -1,15 +1,13 @@
 -- Slots that are freed.
-use Rattle.std.proofs.Common.{◌≡◌, ◌≢◌, ℕ, ◌<◌, Bool, true, false, nat_eq, cond, List, get_or, set, length, map, refl, sym, ◌∙◌, ap, subst, arith, inl, inr, Option, Some, None, get_or-set_same, get_or-set_other, length-set}
+use Rattle.std.proofs.Common.{◌≡◌, ◌≢◌, ℕ, ◌<◌, Bool, true, false, nat_eq, cond, List, get_or, set, length, map, refl, sym, ◌∙◌, ap, subst, arith}
+use Rattle.std.proofs.{Common.{inl, inr, Option, Some, None, get_or-set_same, get_or-set_other, length-set}, lemmas.Bool.{cases_eq, cases_lt}}
+use Rattle.std.proofs.lemmas.{Bool.{cases_Bool, ne_eqb, eq-eqb, eqb-true, cond-true, cond-false, false≢true}, List.{get_or_past, get_or_default}}
+use Rattle.std.proofs.lemmas.List.{get_or-map, length-map, same_lists}
 use Rattle.std.specs.Prelude.{MatchOption}
-use Rattle.std.proofs.lemmas.Bool.{cases_eq, cases_lt, cases_Bool, ne_eqb, eq-eqb, eqb-true, cond-true, cond-false, false≢true}
-use Rattle.std.proofs.lemmas.List.{get_or_past, get_or_default, get_or-map, length-map, same_lists}
-use Rattle.slots.specs.declared.table.Context.{Context}
-use Rattle.slots.specs.Commands.{is_slot}
-use Rattle.slots.specs.Slots.{Issue, Slots, issue_at, context_of, owned_by, slots_of, KeepsFree, LeavesOthers, holds, is_waiting, issues_unless, context_unless, freed}
-use Rattle.slots.specs.Table.{IsIssue, IsContextOf, IsContext, IsTable, waits_for}
-use Rattle.slots.specs.Between.{Owns}
-use Rattle.slots.proofs.MaskLemmas.{length-unless, get-unless}
-use Rattle.slots.proofs.TableLemmas.{owned_none}
+use Rattle.slots.specs.{declared.table.Context.Context, Commands.is_slot, Slots.{Issue, Slots, issue_at, context_of, owned_by, slots_of, KeepsFree}}
+use Rattle.slots.specs.{Slots.{LeavesOthers, holds, is_waiting, issues_unless, context_unless, freed}, Table.{IsIssue, IsContextOf, IsContext}}
+use Rattle.slots.specs.{Table.{IsTable, waits_for}, Between.Owns}
+use Rattle.slots.proofs.{MaskLemmas.{length-unless, get-unless}, TableLemmas.owned_none}
 
 -- the table with these slots free; the device's context ends if its slot is one of them
 abbrev pub freed_table : ℕ → (ℕ → Bool) → Slots → Slots

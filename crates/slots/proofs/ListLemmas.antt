@@ -1,18 +1,15 @@
 -- For the functions of mask.rt and list.rt. Masks of slots, and the issues that they stand for.
-use Rattle.std.proofs.Common.{◌≡◌, ◌≢◌, ◌<◌, ◌+◌, ◌-◌, ◌*◌, ◌%◌, ◌^◌, ℕ, zero, suc, Bool, true, false, not, ◌&&◌, ◌||◌, min, nat_eq, cond, List, length, set, get_or, refl, ap, sym, subst, ◌∙◌, arith, inl, inr, w32, bit_and, bit_or, Option, Some, None, get_or-set_same, get_or-set_other, length-set}
-use Rattle.std.specs.Int.{bit_at, bit_not, trailing_zeros}
-use Rattle.std.specs.Option.{option_map}
-use Rattle.std.specs.Prelude.{is_none}
-use Rattle.std.proofs.lemmas.Bool.{cases_Bool, cases_eq, eq-eqb, ne_eqb, true≢false, cond-true, cond-false}
-use Rattle.std.proofs.lemmas.List.{get_or_past}
-use Rattle.std.proofs.lemmas.Nat.{and_le_l}
-use Rattle.std.proofs.lemmas.Nat.Bits.{bit_at-lt, bit_at-zero, bit_at_and, bit_at_not, bit_at_set_same, bit_at_set_other, bit_at_clear_same, bit_at_clear_other, bit_at-trailing_zeros, same_from_bits_below}
-use Rattle.slots.specs.declared.mask.Masks.{Masks}
-use Rattle.slots.specs.Commands.{is_any, is_sent_beside, is_unanswered, may_begin, may_go}
-use Rattle.slots.specs.Data.{moved_over}
-use Rattle.slots.specs.Masks.{AreMasksBelow, IsLowestBit, IsMask, IsWithout, LeavesOut, Notes, SetsBit}
-use Rattle.slots.specs.Setup.{is_outstanding}
-use Rattle.slots.specs.Slots.{Issue, Slots, has_bit, holds, is_control, is_done_issue, is_pio, is_queued_issue, is_sent_pio, is_short_issue, is_unsent, is_waiting, is_whole_issue, issue_at, issues_unless, lowest_below, mask_below, own_issue, own_of, owned_by, slots_of, waiting}
+use Rattle.std.proofs.Common.{◌≡◌, ◌≢◌, ◌<◌, ◌+◌, ◌-◌, ◌*◌, ◌%◌, ◌^◌, ℕ, zero, suc, Bool, true, false, not, ◌&&◌, ◌||◌, min, nat_eq, cond, List}
+use Rattle.std.proofs.Common.{length, set, get_or, refl, ap, sym, subst, ◌∙◌, arith, inl, inr, w32, bit_and, bit_or, Option, Some, None}
+use Rattle.std.proofs.{Common.{get_or-set_same, get_or-set_other, length-set}, lemmas.Bool.{cases_Bool, cases_eq, eq-eqb, ne_eqb, true≢false}}
+use Rattle.std.proofs.lemmas.{Bool.{cond-true, cond-false}, List.get_or_past, Nat.{and_le_l, Bits.{bit_at-lt, bit_at-zero, bit_at_and, bit_at_not}}}
+use Rattle.std.proofs.lemmas.Nat.Bits.{bit_at_set_same, bit_at_set_other, bit_at_clear_same, bit_at_clear_other, bit_at-trailing_zeros}
+use Rattle.std.proofs.lemmas.Nat.Bits.{same_from_bits_below}
+use Rattle.std.specs.{Int.{bit_at, bit_not, trailing_zeros}, Option.option_map, Prelude.is_none}
+use Rattle.slots.specs.{declared.mask.Masks.Masks, Commands.{is_any, is_sent_beside, is_unanswered, may_begin, may_go}, Data.moved_over}
+use Rattle.slots.specs.{Masks.{AreMasksBelow, IsLowestBit, IsMask, IsWithout, LeavesOut, Notes, SetsBit}, Setup.is_outstanding, Slots.{Issue, Slots}}
+use Rattle.slots.specs.Slots.{has_bit, holds, is_control, is_done_issue, is_pio, is_queued_issue, is_sent_pio, is_short_issue, is_unsent, is_waiting}
+use Rattle.slots.specs.Slots.{is_whole_issue, issue_at, issues_unless, lowest_below, mask_below, own_issue, own_of, owned_by, slots_of, waiting}
 use Rattle.slots.proofs.MaskLemmas.{freed_all, get-unless, has_bit_mask, lowest_found, lowest_none, mask_fits, own_read, slot_read}
 
 -- ---- bits

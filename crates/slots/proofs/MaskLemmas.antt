@@ -1,18 +1,13 @@
 -- Sets of slots: the lowest one, and the number of a set.
-use Rattle.std.proofs.Common.{◌≡◌, ◌≢◌, ℕ, zero, suc, ◌+◌, ◌*◌, ◌%◌, ◌^◌, ◌<◌, ◌≤◌, Bool, true, false, nat_eq, nat_lt, cond, List, get_or, length, refl, sym, ◌∙◌, ap, arith, inl, inr, Option, Some, None, w32, bit_or}
-use Rattle.std.specs.List.{range_with_len, sum_by, position_or_len}
-use Rattle.std.proofs.lemmas.Bool.{cases_eq, cases_Bool, eq-eqb, lt-ltb, le-ltb, ltb-false}
-use Rattle.std.proofs.lemmas.List.{get_or-map, get_or_default}
-use Rattle.std.proofs.lemmas.List.Sums.{sum_by_push, position_or_len_is, fails_before_first}
-use Rattle.std.proofs.lemmas.List.Quantifiers.{position-Some}
-use Rattle.std.proofs.lemmas.List.FromFn.{length-range_with_len, get_or-range_with_len, length-map-range_with_len, get_or-map-range_with_len, fill_by_all}
-use Rattle.std.proofs.lemmas.Nat.{or_comm, or_shifted, one_shl}
+use Rattle.std.proofs.Common.{◌≡◌, ◌≢◌, ℕ, zero, suc, ◌+◌, ◌*◌, ◌%◌, ◌^◌, ◌<◌, ◌≤◌, Bool, true, false, nat_eq, nat_lt, cond, List, get_or, length}
+use Rattle.std.proofs.{Common.{refl, sym, ◌∙◌, ap, arith, inl, inr, Option, Some, None, w32, bit_or}, lemmas.Bool.{cases_eq, cases_Bool, eq-eqb}}
+use Rattle.std.proofs.lemmas.{Bool.{lt-ltb, le-ltb, ltb-false}, List.{get_or-map, get_or_default, Sums.{sum_by_push, position_or_len_is}}}
+use Rattle.std.proofs.lemmas.List.{Sums.fails_before_first, Quantifiers.{position-Some}, FromFn.{length-range_with_len, get_or-range_with_len}}
+use Rattle.std.proofs.lemmas.{List.FromFn.{length-map-range_with_len, get_or-map-range_with_len, fill_by_all}, Nat.{or_comm, or_shifted, one_shl}}
 use Rattle.std.proofs.lemmas.Nat.Bits.{bit_at_set_same, bit_at_set_other, bit_at-zero}
-use Rattle.std.specs.Option.{is_some, option_map}
-use Rattle.slots.specs.Commands.{is_any}
-use Rattle.slots.specs.Issued.{issued_of}
-use Rattle.slots.specs.Slots.{Issue, has_bit, holds, issues_unless, lowest_below, mask_below, owned_by, own_of, own_issue}
-use Rattle.slots.specs.Between.{IsLowest, MaskBelow}
+use Rattle.std.specs.{List.{range_with_len, sum_by, position_or_len}, Option.{is_some, option_map}}
+use Rattle.slots.specs.{Commands.is_any, Issued.issued_of, Slots.{Issue, has_bit, holds, issues_unless, lowest_below, mask_below, owned_by, own_of}}
+use Rattle.slots.specs.{Slots.own_issue, Between.{IsLowest, MaskBelow}}
 use Rattle.slots.proofs.ByteLemmas.{range_more}
 
 -- ---- the lowest

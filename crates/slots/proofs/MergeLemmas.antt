@@ -1,14 +1,11 @@
 -- One more stretch, joined with those that it meets or touches.
-use Rattle.std.proofs.Common.{◌≡◌, ℕ, ◌+◌, ◌*◌, ◌/◌, ◌%◌, ◌<◌, ◌≤◌, Bool, true, false, ◌||◌, nat_lt, cond, List, [], ◌∷◌, ◌++◌, length, refl, sym, ◌∙◌, ap, subst, arith, inl, inr, Option, Some, None}
-use Rattle.std.proofs.lemmas.Bool.{cases_Bool, cases_lt, or_from, or_left, or_right, lt-ltb, le-ltb, false≢true, false_from_ne_true}
-use Rattle.std.proofs.lemmas.List.{append-nil, append_assoc, get_or_past, length-append}
-use Rattle.slots.specs.declared.moved.Stretch.{Stretch}
-use Rattle.slots.specs.Bytes.{stretches_of, with_bytes}
-use Rattle.slots.specs.Slots.{match_some}
-use Rattle.slots.specs.Stretches.{AreApart, has, in_one, joined, merged_with, over_of}
-use Rattle.slots.proofs.ByteLemmas.{marked_with_bytes}
-use Rattle.slots.proofs.FlagLemmas.{get-over, length-over}
-use Rattle.slots.proofs.ApartLemmas.{has_high, has_is, has_low, has_yes, lower, stretch_count}
+use Rattle.std.proofs.Common.{◌≡◌, ℕ, ◌+◌, ◌*◌, ◌/◌, ◌%◌, ◌<◌, ◌≤◌, Bool, true, false, ◌||◌, nat_lt, cond, List, [], ◌∷◌, ◌++◌, length, refl, sym}
+use Rattle.std.proofs.{Common.{◌∙◌, ap, subst, arith, inl, inr, Option, Some, None}, lemmas.Bool.{cases_Bool, cases_lt, or_from, or_left, or_right}}
+use Rattle.std.proofs.lemmas.{Bool.{lt-ltb, le-ltb, false≢true, false_from_ne_true}, List.{append-nil, append_assoc, get_or_past, length-append}}
+use Rattle.slots.specs.{declared.moved.Stretch.Stretch, Bytes.{stretches_of, with_bytes}, Slots.match_some, Stretches.{AreApart, has, in_one, joined}}
+use Rattle.slots.specs.Stretches.{merged_with, over_of}
+use Rattle.slots.proofs.{ByteLemmas.marked_with_bytes, FlagLemmas.{get-over, length-over}, ApartLemmas.{has_high, has_is, has_low, has_yes, lower}}
+use Rattle.slots.proofs.ApartLemmas.{stretch_count}
 
 -- ---- one stretch of the list
 

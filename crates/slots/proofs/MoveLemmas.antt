@@ -1,20 +1,14 @@
 -- The next bytes of a device's context are transferred.
-use Rattle.std.proofs.Common.{◌≡◌, ℕ, ◌+◌, ◌*◌, ◌%◌, ◌<◌, ◌≤◌, Bool, true, List, get_or, set, length, refl, sym, ◌∙◌, ap, subst, arith, inl, inr, Option, Some, None, get_or-set_same, get_or-set_other}
-use Rattle.std.specs.Prelude.{MatchOption}
-use Rattle.std.specs.Option.{option_map}
-use Rattle.std.proofs.lemmas.Bool.{and_parts, cases_eq, cases_lt, or_cases, false≢true}
-use Rattle.std.proofs.lemmas.List.{get_or_default, set-set}
-use Rattle.slots.specs.declared.table.Context.{Context}
-use Rattle.slots.specs.Bytes.{stretches_of, with_bytes}
-use Rattle.slots.specs.Data.{gone_over, moved_on, moved_over}
-use Rattle.slots.specs.Setup.{is_outstanding}
-use Rattle.slots.specs.Slots.{Issue, Slots, DeviceSlots, issue_at, context_of, owned_by, slots_of, holds, is_queued_issue, is_under_way, is_waiting}
-use Rattle.slots.specs.Table.{IsIssue, IsContextOf, IsTable, waits_for}
-use Rattle.slots.specs.Work.{needs_all}
-use Rattle.slots.specs.Between.{Owns}
-use Rattle.slots.proofs.ByteLemmas.{length_with_bytes}
-use Rattle.slots.proofs.StretchLemmas.{few_then, fresh_then, room_then, with_none}
-use Rattle.slots.proofs.TableLemmas.{context_in, context_some, own_changed, own_with_context, owned_own, owns_where, table_with_context, table_with_issue, with_context, with_issue}
+use Rattle.std.proofs.Common.{◌≡◌, ℕ, ◌+◌, ◌*◌, ◌%◌, ◌<◌, ◌≤◌, Bool, true, List, get_or, set, length, refl, sym, ◌∙◌, ap, subst, arith, inl, inr}
+use Rattle.std.proofs.{Common.{Option, Some, None, get_or-set_same, get_or-set_other}, lemmas.Bool.{and_parts, cases_eq, cases_lt, or_cases}}
+use Rattle.std.proofs.lemmas.{Bool.{false≢true}, List.{get_or_default, set-set}}
+use Rattle.std.specs.{Prelude.MatchOption, Option.option_map}
+use Rattle.slots.specs.{declared.table.Context.Context, Bytes.{stretches_of, with_bytes}, Data.{gone_over, moved_on, moved_over}}
+use Rattle.slots.specs.{Setup.is_outstanding, Slots.{Issue, Slots, DeviceSlots, issue_at, context_of, owned_by, slots_of, holds, is_queued_issue}}
+use Rattle.slots.specs.{Slots.{is_under_way, is_waiting}, Table.{IsIssue, IsContextOf, IsTable, waits_for}, Work.needs_all, Between.Owns}
+use Rattle.slots.proofs.{ByteLemmas.length_with_bytes, StretchLemmas.{few_then, fresh_then, room_then, with_none}, TableLemmas.context_in}
+use Rattle.slots.proofs.TableLemmas.{context_some, own_changed, own_with_context, owned_own, owns_where, table_with_context, table_with_issue}
+use Rattle.slots.proofs.TableLemmas.{with_context, with_issue}
 
 -- what is issued in the slot of a context
 pub record InContext (dev : ℕ) (c : Context) (t : Slots) : Type 0 where

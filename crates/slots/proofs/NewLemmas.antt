@@ -1,11 +1,7 @@
 -- A table with nothing issued.
-use Rattle.std.proofs.Common.{◌≡◌, ℕ, ◌<◌, List, get_or, length, sym, ◌∙◌, ap, arith, replicate, inl, inr, Option, None}
-use Rattle.std.proofs.lemmas.Bool.{cases_lt, false≢true}
-use Rattle.std.proofs.lemmas.List.{get_or_past, get_or-replicate, length-replicate, same_lists}
-use Rattle.slots.specs.declared.table.Context.{Context}
-use Rattle.slots.specs.Slots.{Issue, holds, is_waiting, owned_by}
-use Rattle.slots.specs.Table.{IsTable}
-use Rattle.slots.specs.Between.{no_issue}
+use Rattle.std.proofs.{Common.{◌≡◌, ℕ, ◌<◌, List, get_or, length, sym, ◌∙◌, ap, arith, replicate, inl, inr, Option, None}, lemmas.Bool.cases_lt}
+use Rattle.std.proofs.lemmas.{Bool.{false≢true}, List.{get_or_past, get_or-replicate, length-replicate, same_lists}}
+use Rattle.slots.specs.{declared.table.Context.Context, Slots.{Issue, holds, is_waiting, owned_by}, Table.IsTable, Between.no_issue}
 
 abbrev pub no_context : Option Context
 no_context = None

@@ -1,10 +1,8 @@
 -- Stretches that lie apart are the runs of their flags.
 use Rattle.std.proofs.Common.{◌≡◌, ℕ, zero, suc, ◌+◌, ◌<◌, ◌≤◌, Bool, true, false, List, [], ◌∷◌, refl, sym, ◌∙◌, ap, arith, inl, inr, Some, None}
 use Rattle.std.proofs.lemmas.Bool.{cases_lt, or_from, or_left}
-use Rattle.slots.specs.declared.moved.Stretch.{Stretch}
-use Rattle.slots.specs.Stretches.{AreApart, has, in_one, over_of}
-use Rattle.slots.specs.Runs.{runs_from, runs_of}
-use Rattle.slots.specs.RunLaws.{flags, flags_past, has_high, has_yes, none_below}
+use Rattle.slots.specs.{declared.moved.Stretch.Stretch, Stretches.{AreApart, has, in_one, over_of}, Runs.{runs_from, runs_of}, RunLaws.flags}
+use Rattle.slots.specs.RunLaws.{flags_past, has_high, has_yes, none_below}
 
 -- for n flags: from dword k on, and within a stretch that began before
 record Runs (n : ℕ) : Type 0 where

@@ -1,19 +1,13 @@
 -- What is saved and restored: words of what was transferred, and of a slot.
 use Rattle.std.proofs.Common.{◌≡◌, ℕ, Bool, List, length, refl, sym, ◌∙◌, ap, arith, subst, Some, None, Err}
 use Rattle.std.specs.List.{AllByRecursion}
-use Rattle.saved_state.specs.declared.words.RestoreError.{RestoreError}
-use Rattle.saved_state.specs.declared.words.RestoreError.TheVariants.{OutOfMemory, Short, NoSuch, Broken}
-use Rattle.saved_state.specs.State.{KeepsOption, NotSaved, Restores, RestoresList, pair_apart, put_list, put_number, put_option}
-use Rattle.slots.specs.declared.moved.Stretch.{Stretch}
-use Rattle.slots.specs.declared.slot.Issued.{Issued}
-use Rattle.slots.specs.Issued.{HasRoom}
-use Rattle.slots.specs.RunLaws.{over_runs, runs_apart}
-use Rattle.slots.specs.Runs.{runs_of}
-use Rattle.slots.specs.Saved.{AreRuns, IsDword, KeepsIssueParts, KeepsIssued, KeepsOver, KeepsSlot, KeepsStretch, issue_parts, issued_apart, over_apart, over_keep, over_parts, over_parts_apart, put_issue_parts, put_issued, put_over, put_over_parts, put_slot, put_stretch}
-use Rattle.slots.specs.Stretches.{AreApart, over_of}
-use Rattle.slots.proofs.ApartLemmas.{count_seen}
-use Rattle.slots.proofs.FlagLemmas.{length-over}
-use Rattle.slots.proofs.RunLemmas.{runs_over}
+use Rattle.saved_state.specs.{declared.words.RestoreError.{RestoreError, TheVariants.{OutOfMemory, Short, NoSuch, Broken}}, State.KeepsOption}
+use Rattle.saved_state.specs.State.{NotSaved, Restores, RestoresList, pair_apart, put_list, put_number, put_option}
+use Rattle.slots.specs.{declared.{moved.Stretch.Stretch, slot.Issued.Issued}, Issued.HasRoom, RunLaws.{over_runs, runs_apart}, Runs.runs_of}
+use Rattle.slots.specs.Saved.{AreRuns, IsDword, KeepsIssueParts, KeepsIssued, KeepsOver, KeepsSlot, KeepsStretch, issue_parts, issued_apart}
+use Rattle.slots.specs.Saved.{over_apart, over_keep, over_parts, over_parts_apart, put_issue_parts, put_issued, put_over, put_over_parts, put_slot}
+use Rattle.slots.specs.{Saved.put_stretch, Stretches.{AreApart, over_of}}
+use Rattle.slots.proofs.{ApartLemmas.count_seen, FlagLemmas.{length-over}, RunLemmas.runs_over}
 
 -- a refusal of one thing is one of another, if words of the second are words of the first
 pub refused : {A B : Type 0} (put : A → List ℕ → List ℕ) (keeps : A → Type 0) (other : B → List ℕ → List ℕ) (holds : B → Type 0) (old from new : List ℕ)

@@ -1,16 +1,13 @@
 -- Sets of a device's slots that are freed.
-use Rattle.std.proofs.Common.{◌≡◌, ℕ, ◌<◌, Bool, true, false, ◌&&◌, cond, List, get_or, length, map, refl, sym, ◌∙◌, ap, arith, replicate, Option, Some, None}
+use Rattle.std.proofs.Common.{◌≡◌, ℕ, ◌<◌, Bool, true, false, ◌&&◌, cond, List, get_or, length, map, refl, sym, ◌∙◌, ap, arith, replicate, Option}
+use Rattle.std.proofs.{Common.{Some, None}, lemmas.{Bool.{and_parts, cond-true, false≢true}, List.{get_or-replicate, length-replicate, length-map}}}
+use Rattle.std.proofs.lemmas.List.{same_lists}
 use Rattle.std.specs.Prelude.{MatchOption}
-use Rattle.std.proofs.lemmas.Bool.{and_parts, cond-true, false≢true}
-use Rattle.std.proofs.lemmas.List.{get_or-replicate, length-replicate, length-map, same_lists}
-use Rattle.slots.specs.declared.table.Context.{Context}
-use Rattle.slots.specs.Commands.{is_done, is_any}
-use Rattle.slots.specs.Slots.{Issue, Slots, issue_at, context_of, owned_by, own_issue, own_of, slots_of, has_bit, holds, is_queued_issue, is_whole_issue, issues_unless, context_unless, freed, mask_below, no_own_slots}
-use Rattle.slots.specs.Table.{IsContextOf, IsContext, IsTable}
-use Rattle.slots.specs.Between.{Owns}
-use Rattle.slots.proofs.MaskLemmas.{has_bit_mask, length-unless, get-unless}
-use Rattle.slots.proofs.TableLemmas.{own_at, owned_own, owns_where}
-use Rattle.slots.proofs.FreeLemmas.{AreOwn, no_issue}
+use Rattle.slots.specs.{declared.table.Context.Context, Commands.{is_done, is_any}, Slots.{Issue, Slots, issue_at, context_of, owned_by, own_issue}}
+use Rattle.slots.specs.Slots.{own_of, slots_of, has_bit, holds, is_queued_issue, is_whole_issue, issues_unless, context_unless, freed, mask_below}
+use Rattle.slots.specs.{Slots.no_own_slots, Table.{IsContextOf, IsContext, IsTable}, Between.Owns}
+use Rattle.slots.proofs.{MaskLemmas.{has_bit_mask, length-unless, get-unless}, TableLemmas.{own_at, owned_own, owns_where}, FreeLemmas.AreOwn}
+use Rattle.slots.proofs.FreeLemmas.{no_issue}
 
 -- the bits of the number of a set
 pub mask_is : (test : ℕ → Bool) (mask : ℕ) → mask ≡ mask_below test 32 → (s : ℕ) → s < 32 → has_bit mask s ≡ test s

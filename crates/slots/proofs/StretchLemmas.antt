@@ -1,16 +1,12 @@
 -- Bytes that are transferred where none were. They begin at most one stretch, and what is left of them was
 -- not transferred.
-use Rattle.std.proofs.Common.{◌≡◌, ◌≢◌, ℕ, zero, suc, ◌+◌, ◌-◌, ◌*◌, ◌%◌, ◌<◌, ◌≤◌, Bool, true, false, not, ◌&&◌, ◌||◌, nat_eq, nat_lt, nat_le, cond, List, length, refl, sym, ◌∙◌, ap, arith, inl, inr, count_by, subst, Option, Some, None}
-use Rattle.std.specs.Prelude.{IsSome, is_some}
-use Rattle.std.specs.Option.{ForSome}
-use Rattle.std.specs.List.{range_with_len, list_any}
-use Rattle.std.proofs.lemmas.Bool.{cases_Bool, cases_eq, cases_lt, and_parts, eqb-true, le-leb, lt-leb, lt-ltb, le-ltb, not-true, or_cases, or_right, false≢true, false_from_ne_true}
-use Rattle.std.proofs.lemmas.List.FromFn.{length-range_with_len, get_or-range_with_len}
-use Rattle.std.proofs.lemmas.List.Folds.{Any-from_list_any}
-use Rattle.slots.specs.declared.slot.Issued.{Issued}
-use Rattle.slots.specs.Issued.{HasRoom, issue_in, with_flags}
-use Rattle.slots.specs.Slots.{Issue}
-use Rattle.slots.specs.Bytes.{any_over, begins, ends_at, is_over, is_within, none_over, stretches_of, with_bytes}
+use Rattle.std.proofs.Common.{◌≡◌, ◌≢◌, ℕ, zero, suc, ◌+◌, ◌-◌, ◌*◌, ◌%◌, ◌<◌, ◌≤◌, Bool, true, false, not, ◌&&◌, ◌||◌, nat_eq, nat_lt, nat_le, cond}
+use Rattle.std.proofs.{Common.{List, length, refl, sym, ◌∙◌, ap, arith, inl, inr, count_by, subst, Option, Some, None}, lemmas.Bool.cases_Bool}
+use Rattle.std.proofs.lemmas.Bool.{cases_eq, cases_lt, and_parts, eqb-true, le-leb, lt-leb, lt-ltb, le-ltb, not-true, or_cases, or_right, false≢true}
+use Rattle.std.proofs.lemmas.{Bool.false_from_ne_true, List.{FromFn.{length-range_with_len, get_or-range_with_len}, Folds.{Any-from_list_any}}}
+use Rattle.std.specs.{Prelude.{IsSome, is_some}, Option.ForSome, List.{range_with_len, list_any}}
+use Rattle.slots.specs.{declared.slot.Issued.Issued, Issued.{HasRoom, issue_in, with_flags}, Slots.Issue, Bytes.{any_over, begins, ends_at, is_over}}
+use Rattle.slots.specs.Bytes.{is_within, none_over, stretches_of, with_bytes}
 use Rattle.slots.proofs.ByteLemmas.{any_at, count_more, marked_with_bytes, over_none, over_with_bytes, whole_dwords}
 
 -- ---- counts

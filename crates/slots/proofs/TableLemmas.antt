@@ -1,13 +1,11 @@
 -- Changes of a table: a device's part, the parts of the others, and what stays true.
-use Rattle.std.proofs.Common.{◌≡◌, ◌≢◌, ℕ, ◌<◌, Bool, true, false, nat_eq, cond, List, get_or, set, length, map, refl, sym, ◌∙◌, ap, subst, arith, inl, inr, Option, Some, None, get_or-set_same, get_or-set_other, length-set}
-use Rattle.std.specs.Prelude.{MatchOption}
-use Rattle.std.specs.Option.{is_some, option_map}
-use Rattle.std.proofs.lemmas.Bool.{cases_eq, cases_lt, ne_eqb, eq-eqb, eqb-true, cond-true, cond-false, false≢true}
-use Rattle.std.proofs.lemmas.List.{map-set, set-get_or, get_or_past, get_or_default, get_or-map}
-use Rattle.slots.specs.declared.table.Context.{Context}
-use Rattle.slots.specs.Slots.{Issue, Slots, issue_at, context_of, owned_by, own_issue, slots_of, LeavesOthers, holds, is_waiting, with_own_issue}
-use Rattle.slots.specs.Table.{IsIssue, IsContextOf, IsContext, IsTable, waits_for}
-use Rattle.slots.specs.Between.{Owns}
+use Rattle.std.proofs.Common.{◌≡◌, ◌≢◌, ℕ, ◌<◌, Bool, true, false, nat_eq, cond, List, get_or, set, length, map, refl, sym, ◌∙◌, ap, subst, arith}
+use Rattle.std.proofs.{Common.{inl, inr, Option, Some, None, get_or-set_same, get_or-set_other, length-set}, lemmas.Bool.{cases_eq, cases_lt, ne_eqb}}
+use Rattle.std.proofs.lemmas.{Bool.{eq-eqb, eqb-true, cond-true, cond-false, false≢true}, List.{map-set, set-get_or, get_or_past, get_or_default}}
+use Rattle.std.proofs.lemmas.List.{get_or-map}
+use Rattle.std.specs.{Prelude.MatchOption, Option.{is_some, option_map}}
+use Rattle.slots.specs.{declared.table.Context.Context, Slots.{Issue, Slots, issue_at, context_of, owned_by, own_issue, slots_of, LeavesOthers}}
+use Rattle.slots.specs.{Slots.{holds, is_waiting, with_own_issue}, Table.{IsIssue, IsContextOf, IsContext, IsTable, waits_for}, Between.Owns}
 
 abbrev pub with_issue : Slots → ℕ → Option Issue → Slots
 with_issue t s o = record t { issues = set t.issues s o }

@@ -1,27 +1,16 @@
 -- The rules of a table and what is tested of it say the same.
-use Rattle.std.proofs.Common.{◌≡◌, ℕ, zero, suc, ◌+◌, ◌*◌, ◌%◌, ◌<◌, ◌≤◌, Bool, true, false, not, ◌&&◌, ◌||◌, nat_eq, nat_lt, nat_le, List, [], ◌∷◌, get_or, length, replicate, refl, sym, ◌∙◌, ap, arith, subst, inl, inr, Option, Some, None}
-use Rattle.std.specs.Prelude.{MatchOption}
-use Rattle.std.specs.Bool.{beq}
-use Rattle.std.specs.List.{AllByRecursion}
-use Rattle.std.specs.Option.{is_none, is_some, option_map}
-use Rattle.std.proofs.lemmas.Bool.{and_from, and_parts, cases_lt, eq-eqb, eqb-true, false≢true, le-leb, leb-true, lt-ltb, ltb-true, ne_eqb, not-false, not-true, not_from_false}
-use Rattle.std.proofs.lemmas.List.{get_or_past}
-use Rattle.slots.specs.declared.slot.Issued.{Issued}
-use Rattle.slots.specs.declared.table.Context.{Context}
-use Rattle.slots.specs.Bytes.{any_over, stretches_of}
-use Rattle.slots.specs.Issued.{issued_of, with_flags}
-use Rattle.slots.specs.RunLaws.{over_runs, runs_apart}
-use Rattle.slots.specs.Runs.{runs_of}
-use Rattle.slots.specs.Saved.{KeepsIssue, KeepsSlot, KeepsTableParts}
-use Rattle.slots.specs.Setup.{is_full_at, is_outstanding}
-use Rattle.slots.specs.Slots.{Issue, Slots, context_of, holds, is_control, is_queued_issue, is_under_way, is_waiting, issue_at, lowest, lowest_below, match_some, owned_by, own_issue, own_of, waiting}
-use Rattle.slots.specs.Stretches.{over_of}
-use Rattle.slots.specs.Table.{IsContext, IsContextOf, IsIssue, IsTable, waits_for}
-use Rattle.slots.specs.Tested.{are_contexts_proper, are_slots_proper, has_context, is_context_proper, is_first_waiting, is_moving, is_open, is_proper, is_slot_proper, is_table}
-use Rattle.slots.specs.Work.{is_read}
-use Rattle.slots.proofs.ApartLemmas.{count_seen, stretch_count}
-use Rattle.slots.proofs.FlagLemmas.{over_nothing}
-use Rattle.slots.proofs.MaskLemmas.{lowest_is, lowest_none, none_below}
+use Rattle.std.proofs.Common.{◌≡◌, ℕ, zero, suc, ◌+◌, ◌*◌, ◌%◌, ◌<◌, ◌≤◌, Bool, true, false, not, ◌&&◌, ◌||◌, nat_eq, nat_lt, nat_le, List, [], ◌∷◌}
+use Rattle.std.proofs.{Common.{get_or, length, replicate, refl, sym, ◌∙◌, ap, arith, subst, inl, inr, Option, Some, None}, lemmas.Bool.and_from}
+use Rattle.std.proofs.lemmas.Bool.{and_parts, cases_lt, eq-eqb, eqb-true, false≢true, le-leb, leb-true, lt-ltb, ltb-true, ne_eqb, not-false, not-true}
+use Rattle.std.proofs.lemmas.{Bool.not_from_false, List.get_or_past}
+use Rattle.std.specs.{Prelude.MatchOption, Bool.beq, List.AllByRecursion, Option.{is_none, is_some, option_map}}
+use Rattle.slots.specs.{declared.{slot.Issued.Issued, table.Context.Context}, Bytes.{any_over, stretches_of}, Issued.{issued_of, with_flags}}
+use Rattle.slots.specs.{RunLaws.{over_runs, runs_apart}, Runs.runs_of, Saved.{KeepsIssue, KeepsSlot, KeepsTableParts}, Setup.is_full_at}
+use Rattle.slots.specs.{Setup.is_outstanding, Slots.{Issue, Slots, context_of, holds, is_control, is_queued_issue, is_under_way, is_waiting}}
+use Rattle.slots.specs.{Slots.{issue_at, lowest, lowest_below, match_some, owned_by, own_issue, own_of, waiting}, Stretches.over_of, Table.IsContext}
+use Rattle.slots.specs.{Table.{IsContextOf, IsIssue, IsTable, waits_for}, Tested.{are_contexts_proper, are_slots_proper, has_context}}
+use Rattle.slots.specs.{Tested.{is_context_proper, is_first_waiting, is_moving, is_open, is_proper, is_slot_proper, is_table}, Work.is_read}
+use Rattle.slots.proofs.{ApartLemmas.{count_seen, stretch_count}, FlagLemmas.over_nothing, MaskLemmas.{lowest_is, lowest_none, none_below}}
 use Rattle.slots.proofs.TableLemmas.{own_at, owned_own, owns_from}
 
 -- ---- tests of several parts

@@ -1,9 +1,8 @@
 -- Which bytes of a command were transferred, by the Data FISes and the offsets of their DMA Setups (Serial
 -- ATA 3.x, 10.5). A list of flags stands for a set of bytes, always whole dwords: flag k stands for bytes 4 k
 -- to 4 k + 3. All the words below speak of bytes.
-use Rattle.std.specs.Prelude.{ℕ, ◌+◌, ◌-◌, ◌*◌, ◌/◌, Bool, false, not, ◌&&◌, ◌||◌, ◌==◌, nat_lt, nat_le, List}
-use Rattle.std.specs.Prelude.{map, length, replicate, slice_index_or, count_by}
-use Rattle.std.specs.List.{range_with_len, list_any, list_all}
+use Rattle.std.specs.Prelude.{ℕ, ◌+◌, ◌-◌, ◌*◌, ◌/◌, Bool, false, not, ◌&&◌, ◌||◌, ◌==◌, nat_lt, nat_le, List, map, length, replicate, slice_index_or}
+use Rattle.std.specs.{Prelude.count_by, List.{range_with_len, list_any, list_all}}
 
 -- byte b was transferred
 abbrev pub is_over : List Bool → ℕ → Bool

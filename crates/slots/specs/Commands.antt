@@ -1,19 +1,12 @@
 -- Commands: when they go out, what an answer of their device does, and when they are done (AHCI 1.3.1, 5.5
 -- and 5.6, how commands are issued and completed, 3.3.13 PxSACT, 3.3.14 PxCI; Serial ATA 3.x, 10.5, Register
 -- Device to Host and Set Device Bits FISes; ACS-3, NCQ).
-use Rattle.std.specs.Prelude.{◌≡◌, ◌<◌, ℕ, Bool, true, false, not, ◌&&◌, ◌||◌, ◌==◌, if◌then◌else◌, Option}
-use Rattle.std.specs.Prelude.{Some, None, is_none, is_some, slice_set, MatchOption}
-use Rattle.std.specs.Option.{option_map}
-use Rattle.slots.specs.declared.answer.Answered.{Answered}
-use Rattle.slots.specs.declared.answer.Answered.TheVariants.{Nobody, Queued, Done, Short}
-use Rattle.slots.specs.declared.answer.Completed.{Completed}
-use Rattle.slots.specs.declared.work.Work.{Work}
-use Rattle.slots.specs.Setup.{begun, is_outstanding}
-use Rattle.slots.specs.Slots.{Issue, Slots, DeviceSlots, issue_at, slots_of, own_issue, with_own_issue}
-use Rattle.slots.specs.Slots.{match_some, holds, is_control, is_done_issue, is_queued_issue}
-use Rattle.slots.specs.Slots.{is_short_issue, is_whole_issue, waiting, sent_pio, freed, has_bit, mask_of}
-use Rattle.slots.specs.Slots.{lowest, new_issue}
-use Rattle.slots.specs.Work.{is_dma, needs_all}
+use Rattle.std.specs.Prelude.{◌≡◌, ◌<◌, ℕ, Bool, true, false, not, ◌&&◌, ◌||◌, ◌==◌, if◌then◌else◌, Option, Some, None, is_none, is_some, slice_set}
+use Rattle.std.specs.{Prelude.MatchOption, Option.option_map}
+use Rattle.slots.specs.declared.{answer.{Answered.{Answered, TheVariants.{Nobody, Queued, Done, Short}}, Completed.Completed}, work.Work.Work}
+use Rattle.slots.specs.{Setup.{begun, is_outstanding}, Slots.{Issue, Slots, DeviceSlots, issue_at, slots_of, own_issue, with_own_issue, match_some}}
+use Rattle.slots.specs.Slots.{holds, is_control, is_done_issue, is_queued_issue, is_short_issue, is_whole_issue, waiting, sent_pio, freed, has_bit}
+use Rattle.slots.specs.{Slots.{mask_of, lowest, new_issue}, Work.{is_dma, needs_all}}
 
 -- the set of this slot alone
 abbrev pub is_slot : ℕ → ℕ → Bool

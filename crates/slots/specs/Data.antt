@@ -1,14 +1,9 @@
 -- Data of a transfer (Serial ATA 3.x, 10.5, Data and DMA Activate FISes): what may come or go, and what it
 -- leaves.
-use Rattle.std.specs.Prelude.{◌≡◌, ◌≤◌, ℕ, ◌+◌, ◌-◌, min, Bool, true, false, not, ◌&&◌, nat_lt, if◌then◌else◌}
-use Rattle.std.specs.Prelude.{slice_set, Option, Some, None, Result, Ok, Err, is_ok, is_some}
-use Rattle.std.specs.Option.{option_map}
-use Rattle.slots.specs.declared.answer.ArriveError.{ArriveError}
-use Rattle.slots.specs.declared.answer.ArriveError.TheVariants.{Stray, Overflow}
-use Rattle.slots.specs.declared.table.Context.{Context}
-use Rattle.slots.specs.Bytes.{with_bytes}
-use Rattle.slots.specs.Slots.{Issue, DeviceSlots, Slots, context_of, mask_below, own_issue, match_some}
-use Rattle.slots.specs.Work.{is_read}
+use Rattle.std.specs.Prelude.{◌≡◌, ◌≤◌, ℕ, ◌+◌, ◌-◌, min, Bool, true, false, not, ◌&&◌, nat_lt, if◌then◌else◌, slice_set, Option, Some, None, Result}
+use Rattle.std.specs.{Prelude.{Ok, Err, is_ok, is_some}, Option.option_map}
+use Rattle.slots.specs.{declared.{answer.ArriveError.{ArriveError, TheVariants.{Stray, Overflow}}, table.Context.Context}, Bytes.with_bytes}
+use Rattle.slots.specs.{Slots.{Issue, DeviceSlots, Slots, context_of, mask_below, own_issue, match_some}, Work.is_read}
 
 -- the issue with count more bytes transferred, from byte offset on
 abbrev pub moved_over : ℕ → ℕ → Issue → Issue

@@ -1,9 +1,7 @@
 -- A command slot (AHCI 1.3.1, 4.2.2) as it is stored: its issue without the bytes, and the flags of the
 -- bytes.
 use Rattle.std.specs.Prelude.{◌≡◌, ◌/◌, Bool, List, length, Option, Some, None, MatchOption}
-use Rattle.slots.specs.declared.slot.Issued.{Issued}
-use Rattle.slots.specs.Slots.{Issue}
-use Rattle.slots.specs.Work.{IsWork}
+use Rattle.slots.specs.{declared.slot.Issued.Issued, Slots.Issue, Work.IsWork}
 
 -- the issue with these flags
 abbrev pub with_flags : Issued → List Bool → Issue

@@ -1,7 +1,6 @@
 -- What the words of the contracts mean: sets of bytes, and sets of slots.
 use Rattle.std.specs.Prelude.{◌≡◌, ℕ, ◌*◌, ◌%◌, ◌^◌, ◌<◌, Bool, true, false, ◌||◌, List, length, Some, None}
-use Rattle.slots.specs.Bytes.{is_over, is_within, with_bytes, none_over}
-use Rattle.slots.specs.Slots.{has_bit, lowest, mask_of}
+use Rattle.slots.specs.{Bytes.{is_over, is_within, with_bytes, none_over}, Slots.{has_bit, lowest, mask_of}}
 
 -- Transferred bytes are added to those transferred before, and no other byte is. Offset and count are
 -- multiples of 4. At first no byte was transferred.

@@ -1,8 +1,6 @@
 -- Masks of slots: a bit for each slot, 0 to 31 (as PxCI and PxSACT have them, AHCI 1.3.1, 3.3.13 and 3.3.14).
 use Rattle.std.specs.Prelude.{ℕ, ◌≡◌, ◌<◌, ◌==◌, Bool, true, false, not, ◌&&◌, if◌then◌else◌, List, Option, Some, None, slice_index_or}
-use Rattle.slots.specs.declared.mask.Masks.{Masks}
-use Rattle.slots.specs.Commands.{is_any, is_unanswered}
-use Rattle.slots.specs.Slots.{Issue, has_bit, holds, is_queued_issue, is_unsent}
+use Rattle.slots.specs.{declared.mask.Masks.Masks, Commands.{is_any, is_unanswered}, Slots.{Issue, has_bit, holds, is_queued_issue, is_unsent}}
 
 -- the bit of a slot is set or cleared, and each other bit stays
 abbrev pub SetsBit : (slot : ℕ) → (set : Bool) → (old new : ℕ) → Type 0

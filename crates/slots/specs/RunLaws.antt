@@ -1,11 +1,9 @@
 -- Runs of flags lie apart, and no other flags have them.
-use Rattle.std.specs.Prelude.{nat_le, nat_lt}
-use Rattle.std.proofs.Common.{◌≡◌, ℕ, zero, suc, ◌+◌, ◌<◌, ◌≤◌, Bool, true, false, ◌||◌, List, [], ◌∷◌, length, map, refl, sym, ◌∙◌, ap, arith, Some, None}
-use Rattle.std.specs.List.{range_with_len}
-use Rattle.std.proofs.lemmas.Bool.{and_from, and_left, and_right, and_parts, or_from, or_left, le-leb, lt-leb, lt-ltb, le-ltb, leb-true, ltb-true}
-use Rattle.slots.specs.declared.moved.Stretch.{Stretch}
-use Rattle.slots.specs.Stretches.{AreApart, has, in_one, over_of}
-use Rattle.slots.specs.Runs.{runs_from, runs_of}
+use Rattle.std.specs.{Prelude.{nat_le, nat_lt}, List.range_with_len}
+use Rattle.std.proofs.Common.{◌≡◌, ℕ, zero, suc, ◌+◌, ◌<◌, ◌≤◌, Bool, true, false, ◌||◌, List, [], ◌∷◌, length, map, refl, sym, ◌∙◌, ap, arith, Some}
+use Rattle.std.proofs.{Common.None, lemmas.Bool.{and_from, and_left, and_right, and_parts, or_from, or_left, le-leb, lt-leb, lt-ltb, le-ltb}}
+use Rattle.std.proofs.lemmas.Bool.{leb-true, ltb-true}
+use Rattle.slots.specs.{declared.moved.Stretch.Stretch, Stretches.{AreApart, has, in_one, over_of}, Runs.{runs_from, runs_of}}
 
 -- ---- dwords
 

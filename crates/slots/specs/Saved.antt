@@ -1,22 +1,13 @@
 -- What is issued, and which of its bytes were transferred, as words.
-use Rattle.std.specs.Prelude.{◌≡◌, ℕ, ◌+◌, ◌*◌, ◌/◌, ◌^◌, ◌<◌, ◌≤◌, ◌==◌, Bool, if◌then◌else◌, List, [], ◌∷◌, Option, Some, None, length, refl, slice_index_or, suc, MatchOption}
-use Rattle.std.specs.List.{AllByRecursion}
+use Rattle.std.specs.Prelude.{◌≡◌, ℕ, ◌+◌, ◌*◌, ◌/◌, ◌^◌, ◌<◌, ◌≤◌, ◌==◌, Bool, if◌then◌else◌, List, [], ◌∷◌, Option, Some, None, length, refl}
+use Rattle.std.specs.{Prelude.{slice_index_or, suc, MatchOption}, List.AllByRecursion}
 use Rattle.std.proofs.Common.{ap, arith, subst, sym, ◌∙◌}
-use Rattle.saved_state.specs.State.{IsToldApart, KeepsOption, all_apart, bool_apart, list_apart, number_apart, option_apart, pair_apart, parts_apart, put_all, put_bool, put_list, put_number, put_option, put_pair, put_three, three_apart}
-use Rattle.slots.specs.declared.moved.Stretch.{Stretch}
-use Rattle.slots.specs.declared.slot.Issued.{Issued}
-use Rattle.slots.specs.declared.table.Context.{Context}
-use Rattle.slots.specs.declared.work.Work.{Work}
-use Rattle.slots.specs.declared.work.Kind.{Kind}
-use Rattle.slots.specs.declared.work.Kind.TheVariants.{QueuedRead, QueuedWrite, DmaIn, DmaOut, PioIn, PioOut, NoData, Control}
-use Rattle.slots.specs.Bytes.{stretches_of}
-use Rattle.slots.specs.Issued.{issued_of}
-use Rattle.slots.specs.RunLaws.{runs_apart, runs_same}
-use Rattle.slots.specs.Runs.{runs_of}
-use Rattle.slots.specs.Slots.{Issue, Slots, context_of, issue_at}
-use Rattle.slots.specs.Stretches.{AreApart}
-use Rattle.slots.specs.Table.{IsContext, IsContextOf, IsIssue, IsTable}
-use Rattle.slots.specs.Work.{IsWork}
+use Rattle.saved_state.specs.State.{IsToldApart, KeepsOption, all_apart, bool_apart, list_apart, number_apart, option_apart, pair_apart, parts_apart}
+use Rattle.saved_state.specs.State.{put_all, put_bool, put_list, put_number, put_option, put_pair, put_three, three_apart}
+use Rattle.slots.specs.declared.{moved.Stretch.Stretch, slot.Issued.Issued, table.Context.Context, work.{Work.Work, Kind.Kind}}
+use Rattle.slots.specs.{declared.work.Kind.TheVariants.{QueuedRead, QueuedWrite, DmaIn, DmaOut, PioIn, PioOut, NoData, Control}, Bytes.stretches_of}
+use Rattle.slots.specs.{Issued.issued_of, RunLaws.{runs_apart, runs_same}, Runs.runs_of, Slots.{Issue, Slots, context_of, issue_at}}
+use Rattle.slots.specs.{Stretches.AreApart, Table.{IsContext, IsContextOf, IsIssue, IsTable}, Work.IsWork}
 
 -- nothing is to be kept to
 abbrev pub Free : {A : Type 0} → A → Type 0

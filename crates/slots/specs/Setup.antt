@@ -1,17 +1,9 @@
 -- Setups (Serial ATA 3.x, 10.5, DMA Setup and PIO Setup FISes; first-party DMA as in native command queueing,
 -- ACS-3): which are accepted, and what they leave.
-use Rattle.std.specs.Prelude.{ℕ, ◌+◌, ◌%◌, Bool, true, false, not, ◌&&◌, ◌||◌, ◌==◌, nat_lt, nat_le}
-use Rattle.std.specs.Prelude.{if◌then◌else◌}
-use Rattle.std.specs.Prelude.{Option, Some, None, is_some, Result, Ok, Err}
-use Rattle.std.specs.Bool.{beq}
-use Rattle.std.specs.Option.{option_or}
-use Rattle.slots.specs.declared.answer.SetupError.{SetupError}
-use Rattle.slots.specs.declared.answer.SetupError.TheVariants.{NotOutstanding, WrongWay, Overflow, Twice}
-use Rattle.slots.specs.declared.answer.SetupError.TheVariants.{Fragments, BadCount}
-use Rattle.slots.specs.declared.table.Context.{Context}
-use Rattle.slots.specs.declared.work.Work.{Work}
-use Rattle.slots.specs.Work.{is_dma, is_read}
-use Rattle.slots.specs.Bytes.{any_over, ends_at, stretches_of, came_of}
+use Rattle.std.specs.Prelude.{ℕ, ◌+◌, ◌%◌, Bool, true, false, not, ◌&&◌, ◌||◌, ◌==◌, nat_lt, nat_le, if◌then◌else◌, Option, Some, None, is_some}
+use Rattle.std.specs.{Prelude.{Result, Ok, Err}, Bool.beq, Option.option_or}
+use Rattle.slots.specs.declared.answer.SetupError.{SetupError, TheVariants.{NotOutstanding, WrongWay, Overflow, Twice, Fragments, BadCount}}
+use Rattle.slots.specs.{declared.{table.Context.Context, work.Work.Work}, Work.{is_dma, is_read}, Bytes.{any_over, ends_at, stretches_of, came_of}}
 use Rattle.slots.specs.Slots.{Issue, DeviceSlots, own_issue, match_some, is_queued_issue, sent_out, sent_pio}
 
 -- the transferred bytes are 64 stretches, and none of them ends just before byte offset

@@ -1,17 +1,10 @@
 -- The command slots of a port (AHCI 1.3.1, 4.2.2, Command List Structure), a transfer context for each of its
 -- devices, as FIS-based switching needs it (9.3), and the part of them that belongs to one device. Slots are
 -- numbered 0 to 31, devices 0 to 15.
-use Rattle.std.specs.Prelude.{◌≡◌, ◌≢◌, ◌<◌, ℕ, ◌^◌, Bool, true, false, not, ◌&&◌, ◌==◌, if◌then◌else◌, List}
-use Rattle.std.specs.Prelude.{length, map, replicate, slice_index_or, slice_set, sum_by, Option, Some, None}
-use Rattle.std.specs.List.{range_with_len, position}
-use Rattle.std.specs.Int.{bit_at}
-use Rattle.slots.specs.declared.work.Work.{Work}
-use Rattle.slots.specs.declared.work.Kind.{Kind}
-use Rattle.slots.specs.declared.work.Kind.TheVariants.{QueuedRead, QueuedWrite, DmaIn, DmaOut, PioIn, PioOut}
-use Rattle.slots.specs.declared.work.Kind.TheVariants.{NoData, Control}
-use Rattle.slots.specs.declared.table.Context.{Context}
-use Rattle.slots.specs.Work.{is_out, is_queued, needs_all}
-use Rattle.slots.specs.Bytes.{is_whole, none_over}
+use Rattle.std.specs.Prelude.{◌≡◌, ◌≢◌, ◌<◌, ℕ, ◌^◌, Bool, true, false, not, ◌&&◌, ◌==◌, if◌then◌else◌, List, length, map, replicate, slice_index_or}
+use Rattle.std.specs.{Prelude.{slice_set, sum_by, Option, Some, None}, List.{range_with_len, position}, Int.bit_at}
+use Rattle.slots.specs.declared.work.{Work.Work, Kind.{Kind, TheVariants.{QueuedRead, QueuedWrite, DmaIn, DmaOut, PioIn, PioOut, NoData, Control}}}
+use Rattle.slots.specs.{declared.table.Context.Context, Work.{is_out, is_queued, needs_all}, Bytes.{is_whole, none_over}}
 
 -- What is issued in a slot: for which device, what it asks for, whether its command was sent, whether the
 -- device answered it, and which of its bytes were transferred.

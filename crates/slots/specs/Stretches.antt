@@ -1,8 +1,7 @@
 -- The transferred bytes of a command (Serial ATA 3.x, 10.5, Data FISes) as they are stored: stretches of
 -- dwords, in order, each with a gap to the next.
-use Rattle.std.specs.Prelude.{ℕ, ◌+◌, ◌-◌, ◌≤◌, ◌<◌, min, max, Bool, ◌&&◌, nat_lt, nat_le, if◌then◌else◌}
-use Rattle.std.specs.Prelude.{List, [], ◌∷◌, map}
-use Rattle.std.specs.List.{range_with_len, list_any}
+use Rattle.std.specs.{Prelude.{ℕ, ◌+◌, ◌-◌, ◌≤◌, ◌<◌, min, max, Bool, ◌&&◌, nat_lt, nat_le, if◌then◌else◌, List, [], ◌∷◌, map}, List.range_with_len}
+use Rattle.std.specs.List.{list_any}
 use Rattle.slots.specs.declared.moved.Stretch.{Stretch}
 
 -- dword k is in the stretch

@@ -1,12 +1,8 @@
 -- What holds for every table of command slots (AHCI 1.3.1, 4.2.2) and of device contexts (9.3).
 use Rattle.std.specs.Prelude.{◌≡◌, ℕ, ◌+◌, ◌/◌, ◌%◌, ◌<◌, ◌≤◌, Bool, true, false, ◌||◌, length, MatchOption}
-use Rattle.slots.specs.declared.table.Context.{Context}
-use Rattle.slots.specs.declared.work.Work.{Work}
-use Rattle.slots.specs.Work.{IsWork, is_read}
-use Rattle.slots.specs.Bytes.{any_over, none_over, stretches_of}
-use Rattle.slots.specs.Setup.{is_full_at, is_outstanding}
-use Rattle.slots.specs.Slots.{Issue, Slots, issue_at, context_of, owned_by, holds, is_control}
-use Rattle.slots.specs.Slots.{is_queued_issue, is_under_way, is_waiting}
+use Rattle.slots.specs.{declared.{table.Context.Context, work.Work.Work}, Work.{IsWork, is_read}, Bytes.{any_over, none_over, stretches_of}}
+use Rattle.slots.specs.{Setup.{is_full_at, is_outstanding}, Slots.{Issue, Slots, issue_at, context_of, owned_by, holds, is_control, is_queued_issue}}
+use Rattle.slots.specs.Slots.{is_under_way, is_waiting}
 
 -- What is issued in a slot: for one of 16 devices, with a flag for each dword. Only a queued command that was
 -- sent is answered. The transferred bytes are at most 64 stretches, and none before the command is sent. A

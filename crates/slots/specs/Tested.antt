@@ -1,11 +1,8 @@
 -- What a restored table of slots is tested for: the rules of every table, one after another.
-use Rattle.std.specs.Prelude.{ℕ, ◌+◌, ◌*◌, ◌%◌, Bool, true, false, not, ◌&&◌, ◌||◌, ◌==◌, nat_le, nat_lt, List, length, slice_index_or, Option, None, is_none}
-use Rattle.std.specs.Bool.{beq}
-use Rattle.slots.specs.declared.table.Context.{Context}
-use Rattle.slots.specs.Bytes.{any_over, stretches_of}
-use Rattle.slots.specs.Setup.{is_full_at, is_outstanding}
-use Rattle.slots.specs.Slots.{Issue, is_control, is_queued_issue, is_under_way, is_waiting, lowest, lowest_below, match_some, own_of, waiting}
-use Rattle.slots.specs.Work.{is_read}
+use Rattle.std.specs.Prelude.{ℕ, ◌+◌, ◌*◌, ◌%◌, Bool, true, false, not, ◌&&◌, ◌||◌, ◌==◌, nat_le, nat_lt, List, length, slice_index_or, Option, None}
+use Rattle.std.specs.{Prelude.is_none, Bool.beq}
+use Rattle.slots.specs.{declared.table.Context.Context, Bytes.{any_over, stretches_of}, Setup.{is_full_at, is_outstanding}, Slots.{Issue, is_control}}
+use Rattle.slots.specs.{Slots.{is_queued_issue, is_under_way, is_waiting, lowest, lowest_below, match_some, own_of, waiting}, Work.is_read}
 
 -- an issue of one of 16 devices; only a queued command that was sent is answered, a Control that was sent is no longer there, and
 -- no byte is transferred before a command is sent

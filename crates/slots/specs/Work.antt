@@ -1,10 +1,7 @@
 -- The kinds of commands (ACS-3: NCQ, DMA, PIO data-in, PIO data-out and non-data commands; Serial ATA 3.x,
 -- 10.5: a Register Host to Device FIS with C 0), and how many bytes each may move.
 use Rattle.std.specs.Prelude.{◌≡◌, ℕ, ◌%◌, ◌≤◌, ◌<◌, Bool, true, false}
-use Rattle.slots.specs.declared.work.Work.{Work}
-use Rattle.slots.specs.declared.work.Kind.{Kind}
-use Rattle.slots.specs.declared.work.Kind.TheVariants.{QueuedRead, QueuedWrite, DmaIn, DmaOut, PioIn, PioOut}
-use Rattle.slots.specs.declared.work.Kind.TheVariants.{NoData, Control}
+use Rattle.slots.specs.declared.work.{Work.Work, Kind.{Kind, TheVariants.{QueuedRead, QueuedWrite, DmaIn, DmaOut, PioIn, PioOut, NoData, Control}}}
 
 -- a queued command (NCQ)
 abbrev pub is_queued : Kind → Bool

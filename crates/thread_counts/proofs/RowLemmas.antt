@@ -1,15 +1,10 @@
 -- For `counted`: rows of counts, port by port and connection by connection.
-use Rattle.std.proofs.Common.{◌≡◌, ℕ, zero, suc, ◌+◌, ◌<◌, ◌≤◌, List, [], ◌∷◌, ◌++◌, length, get_or, Option, Some, None, Bool, true, false, refl, sym, ap, subst, ◌∙◌, inl, inr, append_assoc, append-nil, arith}
-use Rattle.std.specs.Prelude.{◌&&◌, ◌==◌, ◌⊎◌, if◌then◌else◌, All, map, nat_le, nat_lt}
-use Rattle.std.specs.Option.{option_or}
-use Rattle.std.proofs.lemmas.Bool.{cases_eq, cases_lt, lt-ltb, ne_eqb}
-use Rattle.std.proofs.lemmas.Bool.Decides.{nat_tests}
-use Rattle.std.proofs.lemmas.List.Quantifiers.{all_pairs_push}
-use Rattle.std.proofs.lemmas.List.Elements.{All-push}
-use Rattle.std.proofs.lemmas.List.Folds.{find-append}
+use Rattle.std.proofs.Common.{◌≡◌, ℕ, zero, suc, ◌+◌, ◌<◌, ◌≤◌, List, [], ◌∷◌, ◌++◌, length, get_or, Option, Some, None, Bool, true, false, refl, sym}
+use Rattle.std.proofs.{Common.{ap, subst, ◌∙◌, inl, inr, append_assoc, append-nil, arith}, lemmas.Bool.{cases_eq, cases_lt, lt-ltb, ne_eqb}}
+use Rattle.std.proofs.lemmas.{Bool.Decides.nat_tests, List.{Quantifiers.all_pairs_push, Elements.{All-push}, Folds.{find-append}}}
+use Rattle.std.specs.{Prelude.{◌&&◌, ◌==◌, ◌⊎◌, if◌then◌else◌, All, map, nat_le, nat_lt}, Option.option_or}
 use Rattle.fis_view.specs.Frames.{Stamped}
-use Rattle.pm_world.specs.Counting.{AreSorted, Precedes, is_of, row_of}
-use Rattle.pm_world.specs.declared.counts.ConnCount.{ConnCount}
+use Rattle.pm_world.specs.{Counting.{AreSorted, Precedes, is_of, row_of}, declared.counts.ConnCount.ConnCount}
 use Rattle.disk_thread.specs.Runs.{StationState, all_given, all_told, has_come}
 use Rattle.thread_counts.specs.Rows.{AreCounted, CountsAt, at_place, given_at, told_at, row_for, rows_on}
 

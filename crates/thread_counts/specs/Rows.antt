@@ -1,11 +1,9 @@
 -- The rows of counts of a run in threads.
-use Rattle.std.specs.Prelude.{◌≡◌, ℕ, zero, suc, ◌≤◌, if◌then◌else◌, List, [], ◌∷◌, ◌++◌, length, Some, None}
-use Rattle.std.specs.Option.{ForSome}
+use Rattle.std.specs.{Prelude.{◌≡◌, ℕ, zero, suc, ◌≤◌, if◌then◌else◌, List, [], ◌∷◌, ◌++◌, length, Some, None}, Option.ForSome}
 use Rattle.fis_view.specs.Frames.{Stamped}
 use Rattle.link_items.specs.declared.items.Presence.{Presence}
 use Rattle.multiplier.specs.Orders.{of_connection, of_port}
-use Rattle.pm_world.specs.Counting.{AreSorted, row_of}
-use Rattle.pm_world.specs.declared.counts.ConnCount.{ConnCount}
+use Rattle.pm_world.specs.{Counting.{AreSorted, row_of}, declared.counts.ConnCount.ConnCount}
 use Rattle.disk_thread.specs.Runs.{AreTold, StationState, all_given, all_told, has_come}
 
 -- a list of the device at port n; empty if there is no such port

@@ -1,8 +1,7 @@
 -- what lines ask in either kind of run
 
 use Rattle.std.specs.Prelude.{ℕ, Bool, true, nat_le}
-use Rattle.trace_run.specs.declared.parse.Common.{Common}
-use Rattle.trace_run.specs.declared.parse.Common.TheVariants.{Submit, Put, See}
+use Rattle.trace_run.specs.declared.parse.Common.{Common, TheVariants.{Submit, Put, See}}
 
 -- whether a line that may stand in either kind of run names a port up to this one, if it names any
 abbrev pub names_up_to : ℕ → Common → Bool

@@ -1,12 +1,10 @@
 -- Digits that are decoded pair by pair.
-use Rattle.std.proofs.Common.{◌≡◌, ℕ, ◌+◌, ◌*◌, ◌%◌, ◌==◌, Bool, true, false, List, [], ◌∷◌, ◌++◌, length, slice_index, Option, Some, None, Result, Ok, Err, refl, sym, ap, ◌∙◌, arith, inl, inr, length-append}
+use Rattle.std.proofs.Common.{◌≡◌, ℕ, ◌+◌, ◌*◌, ◌%◌, ◌==◌, Bool, true, false, List, [], ◌∷◌, ◌++◌, length, slice_index, Option, Some, None, Result}
+use Rattle.std.proofs.{Common.{Ok, Err, refl, sym, ap, ◌∙◌, arith, inl, inr, length-append}, lemmas.{Bool.cases_Bool, List.{append-nil}}}
 use Rattle.std.specs.Prelude.{IsErr, IsOk, IsTrue, is_err, is_ok, MatchResult}
-use Rattle.std.proofs.lemmas.Bool.{cases_Bool}
-use Rattle.std.proofs.lemmas.List.{append-nil}
 use Rattle.hex.specs.Hex.{decode_of, decode_pairs, decode_sized, digit_or_error, hex_digit_value, pair_value, ◌>>=◌}
 use Rattle.hex.specs.declared.error.FromHexError.{FromHexError}
-use Rattle.hex.proofs.Pairs.{cons_byte, prepend, decode_pairs-ok_pair, decode_pairs-err_pair, prepend-cons_byte}
-use Rattle.hex.proofs.HexLemmas.{decode_of-even}
+use Rattle.hex.proofs.{Pairs.{cons_byte, prepend, decode_pairs-ok_pair, decode_pairs-err_pair, prepend-cons_byte}, HexLemmas.{decode_of-even}}
 
 -- ---- two digits, wherever they stand
 

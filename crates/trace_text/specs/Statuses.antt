@@ -1,9 +1,7 @@
 -- how a run ends
 
 use Rattle.std.specs.Prelude.{ℕ}
-use Rattle.trace_text.specs.declared.failure.Failure.{Failure}
-use Rattle.trace_text.specs.declared.failure.Failure.TheVariants.{Line, CommandLine, OutOfMemory, ReadOrWrite}
-use Rattle.trace_text.specs.declared.failure.Failure.TheVariants.{DiskFile, Unexpected}
+use Rattle.trace_text.specs.declared.failure.Failure.{Failure, TheVariants.{Line, CommandLine, OutOfMemory, ReadOrWrite, DiskFile, Unexpected}}
 
 -- the exit status of a run that ends for this reason; 0 is the status of one whose work is done
 abbrev pub status_of : Failure → ℕ

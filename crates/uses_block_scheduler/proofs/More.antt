@@ -1,11 +1,10 @@
 -- A run that goes on.
 use Rattle.std.proofs.Common.{◌≡◌, ℕ, true, List, [], ◌∷◌, ◌++◌, Some, None, refl, sym, ap, ◌∙◌, subst}
-use Rattle.std.specs.Prelude.{Option, Bool, not}
-use Rattle.std.specs.Option.{is_some}
+use Rattle.std.specs.{Prelude.{Option, Bool, not}, Option.is_some}
 use Rattle.block_disk.specs.Table.{is_under_way}
 use Rattle.block_queue.specs.Line.{command_at}
-use Rattle.block_scheduler.specs.Schedule.{IsNextStart, Schedule, none_scheduled}
-use Rattle.block_scheduler.specs.Laws.{AreMoves, IsMove, Move, SomethingMoves, after_move, after_moves}
+use Rattle.block_scheduler.specs.{Schedule.{IsNextStart, Schedule, none_scheduled}, Laws.{AreMoves, IsMove, Move, SomethingMoves, after_move}}
+use Rattle.block_scheduler.specs.Laws.{after_moves}
 use Rattle.uses_block_scheduler.specs.Reached.{Extends, IsDriven}
 
 are_more : (moves : List Move) (s : Schedule) (m : Move) → AreMoves s moves → IsMove (after_moves s moves) m → AreMoves s (moves ++ m ∷ [])

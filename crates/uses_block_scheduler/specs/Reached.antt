@@ -1,11 +1,8 @@
 -- Schedulers that a run led to.
 use Rattle.std.specs.Prelude.{ℕ, ◌≡◌, ◌<◌, ◌≤◌, Bool, true, List, [], ◌∷◌, ◌++◌, map, Option, Some, None}
-use Rattle.block_disk.specs.Table.{is_under_way}
-use Rattle.block_disk.specs.Requests.{AreSeenRightly, Rises, no_books, none_queued, numbers_given}
-use Rattle.block_queue.specs.Line.{command_at}
-use Rattle.block_queue.specs.Deeds.{AllAreApart, Goes, act_of}
-use Rattle.block_scheduler.specs.Schedule.{Schedule, none_scheduled}
-use Rattle.block_scheduler.specs.Laws.{AreMoves, Move, Starts, after_moves, deeds_in, seen_in}
+use Rattle.block_disk.specs.{Table.is_under_way, Requests.{AreSeenRightly, Rises, no_books, none_queued, numbers_given}}
+use Rattle.block_queue.specs.{Line.command_at, Deeds.{AllAreApart, Goes, act_of}}
+use Rattle.block_scheduler.specs.{Schedule.{Schedule, none_scheduled}, Laws.{AreMoves, Move, Starts, after_moves, deeds_in, seen_in}}
 
 abbrev pub IsReached : ℕ → List Move → Schedule → Type 0
 IsReached limit moves s = AreMoves (none_scheduled limit) moves × (s ≡ after_moves (none_scheduled limit) moves)

@@ -1,22 +1,15 @@
 -- A call, from what the laws and the rules of a controller hand out.
 use Rattle.std.proofs.Common.{◌≡◌, ℕ, List, [], ◌∷◌, ◌++◌, refl, sym, ap, subst, ◌∙◌, Bool, false, Option, Some, None}
-use Rattle.std.specs.Prelude.{IfOk, IfSome, Result, Ok, Err}
-use Rattle.std.specs.Result.{result_err}
+use Rattle.std.specs.{Prelude.{IfOk, IfSome, Result, Ok, Err}, Result.result_err}
 use Rattle.fis_view.specs.Frames.{IsFrame}
 use Rattle.slots.specs.Table.{IsTable}
 use Rattle.hba_fbs.specs.Views.{IsCorePort}
 use Rattle.hba_laws.specs.Cores.{CoreEvent}
-use Rattle.ahci_controller.specs.Rules.{IsRuled}
-use Rattle.ahci_controller.specs.States.{ControllerState}
-use Rattle.ahci_controller.specs.Taking.{Hears, hindrance}
-use Rattle.ahci_controller.specs.declared.latch.Edge.{Edge}
-use Rattle.ahci_controller.specs.declared.taking.Hindrance.{Hindrance}
+use Rattle.ahci_controller.specs.{Rules.IsRuled, States.ControllerState, Taking.{Hears, hindrance}, declared.latch.Edge.Edge}
+use Rattle.ahci_controller.specs.declared.{taking.Hindrance.Hindrance, writing.Written.Written}
 use Rattle.ahci_controller.specs.declared.taking.Took as taking
-use Rattle.ahci_controller.specs.declared.writing.Written.{Written}
-use Rattle.controller_laws.specs.Carrying.{AreNumbered, AreSaid, Carrying, IsOwnData, first_of, placed_of, said_of}
-use Rattle.controller_laws.specs.CoreEvents.{AreCoreEvents, of_event}
-use Rattle.controller_laws.specs.Events.{Does, Event, IsController, Runs, Took, Wrote}
-use Rattle.controller_laws.specs.Interrupts.{line_after, line_shown}
+use Rattle.controller_laws.specs.{Carrying.{AreNumbered, AreSaid, Carrying, IsOwnData, first_of, placed_of, said_of}, CoreEvents.AreCoreEvents}
+use Rattle.controller_laws.specs.{CoreEvents.of_event, Events.{Does, Event, IsController, Runs, Took, Wrote}, Interrupts.{line_after, line_shown}}
 use Rattle.uses_controller_laws.specs.Ended.{IsCall, Laws}
 
 no_more : (l : List CoreEvent) → (l ++ []) ≡ l

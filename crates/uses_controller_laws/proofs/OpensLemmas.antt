@@ -1,20 +1,11 @@
 -- A controller that opens.
-use Rattle.std.proofs.Common.{◌≡◌, ℕ, ◌+◌, ◌*◌, ◌^◌, ◌&&◌, Bool, false, [], length, refl, ap, ◌∙◌, Option, None}
-use Rattle.std.specs.Prelude.{◌==◌}
-use Rattle.std.specs.Int.{from_bool}
-use Rattle.std.proofs.lemmas.List.{length-replicate}
+use Rattle.std.proofs.{Common.{◌≡◌, ℕ, ◌+◌, ◌*◌, ◌^◌, ◌&&◌, Bool, false, [], length, refl, ap, ◌∙◌, Option, None}, lemmas.List.{length-replicate}}
 use Rattle.std.proofs.lemmas.Nat.Bits.{bit_at-zero}
+use Rattle.std.specs.{Prelude.{◌==◌}, Int.from_bool}
 use Rattle.slots.specs.Slots.{has_bit}
 use Rattle.guest_fetch.specs.Fetch.{Fetching}
-use Rattle.ahci_controller.specs.Opening.{IsOpening}
-use Rattle.ahci_controller.specs.Reading.{shown}
-use Rattle.ahci_controller.specs.States.{ControllerState}
-use Rattle.ahci_controller.specs.declared.latch.Latch.{Latch}
-use Rattle.ahci_controller.specs.declared.wants.Wants.{Wants}
-use Rattle.controller_laws.specs.Ends.{OpensUntold}
-use Rattle.controller_laws.specs.Events.{IsController}
-use Rattle.controller_laws.specs.Interrupts.{OpensLatched, line_shown}
-use Rattle.controller_laws.specs.Sources.{StartsUnread}
+use Rattle.ahci_controller.specs.{Opening.IsOpening, Reading.shown, States.ControllerState, declared.{latch.Latch.Latch, wants.Wants.Wants}}
+use Rattle.controller_laws.specs.{Ends.OpensUntold, Events.IsController, Interrupts.{OpensLatched, line_shown}, Sources.StartsUnread}
 use Rattle.uses_controller_laws.specs.Ended.{OpensSo}
 
 no_fetch : Option Fetching

@@ -3,15 +3,11 @@ use Rattle.std.specs.Prelude.{◌≡◌, ◌<◌, ℕ, true, false, [], ◌∷�
 use Rattle.slots.specs.Slots.{has_bit}
 use Rattle.ahci_registers.specs.declared.register.Register.TheVariants.{PxCi, PxSact}
 use Rattle.hba_laws.specs.History.{History}
-use Rattle.ahci_controller.specs.Reading.{shown}
-use Rattle.ahci_controller.specs.States.{ControllerState}
-use Rattle.controller_laws.specs.Active.{ActiveBitsFall, ActiveFalls}
-use Rattle.controller_laws.specs.Carrying.{AllAreSaid, AreSaid, BytesAreSaid, Carrying, DataIsOwn, carrying_after_call}
-use Rattle.controller_laws.specs.CoreEvents.{AreCoreEvents, EventsAreCoreEvents, of_event}
-use Rattle.controller_laws.specs.Ends.{AreTold, Falls, IssuesFall}
-use Rattle.controller_laws.specs.Events.{Does, Event}
-use Rattle.controller_laws.specs.Interrupts.{GoesBy, IsLatched, LineIsKept, LineIsTold, StaysLatched, edges_in, line_shown}
-use Rattle.controller_laws.specs.Sources.{AreSources, CommandsAreSupplied, Sources, no_sources, sources_by}
+use Rattle.ahci_controller.specs.{Reading.shown, States.ControllerState}
+use Rattle.controller_laws.specs.{Active.{ActiveBitsFall, ActiveFalls}, Carrying.{AllAreSaid, AreSaid, BytesAreSaid, Carrying, DataIsOwn}}
+use Rattle.controller_laws.specs.{Carrying.carrying_after_call, CoreEvents.{AreCoreEvents, EventsAreCoreEvents, of_event}, Ends.{AreTold, Falls}}
+use Rattle.controller_laws.specs.{Ends.IssuesFall, Events.{Does, Event}, Interrupts.{GoesBy, IsLatched, LineIsKept, LineIsTold, StaysLatched}}
+use Rattle.controller_laws.specs.{Interrupts.{edges_in, line_shown}, Sources.{AreSources, CommandsAreSupplied, Sources, no_sources, sources_by}}
 
 -- the laws, as `controller_laws` has them
 pub record Laws : Type 0 where

@@ -1,15 +1,10 @@
 -- A command that is fetched out of one block.
-use Rattle.std.proofs.Common.{◌≡◌, ℕ, zero, suc, ◌+◌, ◌-◌, ◌*◌, ◌/◌, ◌%◌, ◌^◌, ◌<◌, ◌≤◌, List, [], ◌∷◌, length, take, drop, get_or, slice_index, refl, sym, ap, ◌∙◌, arith}
-use Rattle.std.proofs.lemmas.List.{drop_more}
-use Rattle.guest_fetch.specs.declared.fetch.Step.{Step}
-use Rattle.guest_fetch.specs.declared.fetch.Step.TheVariants.{AtHeader, AtFis, AtEntries}
-use Rattle.guest_fetch.specs.declared.fetch.Supplied.{Supplied}
-use Rattle.guest_fetch.specs.declared.fetch.Supplied.TheVariants.{More, Whole, Refused, OutOfMemory}
-use Rattle.guest_fetch.specs.Fetch.{Fetching}
-use Rattle.guest_fetch.specs.Fetching.{Supplies, supplied, want_of}
-use Rattle.guest_fetch.specs.Headers.{header_in, header_of_dwords, header_place}
-use Rattle.guest_fetch.specs.Reading.{CommandIsOfItsParts, Guest, after_parts, bytes_in, command_at, go_on, header_at, memory_for, part_for}
-use Rattle.guest_fetch.specs.declared.want.Want.{Want}
+use Rattle.std.proofs.Common.{◌≡◌, ℕ, zero, suc, ◌+◌, ◌-◌, ◌*◌, ◌/◌, ◌%◌, ◌^◌, ◌<◌, ◌≤◌, List, [], ◌∷◌, length, take, drop, get_or, slice_index, refl}
+use Rattle.std.proofs.{Common.{sym, ap, ◌∙◌, arith}, lemmas.List.drop_more}
+use Rattle.guest_fetch.specs.declared.fetch.{Step.{Step, TheVariants.{AtHeader, AtFis, AtEntries}}, Supplied.{Supplied, TheVariants.{More, Whole}}}
+use Rattle.guest_fetch.specs.{declared.fetch.Supplied.TheVariants.{Refused, OutOfMemory}, Fetch.Fetching, Fetching.{Supplies, supplied, want_of}}
+use Rattle.guest_fetch.specs.{Headers.{header_in, header_of_dwords, header_place}, Reading.{CommandIsOfItsParts, Guest, after_parts, bytes_in}}
+use Rattle.guest_fetch.specs.{Reading.{command_at, go_on, header_at, memory_for, part_for}, declared.want.Want.Want}
 use Rattle.uses_guest_fetch.specs.Block.{IsFetched, IsPart, guest_of}
 
 bytes_of : (memory : List ℕ) (at n : ℕ) → at + n ≤ length memory → bytes_in (slice_index memory) at n ≡ take n (drop at memory)

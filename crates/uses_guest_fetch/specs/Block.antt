@@ -1,9 +1,7 @@
 -- Memory in one block, from address 0 on, as a guest that writes nothing has it.
 use Rattle.std.specs.Prelude.{◌≡◌, ℕ, ◌+◌, ◌≤◌, List, length, take, drop, slice_index}
-use Rattle.guest_fetch.specs.declared.fetch.Supplied.{Supplied}
-use Rattle.guest_fetch.specs.declared.fetch.Supplied.TheVariants.{More, Whole, Refused, OutOfMemory}
-use Rattle.guest_fetch.specs.declared.want.Want.{Want}
-use Rattle.guest_fetch.specs.Reading.{Guest, command_at}
+use Rattle.guest_fetch.specs.{declared.{fetch.Supplied.{Supplied, TheVariants.{More, Whole, Refused, OutOfMemory}}, want.Want.Want}, Reading.Guest}
+use Rattle.guest_fetch.specs.Reading.{command_at}
 
 -- the bytes that are wanted
 pub record IsPart (memory : List ℕ) (want : Want) (bytes : List ℕ) : Type 0 where

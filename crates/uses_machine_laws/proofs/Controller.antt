@@ -1,21 +1,15 @@
 -- What each call is to the controller.
 use Rattle.std.proofs.Common.{◌≡◌, ℕ, zero, suc, Bool, List, [], ◌∷◌, ◌++◌, Option, Result, Ok, Err, refl, sym, subst, inl, inr}
-use Rattle.std.specs.Prelude.{IfOk, OnErr}
-use Rattle.std.specs.declared.alloc.AllocError.{AllocError}
+use Rattle.std.specs.{Prelude.{IfOk, OnErr}, declared.alloc.AllocError.AllocError}
 use Rattle.slots.specs.Table.{IsTable}
 use Rattle.hba_fbs.specs.Views.{IsCorePort}
-use Rattle.ahci_controller.specs.Rules.{IsRuled}
-use Rattle.ahci_controller.specs.declared.next.Next.{Next}
+use Rattle.ahci_controller.specs.{Rules.IsRuled, declared.next.Next.Next}
 use Rattle.controller_laws.specs.Interrupts.{line_shown}
-use Rattle.ahci_machine.specs.Acts.{Asks, Moves, Steps, StepsBy, unlent}
-use Rattle.ahci_machine.specs.States.{HasRules, MachineState}
-use Rattle.ahci_machine.specs.declared.act.Act.{Act}
+use Rattle.ahci_machine.specs.{Acts.{Asks, Moves, Steps, StepsBy, unlent}, States.{HasRules, MachineState}, declared.act.Act.Act}
+use Rattle.ahci_machine.specs.{declared.request.Request.Request, Registers.lent_bytes}
 use Rattle.ahci_machine.specs.declared.act.Act.TheVariants as act
-use Rattle.ahci_machine.specs.declared.request.Request.{Request}
-use Rattle.machine_laws.specs.ControllerLaws.{ControllerRuns, LinesAreShown, RunsRuled, WritesArePlaced, WritesRightly}
-use Rattle.machine_laws.specs.Lent.{FramesAreLent, HoldsFrame, Lends}
-use Rattle.ahci_machine.specs.Registers.{lent_bytes}
-use Rattle.machine_laws.specs.Deeds.{Deed, Does, Moved, Unlent}
+use Rattle.machine_laws.specs.{ControllerLaws.{ControllerRuns, LinesAreShown, RunsRuled, WritesArePlaced, WritesRightly}, Lent.FramesAreLent}
+use Rattle.machine_laws.specs.{Lent.{HoldsFrame, Lends}, Deeds.{Deed, Does, Moved, Unlent}}
 use Rattle.uses_machine_laws.specs.Kept.{AreMoves, KeepsLaws, KeepsMoves, Laws}
 
 pub ruled : (m : MachineState) → IsCorePort m.controller.core → IsTable m.controller.core.slots → IsRuled m.controller → HasRules m

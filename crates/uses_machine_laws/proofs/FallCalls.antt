@@ -1,17 +1,12 @@
 -- What each call is to the FISes on their way.
 use Rattle.std.proofs.Common.{◌≡◌, ℕ, List, [], ◌∷◌, Result, Ok, Err, refl, subst}
-use Rattle.std.specs.Prelude.{IfOk}
-use Rattle.std.specs.declared.alloc.AllocError.{AllocError}
+use Rattle.std.specs.{Prelude.IfOk, declared.alloc.AllocError.AllocError}
 use Rattle.multiplier.specs.declared.multiplier.Passed.{Passed}
 use Rattle.ahci_controller.specs.declared.next.Next.TheVariants as next
-use Rattle.ahci_machine.specs.Acts.{Steps}
-use Rattle.ahci_machine.specs.States.{HasRules, IsOpeningMachine, MachineState}
-use Rattle.ahci_machine.specs.declared.act.Act.{Act}
+use Rattle.ahci_machine.specs.{Acts.Steps, States.{HasRules, IsOpeningMachine, MachineState}, declared.act.Act.Act}
 use Rattle.ahci_machine.specs.declared.act.Act.TheVariants as act
-use Rattle.machine_laws.specs.ControllerLaws.{RunsRuled}
-use Rattle.machine_laws.specs.Deeds.{Deed, Does, Moved}
-use Rattle.machine_laws.specs.Falling.{ArrivesAt, FramesGoWhereTheyShould}
-use Rattle.machine_laws.specs.Feeding.{IsOrdered, OrdersAreIssued}
+use Rattle.machine_laws.specs.{ControllerLaws.RunsRuled, Deeds.{Deed, Does, Moved}, Falling.{ArrivesAt, FramesGoWhereTheyShould}, Feeding.IsOrdered}
+use Rattle.machine_laws.specs.Feeding.{OrdersAreIssued}
 use Rattle.uses_machine_laws.specs.Falls.{FallsOn, Laws}
 
 falls_on : Laws → (old : MachineState) (deeds : List Deed) (new : MachineState) → RunsRuled old deeds new → FallsOn old deeds new

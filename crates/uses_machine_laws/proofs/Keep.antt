@@ -1,27 +1,17 @@
 -- What each call is, as something that happens to a machine.
 use Rattle.std.proofs.Common.{◌≡◌, ◌≤◌, ℕ, zero, suc, [], ◌∷◌, Result, Ok, Err, refl, sym, subst, inl, inr}
-use Rattle.std.specs.Prelude.{IfOk, OnErr}
-use Rattle.std.specs.declared.alloc.AllocError.{AllocError}
+use Rattle.std.specs.{Prelude.{IfOk, OnErr}, declared.alloc.AllocError.AllocError}
 use Rattle.block_engine.specs.declared.request.Answer.{Answer}
 use Rattle.disk_pages.specs.declared.profile.Profile.{Profile}
 use Rattle.sata_disk.specs.State.{DiskState, new_disk}
 use Rattle.sata_disk_laws.specs.Calls.{after_calls}
-use Rattle.ahci_controller.specs.declared.access.Width.{Width}
-use Rattle.ahci_controller.specs.declared.wide.WideWritten.{WideWritten}
-use Rattle.ahci_machine.specs.Acts.{Asks, Moves, Steps, StepsBy, unlent}
-use Rattle.ahci_machine.specs.Answers.{AnswersMachine}
-use Rattle.ahci_machine.specs.Ports.{PullsMachine, Puts}
-use Rattle.ahci_machine.specs.Registers.{WritesMachine}
-use Rattle.ahci_machine.specs.States.{MachineState}
-use Rattle.ahci_machine.specs.declared.act.Act.{Act}
-use Rattle.ahci_machine.specs.declared.answers.MediumError.{MediumError}
-use Rattle.ahci_machine.specs.declared.bay.Unit.{Unit as Inside}
-use Rattle.ahci_machine.specs.declared.bay.Unit.TheVariants.{Disk}
-use Rattle.ahci_machine.specs.declared.ports.PortFault.{PortFault}
-use Rattle.ahci_machine.specs.declared.request.MediumId.{MediumId}
+use Rattle.ahci_controller.specs.declared.{access.Width.Width, wide.WideWritten.WideWritten}
+use Rattle.ahci_machine.specs.{Acts.{Asks, Moves, Steps, StepsBy, unlent}, Answers.AnswersMachine, Ports.{PullsMachine, Puts}}
+use Rattle.ahci_machine.specs.{Registers.WritesMachine, States.MachineState, declared.{act.Act.Act, answers.MediumError.MediumError}}
+use Rattle.ahci_machine.specs.declared.{bay.Unit.{Unit as Inside, TheVariants.Disk}, ports.PortFault.PortFault, request.MediumId.MediumId}
 use Rattle.ahci_machine.specs.declared.request.Request.{Request}
-use Rattle.machine_laws.specs.Deeds.{Deed, Does, Runs, Moved, Unlent, Wrote, Answered, Put, Pulled}
-use Rattle.machine_laws.specs.Disks.{AreReached, DisksAreReached, PutsReached}
+use Rattle.machine_laws.specs.{Deeds.{Deed, Does, Runs, Moved, Unlent, Wrote, Answered, Put, Pulled}, Disks.{AreReached, DisksAreReached}}
+use Rattle.machine_laws.specs.Disks.{PutsReached}
 use Rattle.uses_machine_laws.specs.Kept.{Keeps}
 
 keep : DisksAreReached → (old new : MachineState) (deed : Deed) → Does old deed new → PutsReached deed → Keeps old new

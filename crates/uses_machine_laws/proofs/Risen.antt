@@ -1,14 +1,8 @@
 -- What each call is to the FISes of the devices.
 use Rattle.std.proofs.Common.{List, [], ◌∷◌, Result, Ok, Err, refl}
-use Rattle.std.specs.Prelude.{IfOk, OnErr}
-use Rattle.std.specs.declared.alloc.AllocError.{AllocError}
-use Rattle.ahci_machine.specs.Acts.{Asks, Moves, Steps, unlent}
-use Rattle.ahci_machine.specs.States.{HasRules, MachineState}
-use Rattle.ahci_machine.specs.declared.act.Act.{Act}
-use Rattle.ahci_machine.specs.declared.request.Request.{Request}
-use Rattle.machine_laws.specs.ControllerLaws.{RunsRuled}
-use Rattle.machine_laws.specs.Deeds.{Deed, Does, Moved, Unlent}
-use Rattle.machine_laws.specs.Rising.{GoesOnRising}
+use Rattle.std.specs.{Prelude.{IfOk, OnErr}, declared.alloc.AllocError.AllocError}
+use Rattle.ahci_machine.specs.{Acts.{Asks, Moves, Steps, unlent}, States.{HasRules, MachineState}, declared.{act.Act.Act, request.Request.Request}}
+use Rattle.machine_laws.specs.{ControllerLaws.RunsRuled, Deeds.{Deed, Does, Moved, Unlent}, Rising.GoesOnRising}
 use Rattle.uses_machine_laws.proofs.Controller.{MoveRun, asked, steps}
 use Rattle.uses_machine_laws.specs.Risen.{KeepsRising, MovesRising}
 

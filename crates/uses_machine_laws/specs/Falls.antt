@@ -1,11 +1,8 @@
 -- What a caller knows of the FISes that its calls bring to the devices.
 use Rattle.std.specs.Prelude.{◌≡◌, ◌<◌, ℕ, List, [], ◌∷◌, ◌++◌}
 use Rattle.ahci_machine.specs.States.{MachineState}
-use Rattle.machine_laws.specs.ControllerLaws.{RunsRuled, calls_in}
-use Rattle.machine_laws.specs.Controllers.{GathersDue}
-use Rattle.machine_laws.specs.Deeds.{Deed}
-use Rattle.machine_laws.specs.Falling.{AllLast, HasLink, LinksPassInOrder, PortsPassInOrder, arrived, ended, fell, leaving, sent_in, way_to}
-use Rattle.machine_laws.specs.Feeding.{DataIsRead, IsReading, came_in}
+use Rattle.machine_laws.specs.{ControllerLaws.{RunsRuled, calls_in}, Controllers.GathersDue, Deeds.Deed, Falling.{AllLast, HasLink, LinksPassInOrder}}
+use Rattle.machine_laws.specs.{Falling.{PortsPassInOrder, arrived, ended, fell, leaving, sent_in, way_to}, Feeding.{DataIsRead, IsReading, came_in}}
 
 -- the laws, as `machine_laws` has them
 pub record Laws : Type 0 where

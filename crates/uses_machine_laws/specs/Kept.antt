@@ -4,14 +4,9 @@ use Rattle.block_disk.specs.Table.{is_under_way}
 use Rattle.block_queue.specs.Line.{command_at}
 use Rattle.fan_out.specs.FanOuts.{port_count}
 use Rattle.sata_disk.specs.State.{DiskState, commands}
-use Rattle.ahci_machine.specs.States.{MachineState, bay_at}
-use Rattle.ahci_machine.specs.declared.bay.Unit.TheVariants.{Disk}
-use Rattle.machine_laws.specs.ControllerLaws.{ControllerHasLaws, ControllerRuns, HasLaws, RunsAreCalls, RunsRuled, calls_in}
-use Rattle.machine_laws.specs.Controllers.{GathersDue}
-use Rattle.machine_laws.specs.Deeds.{Deed, Moved, Unlent}
-use Rattle.machine_laws.specs.Disks.{AreReached}
-use Rattle.machine_laws.specs.Rest.{WaitsFor}
-use Rattle.machine_laws.specs.Lent.{FramesAreHeld, HoldsFrame, last_taken}
+use Rattle.ahci_machine.specs.{States.{MachineState, bay_at}, declared.bay.Unit.TheVariants.Disk}
+use Rattle.machine_laws.specs.{ControllerLaws.{ControllerHasLaws, ControllerRuns, HasLaws, RunsAreCalls, RunsRuled, calls_in}, Controllers.GathersDue}
+use Rattle.machine_laws.specs.{Deeds.{Deed, Moved, Unlent}, Disks.AreReached, Rest.WaitsFor, Lent.{FramesAreHeld, HoldsFrame, last_taken}}
 
 -- each disk goes on to be one that calls of its own led to
 abbrev pub Keeps : MachineState → MachineState → Type 0

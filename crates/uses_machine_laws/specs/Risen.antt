@@ -1,9 +1,7 @@
 -- What a caller knows of the FISes of the devices, after each of its calls.
 use Rattle.std.specs.Prelude.{List, ◌∷◌}
 use Rattle.ahci_machine.specs.States.{MachineState}
-use Rattle.machine_laws.specs.ControllerLaws.{RunsRuled}
-use Rattle.machine_laws.specs.Deeds.{Deed, Unlent}
-use Rattle.machine_laws.specs.Rising.{Frames, HaveRisen, frames_in}
+use Rattle.machine_laws.specs.{ControllerLaws.RunsRuled, Deeds.{Deed, Unlent}, Rising.{Frames, HaveRisen, frames_in}}
 use Rattle.uses_machine_laws.specs.Kept.{AreMoves}
 
 -- what was done is a run, and the FISes that were sent and came before are followed by those of the run

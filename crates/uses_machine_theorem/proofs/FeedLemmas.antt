@@ -1,8 +1,6 @@
 -- What the laws say of the Data of writes in the runs that led here.
 use Rattle.ahci_machine.specs.States.{MachineState}
-use Rattle.machine_theorem.specs.Crossing.{OrderedLinksKeepPlaces}
-use Rattle.machine_theorem.specs.Fed.{FedDataAreOfTheirSlots}
-use Rattle.machine_theorem.specs.TakenWrites.{WritesAreAsSupplied}
+use Rattle.machine_theorem.specs.{Crossing.OrderedLinksKeepPlaces, Fed.FedDataAreOfTheirSlots, TakenWrites.WritesAreAsSupplied}
 use Rattle.uses_machine_theorem.specs.Feeding.{KnowsFed, KnowsPlaces, KnowsWrites}
 
 pub fed : FedDataAreOfTheirSlots → (now : MachineState) → KnowsFed now

@@ -1,25 +1,15 @@
 -- Each clause of FLUSH CACHE is the law, of the run that led to the machine.
-use Rattle.std.proofs.Common.{◌≡◌, ℕ, Bool, List, [], ◌∷◌, ◌++◌, Some, refl, sym, ap, subst, ◌∙◌}
-use Rattle.std.proofs.lemmas.List.{append-nil}
+use Rattle.std.proofs.{Common.{◌≡◌, ℕ, Bool, List, [], ◌∷◌, ◌++◌, Some, refl, sym, ap, subst, ◌∙◌}, lemmas.List.{append-nil}}
 use Rattle.ahci_controller.specs.States.{ControllerState}
 use Rattle.controller_laws.specs.Events.{Event, Runs}
-use Rattle.sata_disk.specs.Sending.{IsFis, IsOut}
-use Rattle.sata_disk.specs.State.{DiskState}
-use Rattle.sata_disk_laws.specs.Calls.{Call, Hears}
-use Rattle.sata_disk_laws.specs.Laws.{reached}
-use Rattle.ahci_machine.specs.States.{MachineState}
+use Rattle.sata_disk.specs.{Sending.{IsFis, IsOut}, State.DiskState}
+use Rattle.sata_disk_laws.specs.{Calls.{Call, Hears}, Laws.reached}
+use Rattle.ahci_machine.specs.{States.MachineState, declared.bay.Unit.TheVariants.Disk}
 use Rattle.ahci_machine.specs.declared.act.Act.TheVariants as act
-use Rattle.ahci_machine.specs.declared.bay.Unit.TheVariants.{Disk}
-use Rattle.machine_laws.specs.ControllerLaws.{RunsRuled}
-use Rattle.machine_laws.specs.Deeds.{Deed, Moved}
-use Rattle.machine_laws.specs.Heard.{life_in, no_life}
-use Rattle.machine_theorem.specs.Completions.{CompletionsAreOfSlots}
-use Rattle.machine_theorem.specs.Flushes.{IsFlushDone, OfSingles}
-use Rattle.machine_theorem.specs.FlushesFollow.{AreLeft, DisksAreReachedStill, FlushesWrites, IsReachedStill}
-use Rattle.machine_theorem.specs.FlushesFollow.WasCompleted.{Queued, Single}
-use Rattle.machine_theorem.specs.Flushing.{FlushesEndSo}
-use Rattle.machine_theorem.specs.Identity.{AllKeep, calls_of}
-use Rattle.machine_theorem.specs.Singles.{SinglesAreOfSlotsIf}
+use Rattle.machine_laws.specs.{ControllerLaws.RunsRuled, Deeds.{Deed, Moved}, Heard.{life_in, no_life}}
+use Rattle.machine_theorem.specs.{Completions.CompletionsAreOfSlots, Flushes.{IsFlushDone, OfSingles}, FlushesFollow.{AreLeft, DisksAreReachedStill}}
+use Rattle.machine_theorem.specs.{FlushesFollow.{FlushesWrites, IsReachedStill, WasCompleted.{Queued, Single}}, Flushing.FlushesEndSo}
+use Rattle.machine_theorem.specs.{Identity.{AllKeep, calls_of}, Singles.SinglesAreOfSlotsIf}
 use Rattle.uses_machine_theorem.specs.Flushes.{KnowsFlushAnswers, KnowsFlushedWrites, KnowsFlushes, KnowsWrittenSingles}
 use Rattle.uses_machine_theorem.proofs.SlotLemmas.{new_one}
 

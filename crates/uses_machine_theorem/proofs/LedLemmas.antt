@@ -1,7 +1,6 @@
 -- What a move lends was brought.
 use Rattle.std.proofs.Common.{◌≡◌, ℕ, Bool, List, [], ◌∷◌, ◌++◌, Option, Some, None, Result, Ok, Err, refl, sym, ap, ◌∙◌, subst}
-use Rattle.std.specs.Prelude.{IfOk, IfSome, MatchOption}
-use Rattle.std.specs.declared.alloc.AllocError.{AllocError}
+use Rattle.std.specs.{Prelude.{IfOk, IfSome, MatchOption}, declared.alloc.AllocError.AllocError}
 use Rattle.hba_fbs.specs.Views.{IsCorePort}
 use Rattle.slots.specs.Table.{IsTable}
 use Rattle.block_command.specs.Moments.{Moment}
@@ -12,26 +11,17 @@ use Rattle.ata_reply.specs.declared.reply.Reply.TheVariants as replies
 use Rattle.disk_pages.specs.declared.profile.Profile.{Profile}
 use Rattle.sata_disk.specs.State.{DiskState, commands, new_disk}
 use Rattle.sata_disk.specs.declared.out.Out.TheVariants as out
-use Rattle.ahci_machine.specs.Acts.{Steps}
-use Rattle.ahci_machine.specs.Answers.{Holds, disk_at}
-use Rattle.ahci_machine.specs.Ports.{Puts}
-use Rattle.ahci_machine.specs.States.{HasRules, IsOpeningMachine, MachineState}
-use Rattle.ahci_machine.specs.declared.act.Act.{Act}
-use Rattle.ahci_machine.specs.declared.act.Act.TheVariants as act
-use Rattle.ahci_machine.specs.declared.bay.Unit.{Unit as Inside}
-use Rattle.ahci_machine.specs.declared.bay.Unit.TheVariants.{Disk}
-use Rattle.ahci_machine.specs.declared.ports.PortFault.{PortFault}
+use Rattle.ahci_machine.specs.{Acts.Steps, Answers.{Holds, disk_at}, Ports.Puts, States.{HasRules, IsOpeningMachine, MachineState}}
+use Rattle.ahci_machine.specs.declared.{act.Act.Act, bay.Unit.{Unit as Inside, TheVariants.Disk}, ports.PortFault.PortFault}
 use Rattle.ahci_machine.specs.declared.request.MediumId.{MediumId}
-use Rattle.machine_laws.specs.ControllerLaws.{RunsRuled}
-use Rattle.machine_laws.specs.Deeds.{Deed, Does, Moved, Put}
-use Rattle.machine_theorem.specs.Commands.{CommandsOfNewDisks}
-use Rattle.machine_theorem.specs.Completed.{CompletionsAreOfDevices}
-use Rattle.machine_theorem.specs.Guest.{HeardIsOfGuest}
-use Rattle.machine_theorem.specs.Moments.{CompletionsAreEarned, DataAreOfSlots, PayloadIsOfSlots}
-use Rattle.machine_theorem.specs.Parts.{PayloadIsBrought}
-use Rattle.machine_theorem.specs.Standing.{CommandsStand}
-use Rattle.machine_theorem.specs.Writes.{CompletionsAreSupplied, DataAreSupplied, DoneWritesAreSupplied, FallsAreSupplied, IsStore, StoresAreOfGuests, StoresNext, SuppliedToNewDisk, WritesAreSupplied}
-use Rattle.uses_machine_theorem.specs.Led.{AsksSupplied, EndsCompleted, EndsEarned, EndsSupplied, FallsSupplied, HoldsSupplied, IsLed, KnowsDisks, LendsBrought, LendsOfSlots, PutsNew, SpeaksDone, SpeaksOfSlots, SpeaksSupplied}
+use Rattle.ahci_machine.specs.declared.act.Act.TheVariants as act
+use Rattle.machine_laws.specs.{ControllerLaws.RunsRuled, Deeds.{Deed, Does, Moved, Put}}
+use Rattle.machine_theorem.specs.{Commands.CommandsOfNewDisks, Completed.CompletionsAreOfDevices, Guest.HeardIsOfGuest, Moments.CompletionsAreEarned}
+use Rattle.machine_theorem.specs.{Moments.{DataAreOfSlots, PayloadIsOfSlots}, Parts.PayloadIsBrought, Standing.CommandsStand}
+use Rattle.machine_theorem.specs.Writes.{CompletionsAreSupplied, DataAreSupplied, DoneWritesAreSupplied, FallsAreSupplied, IsStore, StoresAreOfGuests}
+use Rattle.machine_theorem.specs.Writes.{StoresNext, SuppliedToNewDisk, WritesAreSupplied}
+use Rattle.uses_machine_theorem.specs.Led.{AsksSupplied, EndsCompleted, EndsEarned, EndsSupplied, FallsSupplied, HoldsSupplied, IsLed, KnowsDisks}
+use Rattle.uses_machine_theorem.specs.Led.{LendsBrought, LendsOfSlots, PutsNew, SpeaksDone, SpeaksOfSlots, SpeaksSupplied}
 
 pub ruled : (m : MachineState) → IsCorePort m.controller.core → IsTable m.controller.core.slots → IsRuled m.controller → HasRules m
 ruled m port slots rules = record { port = port; slots = slots; rules = rules }

@@ -4,8 +4,7 @@ use Rattle.sata_disk.specs.State.{DiskState, new_disk}
 use Rattle.sata_disk_laws.specs.Calls.{AreCalls}
 use Rattle.ahci_machine.specs.States.{MachineState}
 use Rattle.machine_laws.specs.Heard.{life_in, no_life}
-use Rattle.machine_theorem.specs.Between.{ReadsFollowAmong}
-use Rattle.machine_theorem.specs.OverAll.{DataFollowOverAll, EndedWritesAreSettled, SeenReadsFollow}
+use Rattle.machine_theorem.specs.{Between.ReadsFollowAmong, OverAll.{DataFollowOverAll, EndedWritesAreSettled, SeenReadsFollow}}
 use Rattle.machine_theorem.specs.Unheard.{SlotsTellOfWrites, UnheardIsSpared}
 use Rattle.uses_machine_theorem.specs.OverAll.{KnowsAmong, KnowsOverAll, KnowsSentOverAll, KnowsSettled, KnowsSpared, KnowsStanding}
 

@@ -7,9 +7,8 @@ use Rattle.sata_disk.specs.State.{DiskState, new_disk}
 use Rattle.sata_disk_laws.specs.Calls.{AreCalls, Call}
 use Rattle.ahci_machine.specs.States.{MachineState}
 use Rattle.machine_laws.specs.Heard.{HasLived, Life, life_in, no_life}
-use Rattle.machine_theorem.specs.Ending.{CommandsAwaitEnds, SentLastWait}
-use Rattle.machine_theorem.specs.PioIn.{UnqueuedAreOfSlotsIf}
-use Rattle.machine_theorem.specs.Settled.{CommandsAreSettledInTurn, SectorsEndByData}
+use Rattle.machine_theorem.specs.{Ending.{CommandsAwaitEnds, SentLastWait}, PioIn.UnqueuedAreOfSlotsIf, Settled.CommandsAreSettledInTurn}
+use Rattle.machine_theorem.specs.Settled.{SectorsEndByData}
 use Rattle.uses_machine_theorem.specs.PioIn.{KnowsEnding, KnowsLast, KnowsSectors, KnowsSettled, KnowsUnqueuedIf}
 
 -- some calls of a new disk

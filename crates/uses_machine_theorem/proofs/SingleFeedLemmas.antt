@@ -1,16 +1,12 @@
 -- What the laws say of the Data of writes that are not queued in the runs that led here.
 use Rattle.std.proofs.Common.{◌∷◌, ◌++◌, Some, subst}
 use Rattle.ata_reply.specs.declared.reply.Reply.TheVariants as replies
-use Rattle.sata_disk.specs.Sending.{IsOut}
-use Rattle.sata_disk.specs.State.{DiskState}
+use Rattle.sata_disk.specs.{Sending.IsOut, State.DiskState}
 use Rattle.sata_disk.specs.declared.out.Out.TheVariants as out
 use Rattle.sata_disk_laws.specs.Calls.{Hears}
 use Rattle.ahci_machine.specs.States.{MachineState}
-use Rattle.machine_laws.specs.Heard.{life_in, no_life}
-use Rattle.machine_laws.specs.ControllerLaws.{calls_in}
-use Rattle.machine_theorem.specs.DataCame.{DataComeBehind}
-use Rattle.machine_theorem.specs.SingleData.{SingleDataGoInOrder}
-use Rattle.machine_theorem.specs.SingleWrites.{SingleWritesAreAsSupplied}
+use Rattle.machine_laws.specs.{Heard.{life_in, no_life}, ControllerLaws.calls_in}
+use Rattle.machine_theorem.specs.{DataCame.DataComeBehind, SingleData.SingleDataGoInOrder, SingleWrites.SingleWritesAreAsSupplied}
 use Rattle.uses_machine_theorem.specs.SingleFeeding.{KnowsCame, KnowsDataInOrder, KnowsSingleWrites}
 use Rattle.uses_machine_theorem.proofs.SlotLemmas.{new_one}
 

@@ -1,17 +1,13 @@
 -- What the laws say of each byte of a read that is not queued, of the runs that led here.
 use Rattle.std.proofs.Common.{◌++◌, Some, subst}
-use Rattle.sata_disk.specs.Sending.{IsOut}
-use Rattle.sata_disk.specs.State.{DiskState}
+use Rattle.sata_disk.specs.{Sending.IsOut, State.DiskState}
 use Rattle.sata_disk.specs.declared.out.Out.TheVariants as out
 use Rattle.ahci_machine.specs.States.{MachineState}
-use Rattle.machine_laws.specs.ControllerLaws.{calls_in}
-use Rattle.machine_laws.specs.Heard.{life_in, no_life}
-use Rattle.machine_theorem.specs.SingleBytes.{SingleDataGoInTurn, SinglesAreSent}
-use Rattle.machine_theorem.specs.SingleNumbers.{SingleDataAreCounted, SinglesAreRead}
+use Rattle.machine_laws.specs.{ControllerLaws.calls_in, Heard.{life_in, no_life}}
+use Rattle.machine_theorem.specs.{SingleBytes.{SingleDataGoInTurn, SinglesAreSent}, SingleNumbers.{SingleDataAreCounted, SinglesAreRead}}
 use Rattle.machine_theorem.specs.SingleReads.{FilledSinglesWereBrought, SinglesAreBrought, SinglesAreBroughtSince, SinglesAreWritten}
-use Rattle.uses_machine_theorem.specs.SingleReads.{KnowsSingleCounts, KnowsSingleTurns, KnowsSinglesBrought, KnowsSinglesBroughtSince, KnowsSinglesFilled}
-use Rattle.uses_machine_theorem.specs.SingleReads.{KnowsSinglesRead, KnowsSinglesSent, KnowsSinglesWritten}
-use Rattle.uses_machine_theorem.specs.Slots.{stretch_of}
+use Rattle.uses_machine_theorem.specs.SingleReads.{KnowsSingleCounts, KnowsSingleTurns, KnowsSinglesBrought, KnowsSinglesBroughtSince}
+use Rattle.uses_machine_theorem.specs.{SingleReads.{KnowsSinglesFilled, KnowsSinglesRead, KnowsSinglesSent, KnowsSinglesWritten}, Slots.stretch_of}
 use Rattle.uses_machine_theorem.proofs.SlotLemmas.{new_one}
 
 pub brought : SinglesAreBrought → (now : MachineState) → KnowsSinglesBrought now

@@ -3,30 +3,18 @@ use Rattle.std.proofs.Common.{◌≡◌, ℕ, List, ◌∷◌, ◌++◌, Some, a
 use Rattle.ahci_controller.specs.States.{ControllerState}
 use Rattle.controller_laws.specs.Events.{Event, Runs}
 use Rattle.disk_pages.specs.declared.profile.Profile.{Profile}
-use Rattle.sata_disk.specs.Sending.{IsOut}
-use Rattle.sata_disk.specs.State.{DiskState, new_disk}
-use Rattle.sata_disk_laws.specs.Calls.{AreCalls, Call, Hears, after_calls}
-use Rattle.sata_disk_laws.specs.Laws.{reached}
+use Rattle.sata_disk.specs.{Sending.IsOut, State.{DiskState, new_disk}}
+use Rattle.sata_disk_laws.specs.{Calls.{AreCalls, Call, Hears, after_calls}, Laws.reached}
 use Rattle.ahci_machine.specs.States.{MachineState}
-use Rattle.machine_laws.specs.ControllerLaws.{calls_in}
-use Rattle.machine_theorem.specs.Brought.{CompletedReadsAreBrought, ReadsAreBrought, ReadsAreBroughtSince}
-use Rattle.machine_laws.specs.Heard.{HasLived, Life, life_in, no_life}
-use Rattle.machine_theorem.specs.Completions.{CompletionsAreOfSlots}
-use Rattle.machine_theorem.specs.Filled.{FilledWereBrought}
-use Rattle.machine_theorem.specs.Given.{CommandsAreGiven, DataAreGiven}
-use Rattle.machine_theorem.specs.Identity.{CommandsAreTheSlots}
-use Rattle.machine_theorem.specs.InTurn.{CommandsGoInTurn}
-use Rattle.machine_theorem.specs.Orders.{CommandsAreSentOnce}
-use Rattle.machine_theorem.specs.QueuedOnly.{QueuedReadsAreBrought}
-use Rattle.machine_theorem.specs.ReadBack.{GuestsReadBack}
-use Rattle.machine_theorem.specs.Reads.{ReadsAreAsSupplied}
-use Rattle.machine_theorem.specs.ReadsFollow.{CompletedReadsFollowWrites}
-use Rattle.machine_theorem.specs.Tags.{TagsOfNewDisks}
-use Rattle.uses_machine_theorem.specs.Slots.{KnowsBrought, KnowsBroughtSince, KnowsBytes, KnowsData, KnowsEnds, KnowsFilled, KnowsGiven, KnowsOrders, KnowsQueued, KnowsReads, KnowsSlots, KnowsTags, stretch_of, KnowsFollowing, KnowsReadBack, KnowsWritten, KnowsSinglesIf, KnowsTransfers, KnowsTurns, KnowsWaits}
-use Rattle.machine_theorem.specs.ReadsWritten.{ReadsAreWritten}
-use Rattle.machine_theorem.specs.Singles.{SinglesAreOfSlotsIf}
-use Rattle.machine_theorem.specs.Transfers.{TransfersEndSo}
-use Rattle.machine_theorem.specs.Waits.{CommandsAwaitAnswers}
+use Rattle.machine_laws.specs.{ControllerLaws.calls_in, Heard.{HasLived, Life, life_in, no_life}}
+use Rattle.machine_theorem.specs.{Brought.{CompletedReadsAreBrought, ReadsAreBrought, ReadsAreBroughtSince}, Completions.CompletionsAreOfSlots}
+use Rattle.machine_theorem.specs.{Filled.FilledWereBrought, Given.{CommandsAreGiven, DataAreGiven}, Identity.CommandsAreTheSlots}
+use Rattle.machine_theorem.specs.{InTurn.CommandsGoInTurn, Orders.CommandsAreSentOnce, QueuedOnly.QueuedReadsAreBrought, ReadBack.GuestsReadBack}
+use Rattle.machine_theorem.specs.{Reads.ReadsAreAsSupplied, ReadsFollow.CompletedReadsFollowWrites, Tags.TagsOfNewDisks, ReadsWritten.ReadsAreWritten}
+use Rattle.machine_theorem.specs.{Singles.SinglesAreOfSlotsIf, Transfers.TransfersEndSo, Waits.CommandsAwaitAnswers}
+use Rattle.uses_machine_theorem.specs.Slots.{KnowsBrought, KnowsBroughtSince, KnowsBytes, KnowsData, KnowsEnds, KnowsFilled, KnowsGiven, KnowsOrders}
+use Rattle.uses_machine_theorem.specs.Slots.{KnowsQueued, KnowsReads, KnowsSlots, KnowsTags, stretch_of, KnowsFollowing, KnowsReadBack, KnowsWritten}
+use Rattle.uses_machine_theorem.specs.Slots.{KnowsSinglesIf, KnowsTransfers, KnowsTurns, KnowsWaits}
 
 pub tags : TagsOfNewDisks → (now : MachineState) → KnowsTags now
 tags law now led n d there lived p limit new tag low = law led.ports led.legacy led.first led.opens led.deeds now led.run n d there lived p limit new tag low

@@ -1,35 +1,21 @@
 -- What a caller knows of a slot whose bit of PxCI it reads.
-use Rattle.std.proofs.Common.{◌≡◌, ℕ, ◌+◌, ◌*◌, ◌/◌, ◌%◌, ◌-◌, ◌<◌, ◌^◌, ◌&&◌, min, Bool, true, false, List, [], ◌∷◌, ◌++◌, Option, Some, None, Result, Ok, Err, refl, sym, ap, subst, ◌∙◌, inl, inr, arith, bit_and}
-use Rattle.std.specs.Prelude.{◌==◌, nat_lt, MatchResult}
-use Rattle.std.specs.Int.{bit_at}
-use Rattle.std.proofs.lemmas.Bool.{eq-eqb}
-use Rattle.std.proofs.lemmas.Nat.Bits.{bit_at-lt, bit_at_and, bit_at_cat_low, bit_at_ones, shr_and_one}
-use Rattle.std.specs.declared.alloc.AllocError.{AllocError}
+use Rattle.std.proofs.Common.{◌≡◌, ℕ, ◌+◌, ◌*◌, ◌/◌, ◌%◌, ◌-◌, ◌<◌, ◌^◌, ◌&&◌, min, Bool, true, false, List, [], ◌∷◌, ◌++◌, Option, Some, None}
+use Rattle.std.proofs.{Common.{Result, Ok, Err, refl, sym, ap, subst, ◌∙◌, inl, inr, arith, bit_and}, lemmas.{Bool.{eq-eqb}, Nat.Bits.{bit_at-lt}}}
+use Rattle.std.proofs.lemmas.Nat.Bits.{bit_at_and, bit_at_cat_low, bit_at_ones, shr_and_one}
+use Rattle.std.specs.{Prelude.{◌==◌, nat_lt, MatchResult}, Int.bit_at, declared.alloc.AllocError.AllocError}
 use Rattle.slots.specs.Slots.{has_bit}
-use Rattle.ahci_registers.specs.Offsets.{register_at}
-use Rattle.ahci_registers.specs.declared.register.Register.TheVariants.{PxCi, PxSntf}
-use Rattle.ahci_controller.specs.Reading.{shown}
-use Rattle.ahci_controller.specs.States.{ControllerState}
-use Rattle.ahci_controller.specs.Wide.{read_wide}
-use Rattle.ahci_controller.specs.declared.access.Width.TheVariants.{Dword}
+use Rattle.ahci_registers.specs.{Offsets.register_at, declared.register.Register.TheVariants.{PxCi, PxSntf}}
+use Rattle.ahci_controller.specs.{Reading.shown, States.ControllerState, Wide.read_wide, declared.access.Width.TheVariants.Dword}
 use Rattle.ahci_controller.specs.declared.issuing.Supply.{Supply}
 use Rattle.ahci_controller.specs.declared.issuing.Supply.TheVariants as supply
 use Rattle.controller_laws.specs.Events as call
 use Rattle.controller_laws.specs.Events.{Event}
-use Rattle.ahci_machine.specs.Acts.{Steps}
-use Rattle.ahci_machine.specs.Answers.{IsToldBy, SuppliesMachine, told_by}
-use Rattle.ahci_machine.specs.States.{HasRules, MachineState}
-use Rattle.ahci_machine.specs.declared.act.Act.{Act}
-use Rattle.ahci_machine.specs.declared.answers.Told.{Told}
+use Rattle.ahci_machine.specs.{Acts.Steps, Answers.{IsToldBy, SuppliesMachine, told_by}, States.{HasRules, MachineState}, declared.act.Act.Act}
+use Rattle.ahci_machine.specs.declared.{answers.Told.Told, request.Wanted.TheVariants.Command}
 use Rattle.ahci_machine.specs.declared.answers.Told.TheVariants as told
-use Rattle.ahci_machine.specs.declared.request.Wanted.TheVariants.{Command}
-use Rattle.machine_laws.specs.ControllerLaws.{RunsRuled}
-use Rattle.machine_laws.specs.Controllers.{deed_calls}
-use Rattle.machine_laws.specs.Deeds.{Deed, Does, Moved, Supplied}
-use Rattle.machine_theorem.specs.Commands.{is_issue}
-use Rattle.machine_theorem.specs.Standing.{AreIssuing, HasStood, IsShownOver, Stands}
-use Rattle.uses_machine_theorem.specs.Led.{IsLed}
-use Rattle.uses_machine_theorem.specs.Standing.{IsStanding}
+use Rattle.machine_laws.specs.{ControllerLaws.RunsRuled, Controllers.deed_calls, Deeds.{Deed, Does, Moved, Supplied}}
+use Rattle.machine_theorem.specs.{Commands.is_issue, Standing.{AreIssuing, HasStood, IsShownOver, Stands}}
+use Rattle.uses_machine_theorem.specs.{Led.IsLed, Standing.IsStanding}
 
 abbrev Up : ℕ → MachineState → Type 0
 Up slot m = has_bit (shown PxCi m.controller) slot ≡ true

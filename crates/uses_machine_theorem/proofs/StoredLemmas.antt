@@ -2,8 +2,7 @@
 use Rattle.ahci_machine.specs.States.{MachineState}
 use Rattle.machine_theorem.specs.QueuedWrites.{DataGoOfQueuedWrites, QueuedAloneIsServed, QueuedWritesAreAsSupplied}
 use Rattle.machine_theorem.specs.StoredWrites.{CompletedWritesAreStored}
-use Rattle.uses_machine_theorem.specs.Slots.{stretch_of}
-use Rattle.uses_machine_theorem.specs.StoredWrites.{KnowsGone, KnowsQueuedWrites, KnowsServed, KnowsStored}
+use Rattle.uses_machine_theorem.specs.{Slots.stretch_of, StoredWrites.{KnowsGone, KnowsQueuedWrites, KnowsServed, KnowsStored}}
 
 pub gone : DataGoOfQueuedWrites → (now : MachineState) → KnowsGone now
 gone law now led dev queued message line new does = law led.ports led.legacy led.first led.opens led.deeds now led.run dev queued message line new does

@@ -1,38 +1,22 @@
 -- What a caller of a machine knows of the Data of its guest's writes.
 use Rattle.std.specs.Prelude.{◌≡◌, ◌<◌, ℕ, Bool, true, List, [], ◌∷◌, ◌++◌, Some, None, Ok}
-use Rattle.fis_view.specs.Frames.{Stamped}
-use Rattle.fis_view.specs.Seen.{seen}
+use Rattle.fis_view.specs.{Frames.Stamped, Seen.seen}
 use Rattle.fis_view.specs.declared.view.Fis.TheVariants as view
 use Rattle.slots.specs.Slots.{context_of}
-use Rattle.hba_fbs.specs.Views.{view_of}
-use Rattle.hba_fbs.specs.declared.turn.Turn.TheVariants.{Feeds}
-use Rattle.hba_laws.specs.Agreement.{IsTold}
-use Rattle.hba_laws.specs.History.{History}
-use Rattle.ahci_controller.specs.Next.{turn_to}
-use Rattle.ahci_controller.specs.declared.feeding.Fed.TheVariants.{Goes}
-use Rattle.ahci_controller.specs.declared.latch.Edge.{Edge}
+use Rattle.hba_fbs.specs.{Views.view_of, declared.turn.Turn.TheVariants.Feeds}
+use Rattle.hba_laws.specs.{Agreement.IsTold, History.History}
+use Rattle.ahci_controller.specs.{Next.turn_to, declared.{feeding.Fed.TheVariants.Goes, latch.Edge.Edge}}
 use Rattle.block_queue.specs.Line.{command_at}
 use Rattle.disk_pages.specs.declared.profile.Profile.{Profile}
-use Rattle.sata_disk.specs.Hearing.{receives}
-use Rattle.sata_disk.specs.State.{commands, new_disk}
-use Rattle.sata_disk_books.specs.InTurn.{AreOfQueue, AwaitsNone, calls_steps}
-use Rattle.sata_disk_books.specs.Talks.{Sign}
-use Rattle.sata_disk_laws.specs.Calls.{AreCalls, Call}
-use Rattle.sata_disk_laws.specs.Laws.{reached}
+use Rattle.sata_disk.specs.{Hearing.receives, State.{commands, new_disk}}
+use Rattle.sata_disk_books.specs.{InTurn.{AreOfQueue, AwaitsNone, calls_steps}, Talks.Sign}
+use Rattle.sata_disk_laws.specs.{Calls.{AreCalls, Call}, Laws.reached}
 use Rattle.ahci_machine.specs.States.{MachineState, bay_at}
 use Rattle.ahci_machine.specs.declared.act.Act.TheVariants as act
-use Rattle.machine_laws.specs.ControllerLaws.{ControllerRuns, RunsRuled, calls_in}
-use Rattle.machine_laws.specs.Deeds.{Deed, Does, Moved}
-use Rattle.machine_laws.specs.Falling.{AllLast, HasLink}
-use Rattle.machine_theorem.specs.Asking.{events_steps}
-use Rattle.machine_theorem.specs.Brought.{AllTakenWell}
-use Rattle.machine_theorem.specs.Crossing.{GoToPlace, Within, downs, ups}
-use Rattle.machine_theorem.specs.Fed.{IsFedFor}
-use Rattle.machine_theorem.specs.Following.{AllHeardWell}
-use Rattle.machine_theorem.specs.Identity.{AllKeep, IsAtRest, calls_of}
-use Rattle.machine_theorem.specs.OwnSlots.{AllKeepLine, BeginsClear, NoneLost}
-use Rattle.machine_theorem.specs.OwnWrites.{AreOwnData}
-use Rattle.machine_theorem.specs.TakenWrites.{IsSuppliedWrite}
+use Rattle.machine_laws.specs.{ControllerLaws.{ControllerRuns, RunsRuled, calls_in}, Deeds.{Deed, Does, Moved}, Falling.{AllLast, HasLink}}
+use Rattle.machine_theorem.specs.{Asking.events_steps, Brought.AllTakenWell, Crossing.{GoToPlace, Within, downs, ups}, Fed.IsFedFor}
+use Rattle.machine_theorem.specs.{Following.AllHeardWell, Identity.{AllKeep, IsAtRest, calls_of}, OwnSlots.{AllKeepLine, BeginsClear, NoneLost}}
+use Rattle.machine_theorem.specs.{OwnWrites.AreOwnData, TakenWrites.IsSuppliedWrite}
 use Rattle.uses_machine_theorem.specs.Led.{IsLed}
 
 -- Data that go of a slot were read for this slot, from the byte that goes next, whatever run led here.

@@ -2,35 +2,21 @@
 use Rattle.std.specs.Prelude.{ℕ, ◌≡◌, ◌<◌, ◌⊎◌, Bool, true, false, List, ◌∷◌, ◌++◌, Some}
 use Rattle.slots.specs.Slots.{Issue, has_bit, is_pio, is_queued_issue, issue_at}
 use Rattle.ahci_registers.specs.declared.register.Register.TheVariants.{PxCi, PxSact}
-use Rattle.ahci_controller.specs.Reading.{shown}
-use Rattle.ahci_controller.specs.States.{ControllerState}
-use Rattle.ahci_controller.specs.declared.taking.Took.{Took}
+use Rattle.ahci_controller.specs.{Reading.shown, States.ControllerState, declared.taking.Took.Took}
 use Rattle.controller_laws.specs.Events.{Event, Runs}
 use Rattle.ata_reply.specs.declared.reply.Reply.TheVariants as replies
 use Rattle.disk_pages.specs.declared.profile.Profile.{Profile}
-use Rattle.sata_disk.specs.Sending.{IsFis, IsOut}
-use Rattle.sata_disk.specs.State.{DiskState, new_disk}
-use Rattle.sata_disk.specs.declared.out.Out.{Out}
+use Rattle.sata_disk.specs.{Sending.{IsFis, IsOut}, State.{DiskState, new_disk}, declared.out.Out.Out}
 use Rattle.sata_disk.specs.declared.out.Out.TheVariants as out
-use Rattle.sata_disk_laws.specs.Calls.{AreCalls, Call, Hears}
-use Rattle.sata_disk_laws.specs.Laws.{reached}
-use Rattle.sata_disk_laws.specs.Once.{host_of, new_host}
-use Rattle.ahci_machine.specs.States.{HasRules, MachineState, bay_at}
+use Rattle.sata_disk_laws.specs.{Calls.{AreCalls, Call, Hears}, Laws.reached, Once.{host_of, new_host}}
+use Rattle.ahci_machine.specs.{States.{HasRules, MachineState, bay_at}, declared.bay.Unit.TheVariants.Disk}
 use Rattle.ahci_machine.specs.declared.act.Act.TheVariants as act
-use Rattle.ahci_machine.specs.declared.bay.Unit.TheVariants.{Disk}
-use Rattle.machine_laws.specs.ControllerLaws.{ControllerRuns, RunsRuled, calls_in}
-use Rattle.machine_laws.specs.Deeds.{Deed, Does, Moved}
-use Rattle.machine_laws.specs.Falling.{AllLast, HasLink}
+use Rattle.machine_laws.specs.{ControllerLaws.{ControllerRuns, RunsRuled, calls_in}, Deeds.{Deed, Does, Moved}, Falling.{AllLast, HasLink}}
 use Rattle.machine_laws.specs.Heard.{HasLived, life_in, no_life}
-use Rattle.machine_theorem.specs.Completions.{IsDone}
-use Rattle.machine_theorem.specs.Flushes.{IsFlushDone}
-use Rattle.machine_theorem.specs.FlushesFollow.{AreLeft, FlushesWrites, WasWritten}
-use Rattle.machine_theorem.specs.Flushing.{HasFlushed, is_failure, is_flushing}
-use Rattle.machine_theorem.specs.Identity.{AllKeep, IsAtRest, calls_of, own_of}
-use Rattle.machine_theorem.specs.InTurn.{AreKeptOn, IsIdle, answered_in, heard_in, is_answer}
-use Rattle.machine_theorem.specs.OwnSlots.{AllKeepLine, is_of}
-use Rattle.machine_theorem.specs.Singles.{AllOfDevice, BeginsIdle, IsDoneSingle}
-use Rattle.machine_theorem.specs.Transfers.{is_transferring}
+use Rattle.machine_theorem.specs.{Completions.IsDone, Flushes.IsFlushDone, FlushesFollow.{AreLeft, FlushesWrites, WasWritten}, Flushing.HasFlushed}
+use Rattle.machine_theorem.specs.{Flushing.{is_failure, is_flushing}, Identity.{AllKeep, IsAtRest, calls_of, own_of}, InTurn.{AreKeptOn, IsIdle}}
+use Rattle.machine_theorem.specs.{InTurn.{answered_in, heard_in, is_answer}, OwnSlots.{AllKeepLine, is_of}, Singles.{AllOfDevice, BeginsIdle}}
+use Rattle.machine_theorem.specs.{Singles.IsDoneSingle, Transfers.is_transferring}
 use Rattle.uses_machine_theorem.specs.Led.{IsLed}
 
 -- Take a disk that was new as it was put at its port, and a FLUSH CACHE that it heard while its host waited for nothing, and as the last command. What it

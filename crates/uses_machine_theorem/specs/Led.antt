@@ -4,11 +4,9 @@ use Rattle.std.specs.declared.alloc.AllocError.{AllocError}
 use Rattle.fis_view.specs.Frames.{Stamped}
 use Rattle.slots.specs.Slots.{has_bit}
 use Rattle.guest_fetch.specs.declared.moves.Move.{Move}
-use Rattle.ahci_registers.specs.declared.register.Register.{Register}
-use Rattle.ahci_registers.specs.declared.register.Register.TheVariants.{PxCi, PxSact}
-use Rattle.ahci_controller.specs.Reading.{shown}
+use Rattle.ahci_registers.specs.declared.register.Register.{Register, TheVariants.{PxCi, PxSact}}
+use Rattle.ahci_controller.specs.{Reading.shown, declared.taking.Took.Took}
 use Rattle.ahci_controller.specs.declared.next.Next.TheVariants as next
-use Rattle.ahci_controller.specs.declared.taking.Took.{Took}
 use Rattle.block_command.specs.declared.command.Command.{Command}
 use Rattle.block_disk.specs.Laws.{Page}
 use Rattle.block_engine.specs.declared.request.Request.{Request}
@@ -21,24 +19,13 @@ use Rattle.sata_disk.specs.State.{DiskState, new_disk}
 use Rattle.sata_disk.specs.declared.out.Out.TheVariants as out
 use Rattle.sata_disk_books.specs.Books.{page_in}
 use Rattle.sata_disk_laws.specs.Calls.{Call}
-use Rattle.ahci_machine.specs.Registers.{lent_bytes}
-use Rattle.ahci_machine.specs.States.{IsOpeningMachine, MachineState, bay_at}
-use Rattle.ahci_machine.specs.declared.act.Act.{Act}
+use Rattle.ahci_machine.specs.{Registers.lent_bytes, States.{IsOpeningMachine, MachineState, bay_at}, declared.{act.Act.Act, bay.Unit.Unit as Inside}}
+use Rattle.ahci_machine.specs.declared.{bay.Unit.TheVariants.Disk, ports.PortFault.PortFault, request.MediumId.MediumId}
 use Rattle.ahci_machine.specs.declared.act.Act.TheVariants as act
-use Rattle.ahci_machine.specs.declared.bay.Unit.{Unit as Inside}
-use Rattle.ahci_machine.specs.declared.bay.Unit.TheVariants.{Disk}
-use Rattle.ahci_machine.specs.declared.ports.PortFault.{PortFault}
-use Rattle.ahci_machine.specs.declared.request.MediumId.{MediumId}
-use Rattle.machine_laws.specs.ControllerLaws.{RunsRuled}
-use Rattle.machine_laws.specs.Deeds.{Deed, Does, Moved, Put}
-use Rattle.machine_laws.specs.Heard.{AllHeard, HasLived, life_in, no_life}
-use Rattle.machine_theorem.specs.Commands.{IsOfSlot}
-use Rattle.machine_theorem.specs.Completed.{IsCompletedBy}
-use Rattle.machine_theorem.specs.Guest.{IsOfGuest}
-use Rattle.machine_theorem.specs.Moments.{Earns, GivesNext, IsBroughtFor, IsEndedFor, OfNewDisk}
-use Rattle.machine_theorem.specs.Parts.{IsBrought}
-use Rattle.machine_theorem.specs.Standing.{HasStood, IsAsSupplied}
-use Rattle.machine_theorem.specs.Writes.{IsEndedSupplied, IsFallenSupplied, IsStore, IsSuppliedData, StoresNext, SuppliedToNewDisk}
+use Rattle.machine_laws.specs.{ControllerLaws.RunsRuled, Deeds.{Deed, Does, Moved, Put}, Heard.{AllHeard, HasLived, life_in, no_life}}
+use Rattle.machine_theorem.specs.{Commands.IsOfSlot, Completed.IsCompletedBy, Guest.IsOfGuest, Moments.{Earns, GivesNext, IsBroughtFor, IsEndedFor}}
+use Rattle.machine_theorem.specs.{Moments.OfNewDisk, Parts.IsBrought, Standing.{HasStood, IsAsSupplied}, Writes.{IsEndedSupplied, IsFallenSupplied}}
+use Rattle.machine_theorem.specs.Writes.{IsStore, IsSuppliedData, StoresNext, SuppliedToNewDisk}
 
 -- some run led here from a machine that opened
 pub record IsLed (now : MachineState) : Type 0 where

@@ -7,23 +7,13 @@ use Rattle.block_queue.specs.Line.{command_at}
 use Rattle.ahci_controller.specs.declared.taking.Took.{Took}
 use Rattle.disk_pages.specs.declared.profile.Profile.{Profile}
 use Rattle.sata_disk.specs.State.{DiskState, commands, new_disk}
-use Rattle.sata_disk_laws.specs.Calls.{AreCalls, Call, Sends}
-use Rattle.sata_disk_laws.specs.Laws.{reached}
-use Rattle.sata_disk_media.specs.Cells.{covers}
-use Rattle.sata_disk_media.specs.Laws.{AreSparing}
-use Rattle.sata_disk_media.specs.Media.{IsHonest}
-use Rattle.sata_disk_media.specs.Settled.{IsSettled}
-use Rattle.ahci_machine.specs.States.{HasRules, MachineState, bay_at}
+use Rattle.sata_disk_laws.specs.{Calls.{AreCalls, Call, Sends}, Laws.reached}
+use Rattle.sata_disk_media.specs.{Cells.covers, Laws.AreSparing, Media.IsHonest, Settled.IsSettled}
+use Rattle.ahci_machine.specs.{States.{HasRules, MachineState, bay_at}, declared.bay.Unit.TheVariants.Disk}
 use Rattle.ahci_machine.specs.declared.act.Act.TheVariants as act
-use Rattle.ahci_machine.specs.declared.bay.Unit.TheVariants.{Disk}
-use Rattle.machine_laws.specs.ControllerLaws.{RunsRuled}
-use Rattle.machine_laws.specs.Deeds.{Deed, Does, Moved}
-use Rattle.machine_laws.specs.Falling.{AllLast, HasLink}
-use Rattle.machine_laws.specs.Heard.{HasLived, life_in, no_life}
-use Rattle.machine_theorem.specs.Between.{IsFollowedAmong}
-use Rattle.machine_theorem.specs.Identity.{AllKeep, IsAtRest, calls_of, own_of}
-use Rattle.machine_theorem.specs.OverAll.{AllStay, HasFollowed, IsEnded, IsFollowedSoFar, IsOver, IsSeen, IsSending, IsVacant, calls_to, end_of}
-use Rattle.machine_theorem.specs.ReadBack.{Falls, FallsAt}
+use Rattle.machine_laws.specs.{ControllerLaws.RunsRuled, Deeds.{Deed, Does, Moved}, Falling.{AllLast, HasLink}, Heard.{HasLived, life_in, no_life}}
+use Rattle.machine_theorem.specs.{Between.IsFollowedAmong, Identity.{AllKeep, IsAtRest, calls_of, own_of}, OverAll.{AllStay, HasFollowed, IsEnded}}
+use Rattle.machine_theorem.specs.{OverAll.{IsFollowedSoFar, IsOver, IsSeen, IsSending, IsVacant, calls_to, end_of}, ReadBack.{Falls, FallsAt}}
 use Rattle.machine_theorem.specs.Unheard.{AllHearNone, IsQuiet, StandsNoWrite}
 use Rattle.uses_machine_theorem.specs.Led.{IsLed}
 

@@ -2,37 +2,21 @@
 use Rattle.std.specs.Prelude.{◌≡◌, ◌<◌, ◌≤◌, ◌+◌, ℕ, Bool, true, false, List, ◌++◌, Some, None}
 use Rattle.slots.specs.Slots.{Issue, context_of, has_bit, is_queued_issue, issue_at}
 use Rattle.hba_fbs.specs.Views.{view_of}
-use Rattle.hba_laws.specs.Agreement.{IsTold}
-use Rattle.hba_laws.specs.History.{History}
+use Rattle.hba_laws.specs.{Agreement.IsTold, History.History}
 use Rattle.ahci_registers.specs.declared.register.Register.TheVariants.{PxCi, PxSact}
-use Rattle.ahci_controller.specs.Reading.{shown}
-use Rattle.ahci_controller.specs.States.{ControllerState}
-use Rattle.ahci_controller.specs.declared.taking.Took.{Took}
+use Rattle.ahci_controller.specs.{Reading.shown, States.ControllerState, declared.taking.Took.Took}
 use Rattle.controller_laws.specs.Events.{Event, Runs}
 use Rattle.disk_pages.specs.declared.profile.Profile.{Profile}
-use Rattle.sata_disk.specs.Sending.{IsOut}
-use Rattle.sata_disk.specs.State.{DiskState, new_disk}
-use Rattle.sata_disk.specs.declared.out.Out.{Out}
+use Rattle.sata_disk.specs.{Sending.IsOut, State.{DiskState, new_disk}, declared.out.Out.Out}
 use Rattle.sata_disk.specs.declared.out.Out.TheVariants as out
-use Rattle.sata_disk_laws.specs.Calls.{AreCalls, Call}
-use Rattle.sata_disk_laws.specs.Laws.{reached}
-use Rattle.sata_disk_laws.specs.Once.{host_of, new_host}
-use Rattle.ahci_machine.specs.States.{HasRules, MachineState, bay_at}
+use Rattle.sata_disk_laws.specs.{Calls.{AreCalls, Call}, Laws.reached, Once.{host_of, new_host}}
+use Rattle.ahci_machine.specs.{States.{HasRules, MachineState, bay_at}, declared.bay.Unit.TheVariants.Disk}
 use Rattle.ahci_machine.specs.declared.act.Act.TheVariants as act
-use Rattle.ahci_machine.specs.declared.bay.Unit.TheVariants.{Disk}
-use Rattle.machine_laws.specs.ControllerLaws.{ControllerRuns, RunsRuled, calls_in}
-use Rattle.machine_laws.specs.Deeds.{Deed, Does, Moved}
-use Rattle.machine_laws.specs.Falling.{AllLast, HasLink}
+use Rattle.machine_laws.specs.{ControllerLaws.{ControllerRuns, RunsRuled, calls_in}, Deeds.{Deed, Does, Moved}, Falling.{AllLast, HasLink}}
 use Rattle.machine_laws.specs.Heard.{HasLived, life_in, no_life}
-use Rattle.machine_theorem.specs.Ending.{AllKeepEnding, AllUnqueued, IsSentLast, ended_in}
-use Rattle.machine_theorem.specs.Identity.{calls_of}
-use Rattle.machine_theorem.specs.InTurn.{AreKeptOn, IsIdle, heard_in}
-use Rattle.machine_theorem.specs.OwnSlots.{AllKeepLine, is_of}
-use Rattle.machine_theorem.specs.PioIn.{IsDoneThere}
-use Rattle.machine_theorem.specs.Settled.{AreSettled, IsBehindLastBlock, IsSettledLast, is_data, settled_in}
-use Rattle.machine_theorem.specs.Singles.{AllOfDevice, BeginsIdle}
-use Rattle.machine_theorem.specs.Tags.{once_if}
-use Rattle.machine_theorem.specs.Transfers.{is_transferring}
+use Rattle.machine_theorem.specs.{Ending.{AllKeepEnding, AllUnqueued, IsSentLast, ended_in}, Identity.calls_of, InTurn.{AreKeptOn, IsIdle, heard_in}}
+use Rattle.machine_theorem.specs.{OwnSlots.{AllKeepLine, is_of}, PioIn.IsDoneThere, Settled.{AreSettled, IsBehindLastBlock, IsSettledLast, is_data}}
+use Rattle.machine_theorem.specs.{Settled.settled_in, Singles.{AllOfDevice, BeginsIdle}, Tags.once_if, Transfers.is_transferring}
 use Rattle.machine_theorem.specs.Waits.{IsWaitingAlone, commanded_in, waits_in}
 use Rattle.uses_machine_theorem.specs.Led.{IsLed}
 

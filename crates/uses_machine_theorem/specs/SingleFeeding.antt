@@ -2,42 +2,25 @@
 use Rattle.std.specs.Prelude.{◌≡◌, ◌<◌, ℕ, Bool, true, false, List, [], ◌∷◌, ◌++◌, Some, is_some}
 use Rattle.slots.specs.Slots.{Issue, has_bit, issue_at}
 use Rattle.hba_fbs.specs.Views.{view_of}
-use Rattle.hba_laws.specs.Agreement.{IsTold}
-use Rattle.hba_laws.specs.History.{History}
+use Rattle.hba_laws.specs.{Agreement.IsTold, History.History}
 use Rattle.ahci_registers.specs.declared.register.Register.TheVariants.{PxCi, PxSact}
-use Rattle.ahci_controller.specs.Reading.{shown}
-use Rattle.ahci_controller.specs.declared.feeding.Fed.TheVariants.{Goes}
-use Rattle.ahci_controller.specs.declared.latch.Edge.{Edge}
+use Rattle.ahci_controller.specs.{Reading.shown, declared.{feeding.Fed.TheVariants.Goes, latch.Edge.Edge, taking.Took.Took}}
 use Rattle.ahci_controller.specs.declared.next.Next.TheVariants as next
-use Rattle.ahci_controller.specs.declared.taking.Took.{Took}
 use Rattle.ata_reply.specs.declared.reply.Reply.TheVariants as replies
 use Rattle.block_disk.specs.Laws.{Page}
 use Rattle.controller_laws.specs.Events as call
 use Rattle.disk_pages.specs.declared.profile.Profile.{Profile}
-use Rattle.sata_disk.specs.Sending.{IsOut}
-use Rattle.sata_disk.specs.State.{DiskState, new_disk}
+use Rattle.sata_disk.specs.{Sending.IsOut, State.{DiskState, new_disk}}
 use Rattle.sata_disk.specs.declared.out.Out.TheVariants as out
 use Rattle.sata_disk_books.specs.Books.{page_in}
-use Rattle.sata_disk_laws.specs.Calls.{AreCalls, Call, Hears}
-use Rattle.sata_disk_laws.specs.Laws.{reached}
-use Rattle.sata_disk_laws.specs.Once.{host_of, new_host}
-use Rattle.ahci_machine.specs.States.{HasRules, MachineState, bay_at}
+use Rattle.sata_disk_laws.specs.{Calls.{AreCalls, Call, Hears}, Laws.reached, Once.{host_of, new_host}}
+use Rattle.ahci_machine.specs.{States.{HasRules, MachineState, bay_at}, declared.bay.Unit.TheVariants.Disk}
 use Rattle.ahci_machine.specs.declared.act.Act.TheVariants as act
-use Rattle.ahci_machine.specs.declared.bay.Unit.TheVariants.{Disk}
-use Rattle.machine_laws.specs.ControllerLaws.{ControllerRuns, RunsRuled, calls_in}
-use Rattle.machine_laws.specs.Deeds.{Deed, Does, Moved}
-use Rattle.machine_laws.specs.Falling.{AllLast, HasLink}
+use Rattle.machine_laws.specs.{ControllerLaws.{ControllerRuns, RunsRuled, calls_in}, Deeds.{Deed, Does, Moved}, Falling.{AllLast, HasLink}}
 use Rattle.machine_laws.specs.Heard.{HasLived, life_in, no_life}
-use Rattle.machine_theorem.specs.Commands.{AreNotIssued}
-use Rattle.machine_theorem.specs.DataCame.{IsWrittenBehind}
-use Rattle.machine_theorem.specs.Identity.{calls_of}
-use Rattle.machine_theorem.specs.InTurn.{AreKeptOn, IsIdle, heard_in}
-use Rattle.machine_theorem.specs.OwnSlots.{AllKeepLine, is_of}
-use Rattle.machine_theorem.specs.OwnWrites.{AreOwnData}
-use Rattle.machine_theorem.specs.SingleData.{AllUnqueued, GoesNext, went_in}
-use Rattle.machine_theorem.specs.SingleWrites.{AllKeepPlain, IsSuppliedSingle}
-use Rattle.machine_theorem.specs.Singles.{BeginsIdle}
-use Rattle.machine_theorem.specs.Waits.{is_commanded}
+use Rattle.machine_theorem.specs.{Commands.AreNotIssued, DataCame.IsWrittenBehind, Identity.calls_of, InTurn.{AreKeptOn, IsIdle, heard_in}}
+use Rattle.machine_theorem.specs.{OwnSlots.{AllKeepLine, is_of}, OwnWrites.AreOwnData, SingleData.{AllUnqueued, GoesNext, went_in}}
+use Rattle.machine_theorem.specs.{SingleWrites.{AllKeepPlain, IsSuppliedSingle}, Singles.BeginsIdle, Waits.is_commanded}
 use Rattle.uses_machine_theorem.specs.Led.{IsLed}
 
 -- A command went from a slot by the first deed of a stretch that led here, and is issued there still; nothing more was issued there, and no queued command

@@ -1,36 +1,22 @@
 -- What a caller of a machine knows of each byte of a read that is not queued, and that its guest sees completed.
 use Rattle.std.specs.Prelude.{◌≡◌, ◌⊎◌, ◌<◌, ◌≤◌, ℕ, suc, Bool, true, false, List, ◌++◌, length, Some}
-use Rattle.slots.specs.Bytes.{is_over}
-use Rattle.slots.specs.Slots.{Issue, holds, is_pio, issue_at}
+use Rattle.slots.specs.{Bytes.is_over, Slots.{Issue, holds, is_pio, issue_at}}
 use Rattle.hba_fbs.specs.Views.{view_of}
-use Rattle.hba_laws.specs.Agreement.{IsTold}
-use Rattle.hba_laws.specs.History.{History}
+use Rattle.hba_laws.specs.{Agreement.IsTold, History.History}
 use Rattle.block_disk.specs.Laws.{Page}
 use Rattle.disk_pages.specs.declared.profile.Profile.{Profile}
-use Rattle.sata_disk.specs.Sending.{IsOut}
-use Rattle.sata_disk.specs.State.{DiskState, new_disk}
+use Rattle.sata_disk.specs.{Sending.IsOut, State.{DiskState, new_disk}}
 use Rattle.sata_disk.specs.declared.out.Out.TheVariants as out
-use Rattle.sata_disk_books.specs.Books.{page_in}
-use Rattle.sata_disk_books.specs.Fises.{AreFises}
-use Rattle.sata_disk_laws.specs.Calls.{AreCalls, Call}
-use Rattle.sata_disk_laws.specs.Laws.{reached}
-use Rattle.sata_disk_laws.specs.Once.{host_of, new_host}
-use Rattle.ahci_machine.specs.States.{MachineState, bay_at}
-use Rattle.ahci_machine.specs.declared.bay.Unit.TheVariants.{Disk}
-use Rattle.machine_laws.specs.ControllerLaws.{ControllerRuns, RunsRuled, calls_in}
-use Rattle.machine_laws.specs.Deeds.{Deed}
-use Rattle.machine_laws.specs.Falling.{AllLast, HasLink}
-use Rattle.machine_laws.specs.Heard.{HasLived, life_in, no_life}
-use Rattle.machine_theorem.specs.Brought.{AllTakenWell}
-use Rattle.machine_theorem.specs.Identity.{calls_of}
-use Rattle.machine_theorem.specs.InTurn.{AreKeptOn, IsIdle, IsInTurn, answered_in, heard_in}
-use Rattle.machine_theorem.specs.OwnSlots.{AllKeepLine, NoneLost, is_of}
-use Rattle.machine_theorem.specs.SingleBytes.{AllKeepPlain, SingleIsSent}
-use Rattle.machine_theorem.specs.SingleNumbers.{AllHearSingle, IsClear, SendsSingle, SingleIsRead, since_after}
-use Rattle.machine_theorem.specs.SingleReads.{CameBefore, ComesLast, IsSingleDone, IsWrittenBefore, WasBroughtFor, is_sent_read, is_single_read}
-use Rattle.machine_theorem.specs.Singles.{BeginsIdle}
-use Rattle.uses_machine_theorem.specs.Led.{IsLed}
-use Rattle.uses_machine_theorem.specs.Slots.{stretch_of}
+use Rattle.sata_disk_books.specs.{Books.page_in, Fises.AreFises}
+use Rattle.sata_disk_laws.specs.{Calls.{AreCalls, Call}, Laws.reached, Once.{host_of, new_host}}
+use Rattle.ahci_machine.specs.{States.{MachineState, bay_at}, declared.bay.Unit.TheVariants.Disk}
+use Rattle.machine_laws.specs.{ControllerLaws.{ControllerRuns, RunsRuled, calls_in}, Deeds.Deed, Falling.{AllLast, HasLink}, Heard.HasLived}
+use Rattle.machine_laws.specs.Heard.{life_in, no_life}
+use Rattle.machine_theorem.specs.{Brought.AllTakenWell, Identity.calls_of, InTurn.{AreKeptOn, IsIdle, IsInTurn, answered_in, heard_in}}
+use Rattle.machine_theorem.specs.{OwnSlots.{AllKeepLine, NoneLost, is_of}, SingleBytes.{AllKeepPlain, SingleIsSent}, SingleNumbers.AllHearSingle}
+use Rattle.machine_theorem.specs.{SingleNumbers.{IsClear, SendsSingle, SingleIsRead, since_after}, SingleReads.{CameBefore, ComesLast, IsSingleDone}}
+use Rattle.machine_theorem.specs.{SingleReads.{IsWrittenBefore, WasBroughtFor, is_sent_read, is_single_read}, Singles.BeginsIdle}
+use Rattle.uses_machine_theorem.specs.{Led.IsLed, Slots.stretch_of}
 
 -- Each was brought at a moment of the run that led to the machine, and nothing was issued in the slot since then; or it comes by the last Data of a PIO data-in, by
 -- which the bit falls.

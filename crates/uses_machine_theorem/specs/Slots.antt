@@ -1,59 +1,33 @@
 -- What a caller of a machine knows of the commands under way at its disks and of the slots of these numbers.
 use Rattle.std.specs.Prelude.{◌≡◌, ◌<◌, ◌≤◌, ◌+◌, ◌==◌, ℕ, Bool, true, false, List, Some, ◌++◌, ◌⊎◌, ◌∷◌}
-use Rattle.slots.specs.Bytes.{is_over}
-use Rattle.slots.specs.Slots.{Issue, has_bit, holds, issue_at, is_queued_issue}
+use Rattle.slots.specs.{Bytes.is_over, Slots.{Issue, has_bit, holds, issue_at, is_queued_issue}, declared.work.Kind.TheVariants.QueuedRead}
 use Rattle.fis_view.specs.Frames.{Stamped}
-use Rattle.slots.specs.declared.work.Kind.TheVariants.{QueuedRead}
-use Rattle.hba_fbs.specs.Taking.{port_of}
-use Rattle.hba_fbs.specs.Views.{view_of}
-use Rattle.hba_fbs.specs.declared.report.Wrote.{Wrote}
-use Rattle.hba_laws.specs.Agreement.{IsTold}
-use Rattle.hba_laws.specs.History.{History}
+use Rattle.hba_fbs.specs.{Taking.port_of, Views.view_of, declared.report.Wrote.Wrote}
+use Rattle.hba_laws.specs.{Agreement.IsTold, History.History}
 use Rattle.ahci_registers.specs.declared.register.Register.TheVariants.{PxSact, PxCi}
-use Rattle.ahci_controller.specs.Reading.{shown}
-use Rattle.ahci_controller.specs.States.{ControllerState}
-use Rattle.ahci_controller.specs.Taking.{is_overflow}
-use Rattle.ahci_controller.specs.declared.taking.Took.{Took}
+use Rattle.ahci_controller.specs.{Reading.shown, States.ControllerState, Taking.is_overflow, declared.taking.Took.Took}
 use Rattle.block_command.specs.Moments.{Moment}
 use Rattle.block_disk.specs.Table.{is_under_way}
 use Rattle.block_queue.specs.Line.{command_at}
 use Rattle.controller_laws.specs.Events.{Event, Runs}
 use Rattle.ata_reply.specs.declared.reply.Reply.TheVariants as replies
 use Rattle.disk_pages.specs.declared.profile.Profile.{Profile}
-use Rattle.sata_disk.specs.Sending.{IsOut}
-use Rattle.sata_disk.specs.State.{DiskState, commands, new_disk}
-use Rattle.sata_disk.specs.declared.out.Out.{Out}
+use Rattle.sata_disk.specs.{Sending.IsOut, State.{DiskState, commands, new_disk}, declared.out.Out.Out}
 use Rattle.sata_disk.specs.declared.out.Out.TheVariants as out
-use Rattle.sata_disk_laws.specs.Calls.{AreCalls, Call, Hears}
-use Rattle.sata_disk_laws.specs.Laws.{reached}
+use Rattle.sata_disk_laws.specs.{Calls.{AreCalls, Call, Hears}, Laws.reached, Once.{host_of, new_host}}
 use Rattle.sata_disk_media.specs.Media.{IsHonest}
-use Rattle.sata_disk_laws.specs.Once.{host_of, new_host}
-use Rattle.ahci_machine.specs.States.{HasRules, MachineState, bay_at}
+use Rattle.ahci_machine.specs.{States.{HasRules, MachineState, bay_at}, declared.bay.Unit.TheVariants.Disk}
 use Rattle.ahci_machine.specs.declared.act.Act.TheVariants as act
-use Rattle.ahci_machine.specs.declared.bay.Unit.TheVariants.{Disk}
-use Rattle.machine_laws.specs.ControllerLaws.{ControllerRuns, RunsRuled, calls_in}
-use Rattle.machine_laws.specs.Deeds.{Deed, Does, Moved}
-use Rattle.machine_laws.specs.Falling.{AllLast, HasLink}
+use Rattle.machine_laws.specs.{ControllerLaws.{ControllerRuns, RunsRuled, calls_in}, Deeds.{Deed, Does, Moved}, Falling.{AllLast, HasLink}}
 use Rattle.machine_laws.specs.Heard.{HasLived, life_in, no_life}
-use Rattle.machine_theorem.specs.Brought.{AllTakenWell, ByteIsBrought, ByteIsRead, DiskStretch, IsReadDone}
-use Rattle.machine_theorem.specs.Completions.{IsDone}
-use Rattle.machine_theorem.specs.Filled.{WasBrought}
-use Rattle.machine_theorem.specs.Following.{AllHeardWell}
-use Rattle.machine_theorem.specs.Given.{IsGiven, IsGivenData}
-use Rattle.machine_theorem.specs.Identity.{AllKeep, IsAtRest, IsTheSlots, own_of, calls_of}
-use Rattle.machine_theorem.specs.Orders.{fallen_in, is_sent_of, ordered_in, standing_in}
-use Rattle.machine_theorem.specs.InTurn.{AreKeptOn, IsAnswered, IsIdle, answered_in, heard_in, is_answer}
-use Rattle.machine_theorem.specs.OwnSlots.{AllKeepLine, BeginsClear, NoneLost, is_of}
-use Rattle.machine_theorem.specs.QueuedOnly.{ByteIsOfDisk, SendsQueued}
-use Rattle.machine_theorem.specs.FirstDeeds.{first_deeds, first_run, machine_at}
-use Rattle.machine_theorem.specs.ReadBack.{Falls, FallsAt, IsReadBack}
-use Rattle.machine_theorem.specs.Reads.{IsBroughtAsRead}
-use Rattle.machine_theorem.specs.ReadsFollow.{IsFollowed}
-use Rattle.machine_theorem.specs.ReadsWritten.{ByteIsWritten}
-use Rattle.machine_theorem.specs.Tags.{IsCounted, once_if}
-use Rattle.machine_theorem.specs.Singles.{AllOfDevice, BeginsIdle, IsDoneSingle}
-use Rattle.machine_theorem.specs.Transfers.{fails, is_transferring}
-use Rattle.machine_theorem.specs.Waits.{AllKeepWaiting, AllPlain, commanded_in, taken_in, waits_in}
+use Rattle.machine_theorem.specs.{Brought.{AllTakenWell, ByteIsBrought, ByteIsRead, DiskStretch, IsReadDone}, Completions.IsDone, Filled.WasBrought}
+use Rattle.machine_theorem.specs.{Following.AllHeardWell, Given.{IsGiven, IsGivenData}, Identity.{AllKeep, IsAtRest, IsTheSlots, own_of, calls_of}}
+use Rattle.machine_theorem.specs.{Orders.{fallen_in, is_sent_of, ordered_in, standing_in}, InTurn.{AreKeptOn, IsAnswered, IsIdle, answered_in}}
+use Rattle.machine_theorem.specs.{InTurn.{heard_in, is_answer}, OwnSlots.{AllKeepLine, BeginsClear, NoneLost, is_of}, QueuedOnly.ByteIsOfDisk}
+use Rattle.machine_theorem.specs.{QueuedOnly.SendsQueued, FirstDeeds.{first_deeds, first_run, machine_at}, ReadBack.{Falls, FallsAt, IsReadBack}}
+use Rattle.machine_theorem.specs.{Reads.IsBroughtAsRead, ReadsFollow.IsFollowed, ReadsWritten.ByteIsWritten, Tags.{IsCounted, once_if}}
+use Rattle.machine_theorem.specs.{Singles.{AllOfDevice, BeginsIdle, IsDoneSingle}, Transfers.{fails, is_transferring}, Waits.AllKeepWaiting}
+use Rattle.machine_theorem.specs.Waits.{AllPlain, commanded_in, taken_in, waits_in}
 use Rattle.uses_machine_theorem.specs.Led.{IsLed}
 
 -- of each tag no more commands ended at a disk than it heard, if it was new as it was put at its port

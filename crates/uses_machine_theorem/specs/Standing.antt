@@ -1,6 +1,5 @@
 -- A caller that reads PxCI knows that the command of a slot stands.
-use Rattle.std.specs.Prelude.{◌≡◌, ℕ, Bool, true, List, Result, Ok}
-use Rattle.std.specs.declared.alloc.AllocError.{AllocError}
+use Rattle.std.specs.{Prelude.{◌≡◌, ℕ, Bool, true, List, Result, Ok}, declared.alloc.AllocError.AllocError}
 use Rattle.ahci_registers.specs.declared.register.Register.TheVariants.{PxCi}
 use Rattle.controller_laws.specs.Events.{Event}
 use Rattle.ahci_machine.specs.States.{MachineState}

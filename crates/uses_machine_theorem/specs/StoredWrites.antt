@@ -1,35 +1,22 @@
 -- What a caller of a machine knows of the queued writes of a guest that sends its disks queued commands alone.
 use Rattle.std.specs.Prelude.{◌≡◌, ◌<◌, ℕ, Bool, true, false, List, ◌++◌, Some, Ok}
-use Rattle.fis_view.specs.Frames.{Stamped}
-use Rattle.fis_view.specs.Seen.{seen}
+use Rattle.fis_view.specs.{Frames.Stamped, Seen.seen}
 use Rattle.fis_view.specs.declared.view.Fis.TheVariants as view
 use Rattle.slots.specs.Slots.{Issue, has_bit, issue_at}
 use Rattle.ahci_registers.specs.declared.register.Register.TheVariants.{PxSact}
-use Rattle.ahci_controller.specs.Reading.{shown}
-use Rattle.ahci_controller.specs.declared.feeding.Fed.TheVariants.{Goes}
-use Rattle.ahci_controller.specs.declared.latch.Edge.{Edge}
-use Rattle.ahci_controller.specs.declared.taking.Took.{Took}
+use Rattle.ahci_controller.specs.{Reading.shown, declared.{feeding.Fed.TheVariants.Goes, latch.Edge.Edge, taking.Took.Took}}
 use Rattle.block_queue.specs.Line.{command_at}
 use Rattle.disk_pages.specs.declared.profile.Profile.{Profile}
-use Rattle.sata_disk.specs.Hearing.{receives}
-use Rattle.sata_disk.specs.State.{commands, new_disk}
+use Rattle.sata_disk.specs.{Hearing.receives, State.{commands, new_disk}}
 use Rattle.sata_disk_books.specs.InTurn.{AreOfQueue, AwaitsNone}
-use Rattle.sata_disk_laws.specs.Calls.{AreCalls, Call}
-use Rattle.sata_disk_laws.specs.Laws.{reached}
+use Rattle.sata_disk_laws.specs.{Calls.{AreCalls, Call}, Laws.reached}
 use Rattle.ahci_machine.specs.States.{HasRules, MachineState, bay_at}
 use Rattle.ahci_machine.specs.declared.act.Act.TheVariants as act
-use Rattle.machine_laws.specs.ControllerLaws.{RunsRuled, calls_in}
-use Rattle.machine_laws.specs.Deeds.{Deed, Does, Moved}
-use Rattle.machine_laws.specs.Falling.{AllLast, HasLink}
-use Rattle.machine_theorem.specs.Brought.{AllTakenWell}
-use Rattle.machine_theorem.specs.Identity.{AllKeep, IsAtRest, calls_of, own_of}
-use Rattle.machine_theorem.specs.OwnSlots.{AllKeepLine, BeginsClear, NoneLost}
-use Rattle.machine_theorem.specs.OwnWrites.{AreOwnData}
-use Rattle.machine_theorem.specs.QueuedOnly.{SendsQueued}
-use Rattle.machine_theorem.specs.QueuedWrites.{AllQueued, GoOfQueuedWrite, HasQueued, IsFedWrite, OwesNothing, TakesAll}
-use Rattle.machine_theorem.specs.StoredWrites.{IsStoredWrite}
-use Rattle.uses_machine_theorem.specs.Led.{IsLed}
-use Rattle.uses_machine_theorem.specs.Slots.{stretch_of}
+use Rattle.machine_laws.specs.{ControllerLaws.{RunsRuled, calls_in}, Deeds.{Deed, Does, Moved}, Falling.{AllLast, HasLink}}
+use Rattle.machine_theorem.specs.{Brought.AllTakenWell, Identity.{AllKeep, IsAtRest, calls_of, own_of}, OwnSlots.{AllKeepLine, BeginsClear, NoneLost}}
+use Rattle.machine_theorem.specs.{OwnWrites.AreOwnData, QueuedOnly.SendsQueued, QueuedWrites.{AllQueued, GoOfQueuedWrite, HasQueued, IsFedWrite}}
+use Rattle.machine_theorem.specs.{QueuedWrites.{OwesNothing, TakesAll}, StoredWrites.IsStoredWrite}
+use Rattle.uses_machine_theorem.specs.{Led.IsLed, Slots.stretch_of}
 
 -- Data that go to a device go of a slot with a queued write, while each command that is issued for it is queued, whatever run led here.
 abbrev pub KnowsGone : MachineState → Type 0

@@ -1,37 +1,24 @@
 -- A run that goes on.
 use Rattle.std.proofs.Common.{◌≡◌, ℕ, ◌%◌, true, false, List, [], ◌∷◌, ◌++◌, length, Some, None, refl, sym, ap, ◌∙◌, subst, arith}
-use Rattle.std.specs.Prelude.{Bool, Option, Result, Ok, Err, IfOk, IfSome, OnOk}
-use Rattle.std.specs.Option.{option_map}
 use Rattle.std.proofs.lemmas.Bool.{and_from, eq-eqb, le-leb}
-use Rattle.fis_view.specs.Frames.{is_payload}
-use Rattle.block_command.specs.Moments.{Moment}
+use Rattle.std.specs.{Prelude.{Bool, Option, Result, Ok, Err, IfOk, IfSome, OnOk}, Option.option_map, Result.result_err}
+use Rattle.fis_view.specs.{Frames.{is_payload, Stamped}, Seen.seen}
+use Rattle.block_command.specs.{Moments.Moment, declared.answer.AnswerError.AnswerError}
 use Rattle.block_queue.specs.Line.{command_at}
 use Rattle.ata_reply.specs.declared.reply.Reply.{Reply}
-use Rattle.std.specs.Result.{result_err}
-use Rattle.fis_view.specs.Frames.{Stamped}
-use Rattle.fis_view.specs.Seen.{seen}
-use Rattle.block_command.specs.declared.answer.AnswerError.{AnswerError}
-use Rattle.block_engine.specs.declared.request.Answer.{Answer}
-use Rattle.block_engine.specs.declared.request.Request.{Request}
-use Rattle.block_engine.specs.Engine.{EngineState, IsEngineStart, IsRequested, answer_refusal, answered, started}
-use Rattle.sata_disk.specs.State.{DiskState, commands, new_disk}
-use Rattle.sata_disk.specs.Hearing.{MayHear, fis_heard}
-use Rattle.sata_disk.specs.Sending.{IsFis, IsOut, is_framed, out_at, out_by, part_at, reply_at}
-use Rattle.sata_disk.specs.declared.out.Out.{Out}
+use Rattle.block_engine.specs.{declared.request.{Answer.Answer, Request.Request}, Engine.{EngineState, IsEngineStart, IsRequested, answer_refusal}}
+use Rattle.block_engine.specs.Engine.{answered, started}
+use Rattle.sata_disk.specs.{State.{DiskState, commands, new_disk}, Hearing.{MayHear, fis_heard}, Sending.{IsFis, IsOut, is_framed, out_at, out_by}}
+use Rattle.sata_disk.specs.{Sending.{part_at, reply_at}, declared.{out.Out.Out, unheard.Unheard.Unheard}}
 use Rattle.sata_disk.specs.declared.out.Out.TheVariants as out
-use Rattle.sata_disk.specs.declared.unheard.Unheard.{Unheard}
-use Rattle.sata_disk_laws.specs.Told.{FisesAreTold, Says}
-use Rattle.sata_disk_laws.specs.Calls.{Answers, AreCalls, Asks, Hears, Starts, Call, IsCall, after_call, after_calls, asked_by}
-use Rattle.sata_disk_laws.specs.Calls.{Sends}
-use Rattle.sata_disk_laws.proofs.Door.{calls_after, calls_both, engine_asked}
-use Rattle.sata_disk_laws.specs.Errors.{AbortedUntilRead, IsWatched, LogTellsOfFailure, watch_in}
-use Rattle.sata_disk_laws.specs.Laws.{reached}
+use Rattle.sata_disk_laws.specs.{Told.{FisesAreTold, Says}, Calls.{Answers, AreCalls, Asks, Hears, Starts, Call, IsCall, after_call, after_calls}}
+use Rattle.sata_disk_laws.specs.{Calls.{asked_by, Sends}, Errors.{AbortedUntilRead, IsWatched, LogTellsOfFailure, watch_in}, Laws.reached}
 use Rattle.sata_disk_laws.specs.Once.{AnswersAreSingle, AreDue, Host, IsCallDue, IsChunk, IsHostOf, PartsAreFrames, host_after, host_of, new_host}
+use Rattle.sata_disk_laws.proofs.Door.{calls_after, calls_both, engine_asked}
 use Rattle.ata_command.specs.declared.asked.LogPage.{LogPage}
 use Rattle.ata_front.specs.declared.task.Page.TheVariants as pages
-use Rattle.disk_pages.specs.Logs.{log_named}
+use Rattle.disk_pages.specs.{Logs.log_named, declared.profile.Profile.Profile}
 use Rattle.disk_pages.specs.declared.log.LogPage.TheVariants as logs
-use Rattle.disk_pages.specs.declared.profile.Profile.{Profile}
 use Rattle.uses_sata_disk.specs.Reached.{Extends, IsNextOf, IsOutOf, IsReached, TellsOfFailure}
 
 are_more : (calls : List Call) (d : DiskState) (c : Call) → AreCalls d calls → IsCall (after_calls d calls) c → AreCalls d (calls ++ c ∷ [])

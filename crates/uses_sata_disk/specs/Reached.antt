@@ -1,19 +1,12 @@
 -- Disks that a run led to.
-use Rattle.std.specs.Prelude.{ℕ, ◌≡◌, true, List, [], ◌∷◌, ◌++◌, drop, Option, Some, None}
-use Rattle.std.specs.Option.{is_some}
+use Rattle.std.specs.{Prelude.{ℕ, ◌≡◌, true, List, [], ◌∷◌, ◌++◌, drop, Option, Some, None}, Option.is_some}
 use Rattle.block_disk.specs.Requests.{AreSeenRightly, no_books}
 use Rattle.block_queue.specs.Deeds.{AllAreApart, AreNamed}
 use Rattle.ata_front.specs.Fronts.{aborted}
 use Rattle.disk_pages.specs.declared.profile.Profile.{Profile}
-use Rattle.sata_disk.specs.Pages.{IsErrorLog}
-use Rattle.sata_disk.specs.State.{DiskState, new_disk}
-use Rattle.sata_disk.specs.declared.out.Out.{Out}
-use Rattle.sata_disk.specs.declared.out.Out.TheVariants.{Own}
-use Rattle.sata_disk_laws.specs.Calls.{AreCalls, Call, after_calls}
-use Rattle.sata_disk_laws.specs.Errors.{IsOfError, IsWatched, Watch, watch_in}
-use Rattle.sata_disk_laws.specs.Laws.{seen_in}
-use Rattle.sata_disk_laws.specs.Once.{AreDue, IsHostOf, IsOutDue, host_of, new_host}
-use Rattle.sata_disk_laws.specs.Stores.{AreStoresHeard}
+use Rattle.sata_disk.specs.{Pages.IsErrorLog, State.{DiskState, new_disk}, declared.out.Out.{Out, TheVariants.Own}}
+use Rattle.sata_disk_laws.specs.{Calls.{AreCalls, Call, after_calls}, Errors.{IsOfError, IsWatched, Watch, watch_in}, Laws.seen_in, Once.AreDue}
+use Rattle.sata_disk_laws.specs.{Once.{IsHostOf, IsOutDue, host_of, new_host}, Stores.AreStoresHeard}
 
 abbrev pub IsReached : Profile → ℕ → List Call → DiskState → Type 0
 IsReached p limit calls d = AreCalls (new_disk p limit) calls × (d ≡ after_calls (new_disk p limit) calls)

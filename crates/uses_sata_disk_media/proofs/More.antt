@@ -2,12 +2,9 @@
 use Rattle.std.proofs.Common.{Some, None, ap, ◌∙◌, subst}
 use Rattle.std.specs.Prelude.{Option}
 use Rattle.block_queue.specs.Line.{command_at}
-use Rattle.sata_disk.specs.Sending.{IsOut, part_at}
-use Rattle.sata_disk.specs.State.{DiskState, commands}
-use Rattle.sata_disk.specs.declared.out.Out.{Out}
+use Rattle.sata_disk.specs.{Sending.{IsOut, part_at}, State.{DiskState, commands}, declared.out.Out.Out}
 use Rattle.sata_disk.specs.declared.out.Out.TheVariants as out
-use Rattle.sata_disk_media.specs.Laws.{GivenIsWritten, ReadsBringWrites, WritesAreKept, sector_in}
-use Rattle.sata_disk_media.specs.Settled.{WritesAreSettled}
+use Rattle.sata_disk_media.specs.{Laws.{GivenIsWritten, ReadsBringWrites, WritesAreKept, sector_in}, Settled.WritesAreSettled}
 use Rattle.uses_sata_disk_media.specs.Kept.{BringsWhatIsWritten, IsGivenWhatIsWritten, KeepsWhatIsWritten, SettlesWhatIsWritten}
 
 pub brings : (d : DiskState) (x : Option Out) → ReadsBringWrites → BringsWhatIsWritten d x

@@ -3,15 +3,11 @@ use Rattle.std.specs.Prelude.{ℕ, ◌≡◌, ◌<◌, true, List, Option, Some,
 use Rattle.block_disk.specs.Laws.{Page}
 use Rattle.block_queue.specs.Line.{command_at}
 use Rattle.disk_pages.specs.declared.profile.Profile.{Profile}
-use Rattle.sata_disk.specs.Sending.{part_at}
-use Rattle.sata_disk.specs.State.{DiskState, commands}
-use Rattle.sata_disk.specs.declared.out.Out.{Out}
+use Rattle.sata_disk.specs.{Sending.part_at, State.{DiskState, commands}, declared.out.Out.Out}
 use Rattle.sata_disk.specs.declared.out.Out.TheVariants as out
 use Rattle.sata_disk_laws.specs.Calls.{Call}
 use Rattle.sata_disk_books.specs.Books.{page_in}
-use Rattle.sata_disk_media.specs.Cells.{covers, sector_of}
-use Rattle.sata_disk_media.specs.Laws.{EndsWell, HasGiven, IsBehindWrite, IsReadBack, sector_in}
-use Rattle.sata_disk_media.specs.Media.{IsHonest, kept}
+use Rattle.sata_disk_media.specs.{Cells.{covers, sector_of}, Laws.{EndsWell, HasGiven, IsBehindWrite, IsReadBack, sector_in}, Media.{IsHonest, kept}}
 use Rattle.sata_disk_media.specs.Settled.{IsSettled}
 use Rattle.uses_sata_disk.specs.Reached.{IsReached}
 

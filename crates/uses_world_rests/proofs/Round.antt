@@ -1,28 +1,15 @@
 -- For `rested`. The steps of a round of one port, and what a world that did nothing in one is.
 use Rattle.std.proofs.Common.{◌≡◌, ℕ, zero, suc, ◌<◌, Bool, true, false, List, [], ◌∷◌, length, map, Some, refl, sym, ap, subst, ◌∙◌, arith}
-use Rattle.std.specs.Prelude.{◌↔◌, Result, Ok, Err}
 use Rattle.std.proofs.lemmas.List.{length-map}
+use Rattle.std.specs.Prelude.{◌↔◌, Result, Ok, Err}
 use Rattle.hba_driver.specs.HostTurns.{sight_in}
-use Rattle.pm_world.specs.Attached.{Attached}
-use Rattle.pm_world.specs.Places.{Places, is_config, new_world}
-use Rattle.pm_world.specs.Rules.{Run}
-use Rattle.pm_world.specs.declared.step.Answer.{Answer}
-use Rattle.pm_world.specs.declared.step.Step.{Step}
+use Rattle.pm_world.specs.{Attached.Attached, Places.{Places, is_config, new_world}, Rules.Run, declared.step.{Answer.Answer, Step.Step}}
 use Rattle.pm_world.specs.declared.step.Step.TheVariants as step
-use Rattle.world_rests.specs.Ended.{AsidesRecover, EachAsideRecovers}
-use Rattle.world_rests.specs.Laws.{RestsAfter}
-use Rattle.world_rests.specs.Left.{RestedDisksHaveDone}
-use Rattle.world_rests.specs.Matches.{PlanMatches, RestedPlansMatch}
-use Rattle.world_rests.specs.Opens.{MultiplierIsSet, RestedPortsAreOpen}
-use Rattle.world_rests.specs.Out.{RestedDisksAreLeft}
-use Rattle.world_rests.specs.Over.{RestedWorldsHaveEnded}
-use Rattle.world_rests.specs.Rests.{HasRound, IsAtRest, NothingMoves}
-use Rattle.world_rests.specs.Signs.{RestedDisksHaveSigned}
-use Rattle.world_rests.specs.Waits.{HostWaits}
+use Rattle.world_rests.specs.{Ended.{AsidesRecover, EachAsideRecovers}, Laws.RestsAfter, Left.RestedDisksHaveDone, Matches.PlanMatches}
+use Rattle.world_rests.specs.{Matches.RestedPlansMatch, Opens.{MultiplierIsSet, RestedPortsAreOpen}, Out.RestedDisksAreLeft}
+use Rattle.world_rests.specs.{Over.RestedWorldsHaveEnded, Rests.{HasRound, IsAtRest, NothingMoves}, Signs.RestedDisksHaveSigned, Waits.HostWaits}
 use Rattle.world_rests.specs.Watches.{RestedDriversWatch, WaitsForNotice}
-use Rattle.uses_world_rests.specs.Left.{DiskHasDoneIn, DiskIsLeftIn, config}
-use Rattle.uses_world_rests.specs.Over.{WorldHasEndedIn}
-use Rattle.uses_world_rests.specs.Signs.{DiskHasSignedIn}
+use Rattle.uses_world_rests.specs.{Left.{DiskHasDoneIn, DiskIsLeftIn, config}, Over.WorldHasEndedIn, Signs.DiskHasSignedIn}
 
 abbrev pub round : List Step
 round = step.PmPresence 0 ∷ step.DiskTake 0 ∷ step.DiskSend 0 ∷ step.PmFromDevice 0 ∷ step.PmDown 0 ∷ step.PmFromHost ∷ step.PmUp ∷ step.HostTake ∷ step.Tick ∷ step.HostPush ∷ []

@@ -1,14 +1,8 @@
 -- What the host of a world of one disk has left with it, once a round does nothing: no command (`world_rests`, specs/Left.antt and Out.antt).
 use Rattle.std.specs.Prelude.{ℕ, List}
-use Rattle.disk_model.specs.declared.plan.DiskPlan.{DiskPlan}
-use Rattle.disk_model.specs.Histories.{Happening}
-use Rattle.pm_world.specs.Attached.{Attached}
-use Rattle.pm_world.specs.Disks.{DiskRun, HasDisk}
-use Rattle.pm_world.specs.PathEnds.{IsThere}
-use Rattle.pm_world.specs.Places.{Places}
-use Rattle.pm_world.specs.declared.step.Config.{Config}
-use Rattle.world_rests.specs.Left.{DiskHasDone}
-use Rattle.world_rests.specs.Out.{DiskIsLeft}
+use Rattle.disk_model.specs.{declared.plan.DiskPlan.DiskPlan, Histories.Happening}
+use Rattle.pm_world.specs.{Attached.Attached, Disks.{DiskRun, HasDisk}, PathEnds.IsThere, Places.Places, declared.step.Config.Config}
+use Rattle.world_rests.specs.{Left.DiskHasDone, Out.DiskIsLeft}
 
 abbrev pub config : Config
 config = record { ports = 1; capacity = 2; memory = 0x200000 }

@@ -1,9 +1,7 @@
 -- What is left in a world of one device once a round does nothing, if the device was left alone: nothing (`world_rests`, specs/Over.antt).
 use Rattle.std.specs.Prelude.{ℕ, List}
-use Rattle.pm_world.specs.Attached.{Attached}
-use Rattle.pm_world.specs.Places.{Places}
-use Rattle.world_rests.specs.Matches.{IsPlugged}
-use Rattle.world_rests.specs.Over.{IsLeftAlone, WorldHasEnded}
+use Rattle.pm_world.specs.{Attached.Attached, Places.Places}
+use Rattle.world_rests.specs.{Matches.IsPlugged, Over.{IsLeftAlone, WorldHasEnded}}
 use Rattle.uses_world_rests.specs.Left.{config}
 
 -- if what is plugged in is a disk that was left alone since its plugging

@@ -1,12 +1,8 @@
 -- What stands at the host port of a world of one disk, once a round does nothing, while the driver takes the disk to start (`world_rests`,
 -- specs/Signs.antt).
 use Rattle.std.specs.Prelude.{ℕ, List}
-use Rattle.disk_model.specs.declared.plan.DiskPlan.{DiskPlan}
-use Rattle.disk_model.specs.Histories.{Happening}
-use Rattle.pm_world.specs.Attached.{Attached}
-use Rattle.pm_world.specs.Disks.{DiskRun, HasDisk}
-use Rattle.pm_world.specs.PathEnds.{IsThere}
-use Rattle.pm_world.specs.Places.{Places}
+use Rattle.disk_model.specs.{declared.plan.DiskPlan.DiskPlan, Histories.Happening}
+use Rattle.pm_world.specs.{Attached.Attached, Disks.{DiskRun, HasDisk}, PathEnds.IsThere, Places.Places}
 use Rattle.world_rests.specs.Signs.{DiskHasSigned}
 use Rattle.uses_world_rests.specs.Left.{config}
 

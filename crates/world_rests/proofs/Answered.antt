@@ -1,48 +1,29 @@
 -- For `rested_disks_have_done`. Where nothing is on its way between a disk and its host, and the disk owes nothing, no queued command
 -- is with the disk, and the port shows neither BSY nor DRQ of it.
-use Rattle.std.proofs.Common.{◌≡◌, ◌==◌, eqb, ℕ, ◌<◌, Bool, true, false, List, [], ◌∷◌, ◌++◌, length, refl, sym, ap, subst, ◌∙◌, inl, inr, Option, Some, None, arith}
-use Rattle.std.specs.Prelude.{if◌then◌else◌, is_some}
-use Rattle.std.specs.List.{list_any}
-use Rattle.std.specs.Option.{option_map}
-use Rattle.std.proofs.lemmas.Bool.{eq-eqb, false≢true, true≢false}
+use Rattle.std.proofs.Common.{◌≡◌, ◌==◌, eqb, ℕ, ◌<◌, Bool, true, false, List, [], ◌∷◌, ◌++◌, length, refl, sym, ap, subst, ◌∙◌, inl, inr, Option}
+use Rattle.std.proofs.{Common.{Some, None, arith}, lemmas.Bool.{eq-eqb, false≢true, true≢false}}
+use Rattle.std.specs.{Prelude.{if◌then◌else◌, is_some}, List.list_any, Option.option_map}
 use Rattle.port_errors.specs.Errors.{cause_of}
-use Rattle.slots.specs.Data.{payload, payload_len}
-use Rattle.slots.specs.Slots.{Issue, context_of, issue_at, own_issue}
-use Rattle.slots.specs.Work.{is_queued}
-use Rattle.slots.specs.declared.table.Context.{Context}
+use Rattle.slots.specs.{Data.{payload, payload_len}, Slots.{Issue, context_of, issue_at, own_issue}, Work.is_queued, declared.table.Context.Context}
 use Rattle.slots.specs.declared.work.Work.{Work}
 use Rattle.hba_fbs.specs.Views.{view_of}
-use Rattle.disk_model.specs.declared.plan.DiskPlan.{DiskPlan}
-use Rattle.disk_model.specs.declared.request.Command.{Command}
-use Rattle.disk_model.specs.Anew.{IsCarefulSince, IsLinkedOn}
-use Rattle.disk_model.specs.Ends.{IsFree, MovesOther, has, with_down, with_up}
-use Rattle.disk_model.specs.Histories.{Happening}
-use Rattle.disk_model.specs.Laws.{OwesNothing, WaitsWell}
-use Rattle.disk_model.specs.Ledger.{IsSize, Ledger, Moving, ShowsPage, Signs, ledger}
-use Rattle.disk_model.specs.Runs.{IsDiskRun}
+use Rattle.disk_model.specs.{declared.{plan.DiskPlan.DiskPlan, request.Command.Command}, Anew.{IsCarefulSince, IsLinkedOn}, Ends.{IsFree, MovesOther}}
+use Rattle.disk_model.specs.{Ends.{has, with_down, with_up}, Histories.Happening, Laws.{OwesNothing, WaitsWell}, Ledger.{IsSize, Ledger, Moving}}
+use Rattle.disk_model.specs.{Ledger.{ShowsPage, Signs, ledger}, Runs.IsDiskRun}
 use Rattle.disk_model.proofs.Door.{ends_agree_anew}
-use Rattle.hba_laws.specs.Agreement.{IsHistoryOf, IssueAgrees, is_for, work_of_issue, work_of_transfer}
-use Rattle.hba_laws.specs.Client.{Touches, own}
-use Rattle.hba_laws.specs.History.{History, Transfer, is_set_up, issued}
+use Rattle.hba_laws.specs.{Agreement.{IsHistoryOf, IssueAgrees, is_for, work_of_issue, work_of_transfer}, Client.{Touches, own}, History.History}
+use Rattle.hba_laws.specs.History.{Transfer, is_set_up, issued}
 use Rattle.hba_laws.specs.Hosts as event
 use Rattle.hba_laws.proofs.Door.{own_here}
-use Rattle.hba_driver.specs.Events.{shared_by}
-use Rattle.hba_driver.specs.HostTurns.{Host}
-use Rattle.hba_driver.specs.Slot30.{is_faulty}
+use Rattle.hba_driver.specs.{Events.shared_by, HostTurns.Host, Slot30.is_faulty}
 use Rattle.hba_driver.proofs.Door.{is_alone}
-use Rattle.disk_simulation.specs.Anew.{IsKeptOn}
-use Rattle.disk_simulation.specs.Between.{IsThere}
-use Rattle.disk_simulation.specs.Files.{DisksSendTheirs}
-use Rattle.disk_simulation.specs.Joined.{IsJoined}
-use Rattle.disk_simulation.specs.Same.{InLife, Moves, Open, ReadEnded, SlotCommand, Unsent, WriteEnded}
-use Rattle.disk_simulation.specs.Together.{NoneQueued}
-use Rattle.disk_simulation.specs.Watched.{Erred, Fine, IsWatched, IsWatchedTo}
+use Rattle.disk_simulation.specs.{Anew.IsKeptOn, Between.IsThere, Files.DisksSendTheirs, Joined.IsJoined, Same.{InLife, Moves, Open, ReadEnded}}
+use Rattle.disk_simulation.specs.{Same.{SlotCommand, Unsent, WriteEnded}, Together.NoneQueued, Watched.{Erred, Fine, IsWatched, IsWatchedTo}}
 use Rattle.disk_simulation.proofs.Door.{hosted_on_is_kept, there_by}
 use Rattle.disk_recovery.specs.Ends.{Apart, AreEnds, IsRunning, IsSetAside, IsTogether, Together}
 use Rattle.world_rests.specs.Left.{IsOccupied, NoneIsOut}
-use Rattle.world_rests.proofs.Asking.{IsAsked}
-use Rattle.world_rests.proofs.Calm.{AreHeard, GivenFits, IsCalmOn, are_heard, calm_on}
-use Rattle.world_rests.proofs.Open.{IsOpen, WasIssued, hosted_is_open, was_issued}
+use Rattle.world_rests.proofs.{Asking.IsAsked, Calm.{AreHeard, GivenFits, IsCalmOn, are_heard, calm_on}, Open.{IsOpen, WasIssued, hosted_is_open}}
+use Rattle.world_rests.proofs.Open.{was_issued}
 
 -- ---- both ends tell the same
 

@@ -1,36 +1,25 @@
 -- For `asides_recover`. While requests of a device are set aside, the device recovers, or a search found none at its port.
-use Rattle.std.proofs.Common.{◌≡◌, ◌≢◌, ℕ, ◌+◌, ◌<◌, ◌⊎◌, ◌==◌, ◌&&◌, Bool, true, false, nat_lt, not, if◌then◌else◌, List, get_or, length, map, set, refl, sym, ap, subst, ◌∙◌, inl, inr, Option, Some, None, arith}
-use Rattle.std.specs.Prelude.{is_some, nat_le, slice_index_or}
-use Rattle.std.specs.List.{range_with_len}
-use Rattle.std.specs.Option.{option_map, option_or}
-use Rattle.std.proofs.lemmas.Bool.{and_parts, cases_eq, cases_lt, eq-eqb, eqb-true, false≢true, lt-ltb, true≢false}
-use Rattle.std.proofs.lemmas.List.{get_or_past, get_or-set_same, length-set}
+use Rattle.std.proofs.Common.{◌≡◌, ◌≢◌, ℕ, ◌+◌, ◌<◌, ◌⊎◌, ◌==◌, ◌&&◌, Bool, true, false, nat_lt, not, if◌then◌else◌, List, get_or, length, map, set}
+use Rattle.std.proofs.{Common.{refl, sym, ap, subst, ◌∙◌, inl, inr, Option, Some, None, arith}, lemmas.Bool.{and_parts, cases_eq, cases_lt, eq-eqb}}
+use Rattle.std.proofs.lemmas.{Bool.{eqb-true, false≢true, lt-ltb, true≢false}, List.{get_or_past, get_or-set_same, length-set}}
 use Rattle.std.proofs.lemmas.List.FromFn.{get_or-map-range_with_len, length-map-range_with_len}
+use Rattle.std.specs.{Prelude.{is_some, nat_le, slice_index_or}, List.range_with_len, Option.{option_map, option_or}}
 use Rattle.slots.specs.Slots.{has_bit, lowest_below, match_some}
-use Rattle.hba_driver.specs.declared.mode.Mode.{Mode}
-use Rattle.hba_driver.specs.declared.mode.Mode.TheVariants.{CommandBased, Switching}
-use Rattle.hba_driver.specs.declared.order.Order.{Order}
-use Rattle.hba_driver.specs.declared.order.Order.TheVariants.{AwaitSignature, Clear, CountPorts, Detect, Enable, Open, ResetOn, Scan, Watch}
-use Rattle.hba_driver.specs.declared.path.Path.{Path}
-use Rattle.hba_driver.specs.declared.path.Recovery.{Recovery}
-use Rattle.hba_driver.specs.declared.path.Recovery.TheVariants.{Log, Reset}
-use Rattle.hba_driver.specs.declared.path.Stage.{Stage}
-use Rattle.hba_driver.specs.declared.path.Stage.TheVariants.{AssertReset, Identify, ReadLog}
-use Rattle.hba_driver.specs.declared.path.TaskFile.{TaskFile}
-use Rattle.hba_driver.specs.declared.plan.Device.{Device}
-use Rattle.hba_driver.specs.declared.plan.Device.TheVariants.{Absent, Ready, Recovering}
-use Rattle.hba_driver.specs.declared.plan.Plan.{Plan}
-use Rattle.hba_driver.specs.declared.request.Outcome.{Outcome}
-use Rattle.hba_driver.specs.declared.request.Outcome.TheVariants.{Aborted, Done, PortError, Removed}
-use Rattle.hba_driver.specs.declared.slot.Phase.{Phase}
-use Rattle.hba_driver.specs.declared.slot.Phase.TheVariants.{Aside, Ended, Issued}
-use Rattle.hba_driver.specs.Drivers.{Driver, Entry, device_at, entry_at, has_ended, has_ended_in, holds, is_aside, is_aside_in, rephase_all, rephased, with_device}
-use Rattle.hba_driver.specs.Orders.{next_order, open_from, order_fields, scan_from}
-use Rattle.hba_driver.specs.Paths.{first_stage, next_stage, recovery, stage_fields}
-use Rattle.hba_driver.specs.Seeing.{Sight}
-use Rattle.hba_driver.specs.Steady.{detects}
-use Rattle.hba_driver.specs.Ticks.{acted, after_tick, done_ended, entries_after, from_reset, is_aside_of, is_done, is_named_of, is_open, is_open_of, log_outcome, logged_ended, ordered, plan_after, recovering, removed, stage_ended, unless}
-use Rattle.hba_driver.specs.Turns.{advanced, allowed, answered, control_news, control_seen, control_turn, detected, device_due, device_logged, device_or_request, device_seen, device_turn, early_due, fault_due, found_of, is_back, is_due, is_out, is_there, issue_of, logged_by, may_issue, met, met_order, met_path, met_stage, noted, opening_due, order_allowed, order_due, path_answered, path_due, path_met, path_to, plain_turn, request_due, restart_due, signed_order, stage_due, stage_for, step_of, turn_of, with_next}
+use Rattle.hba_driver.specs.declared.{mode.Mode.{Mode, TheVariants.{CommandBased, Switching}}, order.Order.{Order, TheVariants.AwaitSignature}}
+use Rattle.hba_driver.specs.declared.{order.Order.TheVariants.{Clear, CountPorts, Detect, Enable, Open, ResetOn, Scan, Watch}, path.Path.Path}
+use Rattle.hba_driver.specs.declared.path.{Recovery.{Recovery, TheVariants.{Log, Reset}}, Stage.{Stage, TheVariants.{AssertReset, Identify, ReadLog}}}
+use Rattle.hba_driver.specs.declared.{path.TaskFile.TaskFile, plan.{Device.{Device, TheVariants.{Absent, Ready, Recovering}}, Plan.Plan}}
+use Rattle.hba_driver.specs.declared.{request.Outcome.{Outcome, TheVariants.{Aborted, Done, PortError, Removed}}, slot.Phase.Phase}
+use Rattle.hba_driver.specs.{declared.slot.Phase.TheVariants.{Aside, Ended, Issued}, Drivers.{Driver, Entry, device_at, entry_at, has_ended}}
+use Rattle.hba_driver.specs.{Drivers.{has_ended_in, holds, is_aside, is_aside_in, rephase_all, rephased, with_device}, Orders.{next_order, open_from}}
+use Rattle.hba_driver.specs.{Orders.{order_fields, scan_from}, Paths.{first_stage, next_stage, recovery, stage_fields}, Seeing.Sight, Steady.detects}
+use Rattle.hba_driver.specs.Ticks.{acted, after_tick, done_ended, entries_after, from_reset, is_aside_of, is_done, is_named_of, is_open, is_open_of}
+use Rattle.hba_driver.specs.{Ticks.{log_outcome, logged_ended, ordered, plan_after, recovering, removed, stage_ended, unless}, Turns.advanced}
+use Rattle.hba_driver.specs.Turns.{allowed, answered, control_news, control_seen, control_turn, detected, device_due, device_logged}
+use Rattle.hba_driver.specs.Turns.{device_or_request, device_seen, device_turn, early_due, fault_due, found_of, is_back, is_due, is_out, is_there}
+use Rattle.hba_driver.specs.Turns.{issue_of, logged_by, may_issue, met, met_order, met_path, met_stage, noted, opening_due, order_allowed, order_due}
+use Rattle.hba_driver.specs.Turns.{path_answered, path_due, path_met, path_to, plain_turn, request_due, restart_due, signed_order, stage_due}
+use Rattle.hba_driver.specs.Turns.{stage_for, step_of, turn_of, with_next}
 use Rattle.hba_driver.proofs.Door.{set_cases, set_other}
 
 -- ---- what holds of the plan while requests of a device are set aside

@@ -1,29 +1,17 @@
 -- For `asides_recover`. Over each turn of the host, and so over a run, a request that was set aside is of a device that recovers or is taken to be absent.
-use Rattle.std.proofs.Common.{◌≡◌, ℕ, zero, suc, ◌+◌, ◌<◌, Bool, true, false, List, [], get_or, length, replicate, set, refl, sym, ap, subst, ◌∙◌, inl, inr, Option, Some, None, arith}
+use Rattle.std.proofs.Common.{◌≡◌, ℕ, zero, suc, ◌+◌, ◌<◌, Bool, true, false, List, [], get_or, length, replicate, set, refl, sym, ap, subst, ◌∙◌}
+use Rattle.std.proofs.{Common.{inl, inr, Option, Some, None, arith}, lemmas.{Bool.{false≢true, true≢false}, List.get_or_past}}
 use Rattle.std.specs.Prelude.{◌||◌}
-use Rattle.std.proofs.lemmas.Bool.{false≢true, true≢false}
-use Rattle.std.proofs.lemmas.List.{get_or_past}
-use Rattle.hba_driver.specs.declared.plan.Device.{Device}
-use Rattle.hba_driver.specs.declared.plan.Device.TheVariants.{Absent, Ready, Recovering, Starting, Unusable}
-use Rattle.hba_driver.specs.declared.plan.Plan.{Plan}
-use Rattle.hba_driver.specs.declared.request.Request.{Request}
-use Rattle.hba_driver.specs.declared.slot.Phase.{Phase}
-use Rattle.hba_driver.specs.declared.slot.Phase.TheVariants.{Aside, Ended}
-use Rattle.hba_driver.specs.Between.{PollFacts}
-use Rattle.hba_driver.specs.Drivers.{Driver, Entry, device_at, has_ended_in, is_aside, is_aside_in, is_issued_in, waits_in}
-use Rattle.hba_driver.specs.HostTurns.{Does, Host, HostTurn, Polled, Pushed, Submitted, Ticked, Took, sight_in}
-use Rattle.hba_driver.specs.Sights.{file_shown}
-use Rattle.hba_driver.specs.Submits.{after_submit, new_entry, next_slot}
+use Rattle.hba_driver.specs.declared.plan.{Device.{Device, TheVariants.{Absent, Ready, Recovering, Starting, Unusable}}, Plan.Plan}
+use Rattle.hba_driver.specs.{declared.{request.Request.Request, slot.Phase.{Phase, TheVariants.{Aside, Ended}}}, Between.PollFacts, Drivers.Driver}
+use Rattle.hba_driver.specs.{Drivers.{Entry, device_at, has_ended_in, is_aside, is_aside_in, is_issued_in, waits_in}, HostTurns.{Does, Host}}
+use Rattle.hba_driver.specs.{HostTurns.{HostTurn, Polled, Pushed, Submitted, Ticked, Took, sight_in}, Sights.file_shown, Submits.after_submit}
+use Rattle.hba_driver.specs.Submits.{new_entry, next_slot}
 use Rattle.hba_driver.proofs.Door.{freed, poll_facts, set_cases}
-use Rattle.pm_world.specs.Attached.{Attached}
-use Rattle.pm_world.specs.Line.{OneOrderAtATime}
-use Rattle.pm_world.specs.Places.{new_world}
-use Rattle.pm_world.specs.PortsGoOn.{PortsGoOn}
-use Rattle.pm_world.specs.declared.step.Config.{Config}
-use Rattle.world_rests.specs.Ended.{AsidesRecover, EachAsideRecovers, EachHasEnded, IsKnown, MayHaveAside}
-use Rattle.world_rests.specs.Out.{NoRequestIsLeft}
-use Rattle.world_rests.proofs.Aside.{HasAside, MayHold, none_some, tick_holds}
-use Rattle.world_rests.proofs.Ways.{Hears, IsGood, Line, Pushes, Records, Rises, Stays, Takes, Turns, Way, good, kept_by, line_of}
+use Rattle.pm_world.specs.{Attached.Attached, Line.OneOrderAtATime, Places.new_world, PortsGoOn.PortsGoOn, declared.step.Config.Config}
+use Rattle.world_rests.specs.{Ended.{AsidesRecover, EachAsideRecovers, EachHasEnded, IsKnown, MayHaveAside}, Out.NoRequestIsLeft}
+use Rattle.world_rests.proofs.{Aside.{HasAside, MayHold, none_some, tick_holds}, Ways.{Hears, IsGood, Line, Pushes, Records, Rises, Stays, Takes}}
+use Rattle.world_rests.proofs.Ways.{Turns, Way, good, kept_by, line_of}
 
 abbrev Holds : ℕ → Driver → Type 0
 Holds n d = HasAside n d.entries → MayHold n d.plan

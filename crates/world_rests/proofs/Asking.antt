@@ -1,38 +1,25 @@
 -- For `rested_disks_have_done`. While the ledger says that a disk asked for Data of a write, a context of the port is activated.
-use Rattle.std.proofs.Common.{◌≡◌, ◌==◌, ◌&&◌, ◌+◌, ◌*◌, ℕ, Bool, true, false, List, [], ◌∷◌, drop, length, refl, sym, ap, subst, ◌∙◌, Option, Some, None, Ok, Err, Result}
-use Rattle.std.specs.Prelude.{if◌then◌else◌, find}
-use Rattle.std.specs.Option.{option_map}
-use Rattle.std.proofs.lemmas.Bool.{false≢true, true≢false}
-use Rattle.fis_view.specs.Table.{Bits, BufferId, D2h, Offset, Pio, SActive, Setup, Status, field}
+use Rattle.std.proofs.Common.{◌≡◌, ◌==◌, ◌&&◌, ◌+◌, ◌*◌, ℕ, Bool, true, false, List, [], ◌∷◌, drop, length, refl, sym, ap, subst, ◌∙◌, Option, Some}
+use Rattle.std.proofs.{Common.{None, Ok, Err, Result}, lemmas.Bool.{false≢true, true≢false}}
+use Rattle.std.specs.{Prelude.{if◌then◌else◌, find}, Option.option_map}
+use Rattle.fis_view.specs.{Table.{Bits, BufferId, D2h, Offset, Pio, SActive, Setup, Status, field}, declared.view.{Fis.Fis, FisFault.FisFault}}
 use Rattle.fis_view.specs.Table as table
-use Rattle.fis_view.specs.declared.view.Fis.{Fis}
 use Rattle.fis_view.specs.declared.view.Fis.TheVariants as view
-use Rattle.fis_view.specs.declared.view.FisFault.{FisFault}
 use Rattle.port_errors.specs.declared.cause.DeviceCause.TheVariants as cause
-use Rattle.slots.specs.Commands.{answer_of, answered_as, completed, is_done, is_slot}
-use Rattle.slots.specs.Data.{activated, after_activate, may_activate}
-use Rattle.slots.specs.Setup.{dma_context, setup_fault}
-use Rattle.slots.specs.Slots.{DeviceSlots, context_unless, own_issue}
-use Rattle.slots.specs.declared.answer.Answered.{Answered}
+use Rattle.slots.specs.{Commands.{answer_of, answered_as, completed, is_done, is_slot}, Data.{activated, after_activate, may_activate}}
+use Rattle.slots.specs.{Setup.{dma_context, setup_fault}, Slots.{DeviceSlots, context_unless, own_issue}, declared.answer.Answered.Answered}
+use Rattle.slots.specs.declared.{answer.SetupError.SetupError, table.Context.Context}
 use Rattle.slots.specs.declared.answer.Answered.TheVariants as answer
-use Rattle.slots.specs.declared.answer.SetupError.{SetupError}
-use Rattle.slots.specs.declared.table.Context.{Context}
-use Rattle.hba_fbs.specs.declared.hearing.Happening.{Happening}
+use Rattle.hba_fbs.specs.{declared.{hearing.{Happening.Happening, Heard.Heard}, state.DeviceState.DeviceState}, Hearing.{faulty, heard_fis}}
+use Rattle.hba_fbs.specs.{Hearing.{is_admitted, moved, named, quietly, set_up, tag_of}, Status.{after_reset, is_busy, is_error, with_bits, with_file}}
+use Rattle.hba_fbs.specs.{Taking.{admitted, heard}, Views.DeviceView}
 use Rattle.hba_fbs.specs.declared.hearing.Happening.TheVariants as happening
-use Rattle.hba_fbs.specs.declared.hearing.Heard.{Heard}
-use Rattle.hba_fbs.specs.declared.state.DeviceState.{DeviceState}
 use Rattle.hba_fbs.specs.Hearing as hear
-use Rattle.hba_fbs.specs.Hearing.{faulty, heard_fis, is_admitted, moved, named, quietly, set_up, tag_of}
-use Rattle.hba_fbs.specs.Status.{after_reset, is_busy, is_error, with_bits, with_file}
-use Rattle.hba_fbs.specs.Taking.{admitted, heard}
-use Rattle.hba_fbs.specs.Views.{DeviceView}
-use Rattle.disk_model.specs.declared.request.Command.{Command}
-use Rattle.disk_model.specs.Ends.{IsRight}
-use Rattle.disk_model.specs.Laws.{ShowsFirst}
-use Rattle.disk_model.specs.Ledger.{Ledger, Moving, Reply, ShowsPage, answered, ends, is_auto, listens_up, moves, sends_data, sets_up, starts_moving, takes_data, with_auto}
+use Rattle.disk_model.specs.{declared.request.Command.Command, Ends.IsRight, Laws.ShowsFirst, Ledger.{Ledger, Moving, Reply, ShowsPage, answered}}
+use Rattle.disk_model.specs.Ledger.{ends, is_auto, listens_up, moves, sends_data, sets_up, starts_moving, takes_data, with_auto}
 use Rattle.disk_model.proofs.Door.{bits_up}
 use Rattle.hba_laws.specs.History.{History}
-use Rattle.disk_simulation.specs.Together.{AtMostAccepts, InTalk, AtMostAccepts, Pages, Queues, Replies, Shows}
+use Rattle.disk_simulation.specs.Together.{AtMostAccepts, InTalk, Pages, Queues, Replies, Shows}
 
 abbrev pub IsAsked : Option Context → Ledger → Type 0
 IsAsked o k = (v : Moving) (c : Context) → k.moving ≡ Some v → v.active ≡ true → o ≡ Some c → c.activated ≡ true

@@ -1,69 +1,40 @@
 -- For `rested_disks_have_done`. Over all that a host does with a disk since both began anew, from the first FIS of the disk on: the port
 -- shows BSY only while an answer of the disk is to come, and DRQ only while a page is.
-use Rattle.std.proofs.Common.{◌≡◌, ◌≢◌, ◌⊎◌, ℕ, zero, suc, ◌<◌, ◌≤◌, Bool, true, false, List, [], ◌∷◌, ◌++◌, append_assoc, length, refl, sym, ap, subst, ◌∙◌, inl, inr, Option, Some, None, Ok, Err, Result, arith}
-use Rattle.std.specs.Prelude.{◌||◌, bit_or, if◌then◌else◌}
-use Rattle.std.specs.Option.{option_map}
-use Rattle.std.proofs.lemmas.Bool.{true≢false}
-use Rattle.std.proofs.lemmas.List.{append_cancel_left, append-nil}
-use Rattle.fis_view.specs.Frames.{IsFrame, Stamped, marked}
-use Rattle.fis_view.specs.Marks.{IsMarked}
-use Rattle.fis_view.specs.Seen.{kind_of, may_have, seen, view_as}
-use Rattle.fis_view.specs.Table.{Activate, Bits, D2h, Data as DataKind, H2d, Kind, Other, Pio, Setup, Status, field}
-use Rattle.fis_view.specs.declared.view.Fis.{Fis}
-use Rattle.fis_view.specs.declared.view.Fis.TheVariants as view
-use Rattle.fis_view.specs.declared.view.FisFault.{FisFault}
+use Rattle.std.proofs.Common.{◌≡◌, ◌≢◌, ◌⊎◌, ℕ, zero, suc, ◌<◌, ◌≤◌, Bool, true, false, List, [], ◌∷◌, ◌++◌, append_assoc, length, refl, sym, ap}
+use Rattle.std.proofs.{Common.{subst, ◌∙◌, inl, inr, Option, Some, None, Ok, Err, Result, arith}, lemmas.{Bool.{true≢false}, List.append_cancel_left}}
+use Rattle.std.proofs.lemmas.List.{append-nil}
+use Rattle.std.specs.{Prelude.{◌||◌, bit_or, if◌then◌else◌}, Option.option_map}
+use Rattle.fis_view.specs.{Frames.{IsFrame, Stamped, marked}, Marks.IsMarked, Seen.{kind_of, may_have, seen, view_as}, Table.{Activate, Bits, D2h}}
+use Rattle.fis_view.specs.{Table.{Data as DataKind, H2d, Kind, Other, Pio, Setup, Status, field}, declared.view.{Fis.Fis, FisFault.FisFault}}
 use Rattle.fis_view.specs.declared.view.FisFault.TheVariants.{WrongLength}
+use Rattle.fis_view.specs.declared.view.Fis.TheVariants as view
 use Rattle.fis_view.proofs.Door.{is_marked}
 use Rattle.host_memory.specs.Memory.{Memory}
 use Rattle.hba_commands.specs.declared.command.Command as issued_command
-use Rattle.slots.specs.Slots.{is_control, own_issue}
-use Rattle.slots.specs.Work.{is_dma, is_queued}
-use Rattle.hba_fbs.specs.declared.register.Register.TheVariants.{Ci}
-use Rattle.hba_fbs.specs.declared.report.TakeReport.{TakeReport}
-use Rattle.hba_fbs.specs.declared.state.DeviceState.{DeviceState}
-use Rattle.hba_fbs.specs.Issuing.{aimed, asked}
-use Rattle.hba_fbs.specs.Sending.{Data, Gives, Order, Outgoing, gathered, outgoing, resets, view_fed, view_sent}
-use Rattle.hba_fbs.specs.Status.{is_busy, wants_data}
-use Rattle.hba_fbs.specs.Tables.{is_sound, prds_of}
-use Rattle.hba_fbs.specs.Taking.{admitted, heard, port_of}
-use Rattle.hba_fbs.specs.Views.{DeviceView, view_of}
-use Rattle.disk_model.specs.declared.plan.DiskPlan.{DiskPlan}
-use Rattle.disk_model.specs.declared.request.Request.{Request}
+use Rattle.slots.specs.{Slots.{is_control, own_issue}, Work.{is_dma, is_queued}}
+use Rattle.hba_fbs.specs.{declared.{register.Register.TheVariants.Ci, report.TakeReport.TakeReport, state.DeviceState.DeviceState}, Issuing.aimed}
+use Rattle.hba_fbs.specs.{Issuing.asked, Sending.{Data, Gives, Order, Outgoing, gathered, outgoing, resets, view_fed, view_sent}, Status.is_busy}
+use Rattle.hba_fbs.specs.{Status.wants_data, Tables.{is_sound, prds_of}, Taking.{admitted, heard, port_of}, Views.{DeviceView, view_of}}
+use Rattle.disk_model.specs.{declared.{plan.DiskPlan.DiskPlan, request.Request.Request}, Anew.{IsCarefulSince, IsClear, IsLinkedOn, OwesOnly}}
+use Rattle.disk_model.specs.{Between.{alone, opened}, Ends.{Fits, FitsRequest, IsRight, Rests}, Histories.{Happening, Loaded, Plugged, Received}}
+use Rattle.disk_model.specs.{Histories.Sent, Laws.AnswersRight, Ledger.{Accepts, IsSize, Ledger, Reply, ShowsPage, Signs, Wanted, answered, asks}}
+use Rattle.disk_model.specs.{Ledger.{ledger, listens, listens_down, listens_up, takes_data}, Requests.request_of, Runs.IsDiskRun}
 use Rattle.disk_model.specs.declared.request.Request.TheVariants as request
 use Rattle.disk_model.specs.Anew as both
-use Rattle.disk_model.specs.Anew.{IsCarefulSince, IsClear, IsLinkedOn, OwesOnly}
-use Rattle.disk_model.specs.Between.{alone, opened}
-use Rattle.disk_model.specs.Ends.{Fits, FitsRequest, IsRight, Rests}
-use Rattle.disk_model.specs.Histories.{Happening, Loaded, Plugged, Received, Sent}
-use Rattle.disk_model.specs.Laws.{AnswersRight}
-use Rattle.disk_model.specs.Ledger.{Accepts, IsSize, Ledger, Reply, ShowsPage, Signs, Wanted, answered, asks, ledger, listens, listens_down, listens_up, takes_data}
-use Rattle.disk_model.specs.Requests.{request_of}
-use Rattle.disk_model.specs.Runs.{IsDiskRun}
 use Rattle.disk_model.proofs.Door.{asks_fits, ledger_push, opens_free, run_before}
-use Rattle.hba_laws.specs.Agreement.{IssueAgrees, is_for, work_of_transfer}
-use Rattle.hba_laws.specs.Between.{history_below, transfer_of, with_issued}
-use Rattle.hba_laws.specs.Client.{own}
-use Rattle.hba_laws.specs.Delivering.{issued_below, touched}
+use Rattle.hba_laws.specs.{Agreement.{IssueAgrees, is_for, work_of_transfer}, Between.{history_below, transfer_of, with_issued}, Client.own}
+use Rattle.hba_laws.specs.{Delivering.{issued_below, touched}, History.{History, Transfer, is_set_up, issued, last_setup}, Hosts.{Does, Gave, Host}}
+use Rattle.hba_laws.specs.{Hosts.Wrote, Sound.IsHost}
 use Rattle.hba_laws.specs.History as event
-use Rattle.hba_laws.specs.History.{History, Transfer, is_set_up, issued, last_setup}
-use Rattle.hba_laws.specs.Hosts.{Does, Gave, Host, Wrote}
-use Rattle.hba_laws.specs.Sound.{IsHost}
 use Rattle.hba_laws.proofs.Door.{own_below_is}
 use Rattle.disk_simulation.specs.Anew as anew
-use Rattle.disk_simulation.specs.Anew.{IsHostedOn, IsKeptOn, IsOpening, IsSignedWell, KeepsSlots}
-use Rattle.disk_simulation.specs.Answers.{IsAlone}
-use Rattle.disk_simulation.specs.Between.{IsSigned, IsThere}
-use Rattle.disk_simulation.specs.Files.{DisksSendTheirs, IsOfDisk}
-use Rattle.disk_simulation.specs.Heard.{IsTakenWell}
-use Rattle.disk_simulation.specs.Joined.{IsJoined, JoinsCommands, JoinsOthers}
-use Rattle.disk_simulation.specs.Marked.{IsHeardAlike}
-use Rattle.disk_simulation.specs.Same.{SlotCommand}
-use Rattle.disk_simulation.specs.Together.{InTalk, NoneQueued, told}
+use Rattle.disk_simulation.specs.{Anew.{IsHostedOn, IsKeptOn, IsOpening, IsSignedWell, KeepsSlots}, Answers.IsAlone, Between.{IsSigned, IsThere}}
+use Rattle.disk_simulation.specs.{Files.{DisksSendTheirs, IsOfDisk}, Heard.IsTakenWell, Joined.{IsJoined, JoinsCommands, JoinsOthers}}
+use Rattle.disk_simulation.specs.{Marked.IsHeardAlike, Same.SlotCommand, Together.{InTalk, NoneQueued, told}}
 use Rattle.disk_simulation.proofs.Door.{began_unset, disk_marked, hosted_on_is_kept, marks_tell_nothing, signed, there_by, view_signed}
-use Rattle.world_rests.proofs.Long.{IsLong, sent_long}
-use Rattle.world_rests.proofs.Open.{IsToldDown, heard_fine, heard_it, sends, shown, told_down, view_is}
-use Rattle.world_rests.proofs.Paged.{IsPageDue, IsPaged, asked_down, due_as, no_page_queued, paged_alone, paged_down, paged_idle, paged_issued, paged_queued, paged_signed, paged_up}
-use Rattle.world_rests.proofs.Status.{IsCalm, answer_calm, busied_wants, calm_up, due_up, neither, no_idle}
+use Rattle.world_rests.proofs.{Long.{IsLong, sent_long}, Open.{IsToldDown, heard_fine, heard_it, sends, shown, told_down, view_is}, Paged.IsPageDue}
+use Rattle.world_rests.proofs.Paged.{IsPaged, asked_down, due_as, no_page_queued, paged_alone, paged_down, paged_idle, paged_issued, paged_queued}
+use Rattle.world_rests.proofs.{Paged.{paged_signed, paged_up}, Status.{IsCalm, answer_calm, busied_wants, calm_up, due_up, neither, no_idle}}
 
 -- ---- what the host heard is the disk's
 

@@ -1,31 +1,24 @@
 -- For `rested_have_done`. What each port knows of the connections of its device, and of which connections the frames are that
 -- are on their way up. Connections come one after another, and each removal is recorded before the next coming.
-use Rattle.std.proofs.Common.{◌≡◌, ◌≢◌, ◌⊎◌, ℕ, zero, suc, ◌+◌, ◌<◌, ◌≤◌, ◌==◌, Bool, true, false, List, [], ◌∷◌, ◌++◌, length, map, replicate, Option, Some, None, refl, sym, ap, subst, ◌∙◌, inl, inr, arith}
-use Rattle.std.specs.Prelude.{slice_get, slice_index_or, is_none, is_some, nat_le, if◌then◌else◌, IsTrue, Ok, MatchBool, MatchOption}
-use Rattle.std.proofs.lemmas.Bool.{eq-eqb, leb-true, true≢false}
+use Rattle.std.proofs.Common.{◌≡◌, ◌≢◌, ◌⊎◌, ℕ, zero, suc, ◌+◌, ◌<◌, ◌≤◌, ◌==◌, Bool, true, false, List, [], ◌∷◌, ◌++◌, length, map, replicate}
+use Rattle.std.proofs.{Common.{Option, Some, None, refl, sym, ap, subst, ◌∙◌, inl, inr, arith}, lemmas.Bool.{eq-eqb, leb-true, true≢false}}
 use Rattle.std.proofs.lemmas.Option.{same_Some}
+use Rattle.std.specs.Prelude.{slice_get, slice_index_or, is_none, is_some, nat_le, if◌then◌else◌, IsTrue, Ok, MatchBool, MatchOption}
 use Rattle.fis_view.specs.Frames.{Stamped}
-use Rattle.pm_ports.specs.Port.{PortState, came_refusal, empty_port, gone_refusal, is_present, is_up_to, with_connection, with_down, with_removal, with_up}
-use Rattle.pm_ports.specs.declared.port.GoneError.TheVariants.{NotThere}
-use Rattle.pm_ports.specs.declared.port.PortError.TheVariants.{AlreadyThere, OldConnection}
-use Rattle.multiplier.specs.Arbiter.{control_port}
-use Rattle.multiplier.specs.Between.{Answer as Answers, FromPort, Gives, Notice}
-use Rattle.multiplier.specs.Rules.{FromHostRule, ToControl, ToDevice, ToNobody, ToPort, with_device as connected, without_device}
-use Rattle.multiplier.specs.State.{PmState, falling, passes_to, pm_port, port_at, stamped, with_port}
-use Rattle.multiplier.specs.declared.multiplier.Passed.{Passed}
+use Rattle.pm_ports.specs.Port.{PortState, came_refusal, empty_port, gone_refusal, is_present, is_up_to, with_connection, with_down, with_removal}
+use Rattle.pm_ports.specs.{Port.with_up, declared.port.{GoneError.TheVariants.NotThere, PortError.TheVariants.{AlreadyThere, OldConnection}}}
+use Rattle.multiplier.specs.{Arbiter.control_port, Between.{Answer as Answers, FromPort, Gives, Notice}, Rules.{FromHostRule, ToControl, ToDevice}}
+use Rattle.multiplier.specs.{Rules.{ToNobody, ToPort, with_device as connected, without_device}, State.{PmState, falling, passes_to, pm_port}}
+use Rattle.multiplier.specs.{State.{port_at, stamped, with_port}, declared.multiplier.Passed.Passed}
 use Rattle.multiplier.specs.declared.multiplier.Passed.TheVariants as passed
 use Rattle.multiplier.proofs.Door.{each_port, gives, left_is, other_port, this_port, up_to}
-use Rattle.pm_world.specs.Attached.{Attached}
-use Rattle.pm_world.specs.DevicePaths.{ReachedAreOrderly}
-use Rattle.pm_world.specs.Places.{IsOrderly, Place, Places, Queue, new_world_in, opening}
-use Rattle.pm_world.specs.Rules.{CameRule, DiskSendRule, DiskTakeRule, GoneRule, InjectRule, OnDevice, OnDeviceAndMultiplier, Outcome, PmDownRule, PmFromDeviceRule, PmFromHostRule, PmPresenceRule, PmUpRule, Rule, Run, largest, recorded}
-use Rattle.pm_world.specs.Runs.{IsReached}
-use Rattle.pm_world.specs.declared.link.Change.{Change}
+use Rattle.pm_world.specs.{Attached.Attached, DevicePaths.ReachedAreOrderly, Places.{IsOrderly, Place, Places, Queue, new_world_in, opening}}
+use Rattle.pm_world.specs.Rules.{CameRule, DiskSendRule, DiskTakeRule, GoneRule, InjectRule, OnDevice, OnDeviceAndMultiplier, Outcome, PmDownRule}
+use Rattle.pm_world.specs.{Rules.{PmFromDeviceRule, PmFromHostRule, PmPresenceRule, PmUpRule, Rule, Run, largest, recorded}, Runs.IsReached}
+use Rattle.pm_world.specs.declared.{link.Change.Change, step.{Step.Step, Answer.Answer}}
 use Rattle.pm_world.specs.declared.link.Change.TheVariants as change
-use Rattle.pm_world.specs.declared.step.Step.{Step}
 use Rattle.pm_world.specs.declared.step.Step.TheVariants as step
 use Rattle.pm_world.specs.declared.step.StepError.TheVariants as error
-use Rattle.pm_world.specs.declared.step.Answer.{Answer}
 use Rattle.pm_world.specs.declared.step.Answer.TheVariants as answer
 use Rattle.world_rests.proofs.Parts.{AtBoth, AtDevice, at_both, at_device, get_below, reached_after, set_each}
 

@@ -1,49 +1,33 @@
 -- For `rested_drivers_watch`. What the control port says on its way to the host, over a run: each answer shows neither BSY nor DRQ, and
 -- the host shows neither of them but BSY while a command that went out is unanswered.
-use Rattle.std.proofs.Common.{◌≡◌, ◌⊎◌, ◌+◌, ◌*◌, ◌/◌, ◌%◌, ℕ, ◌<◌, ◌≤◌, ◌==◌, Bool, true, false, List, [], ◌∷◌, ◌++◌, length, refl, sym, ap, subst, ◌∙◌, inl, inr, Option, Some, None, Ok, Err, arith}
-use Rattle.std.specs.Prelude.{if◌then◌else◌, is_none, slice_index, MatchBool, MatchOption, Result}
-use Rattle.std.proofs.lemmas.Bool.{cases_Bool, cases_eq, true≢false}
+use Rattle.std.proofs.Common.{◌≡◌, ◌⊎◌, ◌+◌, ◌*◌, ◌/◌, ◌%◌, ℕ, ◌<◌, ◌≤◌, ◌==◌, Bool, true, false, List, [], ◌∷◌, ◌++◌, length, refl, sym, ap, subst}
+use Rattle.std.proofs.{Common.{◌∙◌, inl, inr, Option, Some, None, Ok, Err, arith}, lemmas.Bool.{cases_Bool, cases_eq, true≢false}}
 use Rattle.std.proofs.lemmas.List.{length-set}
-use Rattle.fis_view.specs.Built.{IsBuilt, cut, set_bits_given}
-use Rattle.fis_view.specs.Frames.{IsFrame, Stamped, marked}
-use Rattle.fis_view.specs.Seen.{seen}
-use Rattle.fis_view.specs.Table.{Bits, D2h, Error, N, PmPort, SActive, Status, field, places}
-use Rattle.fis_view.specs.declared.build.D2hFields.{D2hFields}
-use Rattle.fis_view.specs.declared.frame.Stamp.{Stamp}
-use Rattle.fis_view.specs.declared.view.Fis.{Fis}
-use Rattle.fis_view.specs.declared.view.Fis.TheVariants as view
+use Rattle.std.specs.Prelude.{if◌then◌else◌, is_none, slice_index, MatchBool, MatchOption, Result}
+use Rattle.fis_view.specs.{Built.{IsBuilt, cut, set_bits_given}, Frames.{IsFrame, Stamped, marked}, Seen.seen, Table.{Bits, D2h, Error, N, PmPort}}
+use Rattle.fis_view.specs.{Table.{SActive, Status, field, places}, declared.{build.D2hFields.D2hFields, frame.Stamp.Stamp, view.Fis.Fis}}
 use Rattle.fis_view.specs.declared.view.FisFault.{FisFault}
+use Rattle.fis_view.specs.declared.view.Fis.TheVariants as view
 use Rattle.fis_view.proofs.Door.{frame_bounds, port_bits, port_field, port_written}
-use Rattle.pm_registers.specs.RegisterMap.{RegisterMap, read_at}
-use Rattle.pm_registers.specs.declared.words.RegisterError.{RegisterError}
-use Rattle.pm_registers.specs.declared.words.RegisterError.TheVariants.{NoPort, NoRegister}
-use Rattle.pm_control.specs.Answers.{IsAnswer, answer_to_request, notice_fields, read_answer, refused, signature, write_answer}
-use Rattle.pm_control.specs.Requests.{request_in}
-use Rattle.pm_control.specs.declared.request.Request.{Request}
-use Rattle.pm_control.specs.declared.request.Request.TheVariants.{Read, Write, Unknown, EndReset}
+use Rattle.pm_registers.specs.{RegisterMap.{RegisterMap, read_at}, declared.words.RegisterError.{RegisterError, TheVariants.{NoPort, NoRegister}}}
+use Rattle.pm_control.specs.{Answers.{IsAnswer, answer_to_request, notice_fields, read_answer, refused, signature, write_answer}, Requests.request_in}
+use Rattle.pm_control.specs.declared.request.Request.{Request, TheVariants.{Read, Write, Unknown, EndReset}}
 use Rattle.pm_ports.specs.Port.{came_refusal, gone_refusal}
-use Rattle.multiplier.specs.Arbiter.{control_port}
-use Rattle.multiplier.specs.Between.{Answer as Answers, FromPort, Gives, Notice}
-use Rattle.multiplier.specs.Rules.{FromHostRule, ToControl, ToDevice, ToNobody, ToPort, with_device as connected, without_device}
-use Rattle.multiplier.specs.State.{PmState, control_stamp, passes_to, pm_port, port_at, ready, rising}
-use Rattle.multiplier.specs.declared.multiplier.Passed.{Passed}
+use Rattle.multiplier.specs.{Arbiter.control_port, Between.{Answer as Answers, FromPort, Gives, Notice}, Rules.{FromHostRule, ToControl, ToDevice}}
+use Rattle.multiplier.specs.{Rules.{ToNobody, ToPort, with_device as connected, without_device}, State.{PmState, control_stamp, passes_to, pm_port}}
+use Rattle.multiplier.specs.{State.{port_at, ready, rising}, declared.multiplier.Passed.Passed}
 use Rattle.multiplier.specs.declared.multiplier.Passed.TheVariants as passed
 use Rattle.multiplier.proofs.Door.{served_below}
-use Rattle.hba_fbs.specs.declared.report.TakeReport.{TakeReport}
-use Rattle.hba_fbs.specs.Status.{is_busy, wants_data}
-use Rattle.hba_fbs.specs.Tables.{is_sound}
-use Rattle.hba_fbs.specs.Taking.{admitted, heard_view, ignores, port_of}
-use Rattle.hba_fbs.specs.Views.{view_of}
-use Rattle.hba_driver.specs.HostTurns.{Does, Host, HostTurn, Pushed, Ticked, Took}
-use Rattle.hba_driver.specs.Slot31.{Asks, Follows31, IsIn, Pushes31, Resets, Signs, Stage31, Turns31, control_of, is_resetting}
+use Rattle.hba_fbs.specs.{declared.report.TakeReport.TakeReport, Status.{is_busy, wants_data}, Tables.is_sound, Taking.{admitted, heard_view}}
+use Rattle.hba_fbs.specs.{Taking.{ignores, port_of}, Views.view_of}
+use Rattle.hba_driver.specs.{HostTurns.{Does, Host, HostTurn, Pushed, Ticked, Took}, Slot31.{Asks, Follows31, IsIn, Pushes31, Resets, Signs, Stage31}}
+use Rattle.hba_driver.specs.Slot31.{Turns31, control_of, is_resetting}
 use Rattle.hba_driver.proofs.Door.{going_turn, turn31}
-use Rattle.pm_world.specs.Rules.{recorded}
-use Rattle.pm_world.specs.declared.link.Change.{Change}
+use Rattle.pm_world.specs.{Rules.recorded, declared.link.Change.Change}
 use Rattle.pm_world.specs.declared.link.Change.TheVariants as change
-use Rattle.world_rests.proofs.Orders.{Among, bits_view, register_view, well_heard}
-use Rattle.world_rests.proofs.Settled.{IsSettled, Notes, Says, Tells, noted_settled, nothing_pushed, pushed_data, pushed_other, tick_settled, told_settled}
-use Rattle.world_rests.proofs.Slot31.{IsOut}
-use Rattle.world_rests.proofs.Ways.{Hears, IsGood, IsInside, Line, Pushes, Records, Rises, Stays, Takes, Turns, Way}
+use Rattle.world_rests.proofs.{Orders.{Among, bits_view, register_view, well_heard}, Settled.{IsSettled, Notes, Says, Tells, noted_settled}}
+use Rattle.world_rests.proofs.{Settled.{nothing_pushed, pushed_data, pushed_other, tick_settled, told_settled}, Slot31.IsOut, Ways.{Hears, IsGood}}
+use Rattle.world_rests.proofs.Ways.{IsInside, Line, Pushes, Records, Rises, Stays, Takes, Turns, Way}
 
 -- ---- what is said
 

@@ -1,50 +1,27 @@
 -- For `rested_disks_have_done` and `rested_disks_are_left`. In a world at rest nothing is on its way between a disk and its host.
 use Rattle.std.proofs.Common.{◌≡◌, ℕ, ◌<◌, Bool, true, IsTrue, List, [], ◌∷◌, ◌++◌, length, refl, sym, ap, subst, ◌∙◌, Option, Some, None, arith}
-use Rattle.std.specs.Prelude.{if◌then◌else◌, map, slice_get, IsSomeAnd, MatchOption}
-use Rattle.std.specs.List.{flat_map}
-use Rattle.std.specs.Option.{option_to_list}
+use Rattle.std.specs.{Prelude.{if◌then◌else◌, map, slice_get, IsSomeAnd, MatchOption}, List.flat_map, Option.option_to_list}
 use Rattle.fis_view.specs.Frames.{Stamped}
 use Rattle.pm_registers.specs.RegisterMap.{forwards}
 use Rattle.multiplier.specs.State.{port_at}
-use Rattle.disk_model.specs.declared.plan.DiskPlan.{DiskPlan}
-use Rattle.disk_model.specs.declared.unit.Unit.TheVariants.{Disk, Scripted}
-use Rattle.disk_model.specs.Histories.{DiskOf, Happening, Plan}
-use Rattle.disk_model.specs.Laws.{OwesNothing}
-use Rattle.disk_model.specs.Ledger.{IsSize, ledger}
+use Rattle.disk_model.specs.{declared.{plan.DiskPlan.DiskPlan, unit.Unit.TheVariants.{Disk, Scripted}}, Histories.{DiskOf, Happening, Plan}}
+use Rattle.disk_model.specs.{Laws.OwesNothing, Ledger.{IsSize, ledger}}
 use Rattle.disk_simulation.specs.Files.{DisksSendTheirs}
 use Rattle.hba_laws.specs.Client.{Touches}
 use Rattle.hba_driver.specs.declared.mode.Mode.TheVariants.{Switching}
 use Rattle.disk_recovery.specs.Ends.{AreEnds, IsRunning, IsTogether}
-use Rattle.pm_world.specs.Attached.{Attached, Modelled, Own}
-use Rattle.pm_world.specs.DevicePaths.{ReachedAreOrderly}
-use Rattle.pm_world.specs.Disks.{DiskRun, HasDisk, disk_history}
-use Rattle.pm_world.specs.Downward.{falling_to, of_connection, on_down_link}
-use Rattle.pm_world.specs.Ends.{EndsMeet, HaveMet, IsDiskWith}
-use Rattle.pm_world.specs.PathEnds.{IsThere, descending_on, for_port}
-use Rattle.pm_world.specs.Places.{Place, Places, is_config, new_world}
-use Rattle.pm_world.specs.Rules.{Run}
-use Rattle.pm_world.specs.Runs.{IsReached}
-use Rattle.pm_world.specs.Traffic.{all_marked, of_conn, on_link, stamped, transit}
-use Rattle.pm_world.specs.declared.link.Change.{Change}
-use Rattle.pm_world.specs.declared.step.Config.{Config}
-use Rattle.pm_world.specs.declared.step.Answer.{Answer}
+use Rattle.pm_world.specs.{Attached.{Attached, Modelled, Own}, DevicePaths.ReachedAreOrderly, Disks.{DiskRun, HasDisk, disk_history}}
+use Rattle.pm_world.specs.{Downward.{falling_to, of_connection, on_down_link}, Ends.{EndsMeet, HaveMet, IsDiskWith}, PathEnds.IsThere}
+use Rattle.pm_world.specs.{PathEnds.{descending_on, for_port}, Places.{Place, Places, is_config, new_world}, Rules.Run, Runs.IsReached}
+use Rattle.pm_world.specs.{Traffic.{all_marked, of_conn, on_link, stamped, transit}, declared.{link.Change.Change, step.Config.Config}}
+use Rattle.pm_world.specs.declared.step.{Answer.Answer, Step.Step}
 use Rattle.pm_world.specs.declared.step.Answer.TheVariants as answer
-use Rattle.pm_world.specs.declared.step.Step.{Step}
 use Rattle.pm_world.specs.declared.step.Step.TheVariants as step
-use Rattle.world_rests.specs.Ended.{AsidesRecover, EachAsideRecovers}
-use Rattle.world_rests.specs.Laws.{RestedHaveDone}
-use Rattle.world_rests.specs.Left.{IsOccupied, NoneIsOut, RestedDisksHaveDone}
-use Rattle.world_rests.specs.Opens.{RestedPortsAreOpen}
-use Rattle.world_rests.specs.Out.{DiskIsFree, NothingIsOut, RestedDisksAreLeft}
-use Rattle.world_rests.specs.Rests.{HasAnswered, IsAtRest, NothingMoves, PortRests}
-use Rattle.world_rests.specs.Waits.{HostWaits}
-use Rattle.world_rests.proofs.Answered.{none_is_out, together_idle}
-use Rattle.world_rests.proofs.Asides.{each_has_ended}
-use Rattle.world_rests.proofs.Calm.{GivenFits}
-use Rattle.world_rests.proofs.Freed.{is_free, recovers, shows}
-use Rattle.world_rests.proofs.NothingOut.{nothing_is_out}
-use Rattle.world_rests.proofs.Ready.{none_is_left, none_is_shown}
-use Rattle.world_rests.proofs.Comings.{Of, all, known, known_reached}
+use Rattle.world_rests.specs.{Ended.{AsidesRecover, EachAsideRecovers}, Laws.RestedHaveDone, Left.{IsOccupied, NoneIsOut, RestedDisksHaveDone}}
+use Rattle.world_rests.specs.{Opens.RestedPortsAreOpen, Out.{DiskIsFree, NothingIsOut, RestedDisksAreLeft}, Rests.{HasAnswered, IsAtRest}}
+use Rattle.world_rests.specs.{Rests.{NothingMoves, PortRests}, Waits.HostWaits}
+use Rattle.world_rests.proofs.{Answered.{none_is_out, together_idle}, Asides.each_has_ended, Calm.GivenFits, Freed.{is_free, recovers, shows}}
+use Rattle.world_rests.proofs.{NothingOut.nothing_is_out, Ready.{none_is_left, none_is_shown}, Comings.{Of, all, known, known_reached}}
 
 run_both : (first old new : Places) (steps : List Step) (answers : List Answer) (more : List Step) (told : List Answer) → Run first steps answers old → Run old more told new
     → Run first (steps ++ more) (answers ++ told) new

@@ -1,55 +1,33 @@
 -- For `rested_disks_are_left`. While a command that is not queued waits at the port, the ledger owes its answer or its page: what
 -- a FIS of the disk leaves of that.
-use Rattle.std.proofs.Common.{◌≡◌, ◌==◌, ◌&&◌, ◌+◌, ◌-◌, ◌<◌, ◌≤◌, ◌⊎◌, ℕ, Bool, true, false, List, [], ◌∷◌, ◌++◌, drop, length, refl, sym, ap, subst, ◌∙◌, inl, inr, Option, Some, None, Ok, Err, Result, arith}
-use Rattle.std.specs.Prelude.{if◌then◌else◌, is_some, nat_le, nat_lt, not, slice_get, find, MatchOption}
-use Rattle.std.specs.List.{range_with_len}
-use Rattle.std.specs.Option.{option_map}
-use Rattle.std.proofs.lemmas.Bool.{and_from, eq-eqb, eqb-true, false≢true, le-leb, lt-ltb, ltb-false, true≢false}
-use Rattle.std.proofs.lemmas.List.{length-drop}
-use Rattle.std.proofs.lemmas.List.FromFn.{get_or-range_with_len, length-range_with_len}
-use Rattle.std.proofs.lemmas.List.Sums.{list_all-from_AllPass}
-use Rattle.std.proofs.lemmas.Option.{slice_get-get_or}
-use Rattle.fis_view.specs.Table.{Bits, BufferId, EStatus, Offset, Pio, SActive, field}
+use Rattle.std.proofs.Common.{◌≡◌, ◌==◌, ◌&&◌, ◌+◌, ◌-◌, ◌<◌, ◌≤◌, ◌⊎◌, ℕ, Bool, true, false, List, [], ◌∷◌, ◌++◌, drop, length, refl, sym, ap, subst}
+use Rattle.std.proofs.{Common.{◌∙◌, inl, inr, Option, Some, None, Ok, Err, Result, arith}, lemmas.Bool.{and_from, eq-eqb, eqb-true, false≢true}}
+use Rattle.std.proofs.lemmas.{Bool.{le-leb, lt-ltb, ltb-false, true≢false}, List.{length-drop, FromFn.{get_or-range_with_len, length-range_with_len}}}
+use Rattle.std.proofs.lemmas.{List.Sums.{list_all-from_AllPass}, Option.{slice_get-get_or}}
+use Rattle.std.specs.{Prelude.{if◌then◌else◌, is_some, nat_le, nat_lt, not, slice_get, find, MatchOption}, List.range_with_len, Option.option_map}
+use Rattle.fis_view.specs.{Table.{Bits, BufferId, EStatus, Offset, Pio, SActive, field}, declared.view.{Fis.Fis, FisFault.FisFault}}
 use Rattle.fis_view.specs.Table as table
-use Rattle.fis_view.specs.declared.view.Fis.{Fis}
 use Rattle.fis_view.specs.declared.view.Fis.TheVariants as view
-use Rattle.fis_view.specs.declared.view.FisFault.{FisFault}
 use Rattle.port_errors.specs.declared.cause.DeviceCause.TheVariants as cause
-use Rattle.slots.specs.Data.{after_arrive}
-use Rattle.slots.specs.Setup.{out_setup, pio_fault, pio_issue}
-use Rattle.slots.specs.Slots.{DeviceSlots, Issue, has_bit, is_pio, is_queued_issue, is_waiting, match_some, own_issue, sent_pio}
+use Rattle.slots.specs.{Data.after_arrive, Setup.{out_setup, pio_fault, pio_issue}, Slots.{DeviceSlots, Issue, has_bit, is_pio, is_queued_issue}}
+use Rattle.slots.specs.{Slots.{is_waiting, match_some, own_issue, sent_pio}, Table.IsIssue, Work.{is_queued, is_read}}
+use Rattle.slots.specs.declared.{answer.SetupError.SetupError, table.Context.Context, work.{Kind.TheVariants.{NoData, PioIn}, Work.Work}}
 use Rattle.slots.specs.Slots as slots
-use Rattle.slots.specs.Table.{IsIssue}
-use Rattle.slots.specs.Work.{is_queued, is_read}
-use Rattle.slots.specs.declared.answer.SetupError.{SetupError}
-use Rattle.slots.specs.declared.table.Context.{Context}
-use Rattle.slots.specs.declared.work.Kind.TheVariants.{NoData, PioIn}
-use Rattle.slots.specs.declared.work.Work.{Work}
 use Rattle.hba_fbs.specs.declared.hearing.Happening.TheVariants as happening
-use Rattle.hba_fbs.specs.declared.hearing.Heard.{Heard}
-use Rattle.hba_fbs.specs.declared.report.Wrote.{Wrote}
-use Rattle.hba_fbs.specs.declared.state.DeviceState.{DeviceState}
-use Rattle.hba_fbs.specs.declared.status.Block.{Block}
-use Rattle.hba_fbs.specs.Hearing.{block_of, bus_failed, faulty, heard_bytes, heard_data, heard_data_of, heard_fis, heard_out, is_admitted, overflowed, set_up}
-use Rattle.hba_fbs.specs.Status.{is_error, is_quiet, with_file}
-use Rattle.hba_fbs.specs.Taking.{admitted, heard}
-use Rattle.hba_fbs.specs.Views.{DeviceView}
-use Rattle.disk_model.specs.declared.request.Command.{Command}
-use Rattle.disk_model.specs.Ends.{IsRight}
-use Rattle.disk_model.specs.Laws.{ActivatesRight, ShowsFirst, SetsUpRight, StartsOne}
+use Rattle.hba_fbs.specs.{declared.{hearing.Heard.Heard, report.Wrote.Wrote, state.DeviceState.DeviceState, status.Block.Block}, Hearing.block_of}
+use Rattle.hba_fbs.specs.Hearing.{bus_failed, faulty, heard_bytes, heard_data, heard_data_of, heard_fis, heard_out, is_admitted, overflowed, set_up}
+use Rattle.hba_fbs.specs.{Status.{is_error, is_quiet, with_file}, Taking.{admitted, heard}, Views.DeviceView}
+use Rattle.disk_model.specs.{declared.request.Command.Command, Ends.IsRight, Laws.{ActivatesRight, ShowsFirst, SetsUpRight, StartsOne}}
 use Rattle.disk_model.specs.Ledger.{Finishes, Ledger, Moving, Names, Refuses, Reply, ShowsPage, answered, listens_up, sends_data}
 use Rattle.hba_laws.specs.Agreement.{ContextAgrees, IsTold, IssueAgrees, SetupAgrees, end_of, is_for, is_pio_issue, work_of_issue}
-use Rattle.hba_laws.specs.Between.{HasContext, IsOwn, NotIssue}
+use Rattle.hba_laws.specs.{Between.{HasContext, IsOwn, NotIssue}, History.{Event, History, Transfer, carried, completes, ends_well, filled}}
+use Rattle.hba_laws.specs.History.{filled_from, is_all_filled, is_at, is_set_up, issued, last_setup, next_number, unless, waiting_in}
 use Rattle.hba_laws.specs.History as event
-use Rattle.hba_laws.specs.History.{Event, History, Transfer, carried, completes, ends_well, filled, filled_from, is_all_filled, is_at, is_set_up, issued, last_setup, next_number, unless, waiting_in}
 use Rattle.hba_laws.proofs.Door.{issued_before}
-use Rattle.disk_simulation.specs.Answers.{IsIdle}
-use Rattle.disk_simulation.specs.Joined.{SentAgrees}
-use Rattle.disk_simulation.specs.Same.{InLife, Moves, Open, ReadEnded, SlotCommand, StandsOnce, Unsent, WriteEnded}
+use Rattle.disk_simulation.specs.{Answers.IsIdle, Joined.SentAgrees, Same.{InLife, Moves, Open, ReadEnded, SlotCommand, StandsOnce, Unsent}}
+use Rattle.disk_simulation.specs.{Same.WriteEnded, Together.{AtMostAccepts, InTalk, IsWaitedUnset, Same, is_sent, told}}
 use Rattle.disk_simulation.specs.Together as talk
-use Rattle.disk_simulation.specs.Together.{AtMostAccepts, InTalk, IsWaitedUnset, Same, is_sent, told}
-use Rattle.world_rests.proofs.Frames.{IsFull}
-use Rattle.world_rests.proofs.Open.{WasIssued, was_issued}
+use Rattle.world_rests.proofs.{Frames.IsFull, Open.{WasIssued, was_issued}}
 
 -- a command without data, or one that reads a page
 abbrev pub IsPlain : Work → Type 0

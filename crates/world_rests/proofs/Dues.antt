@@ -1,58 +1,32 @@
 -- For `rested_disks_are_left`. Over all that a host does with a disk since both began anew: while a command that is not queued
 -- waits at the port, the ledger owes its answer or its page.
-use Rattle.std.proofs.Common.{◌≡◌, ◌⊎◌, ℕ, ◌<◌, true, false, List, [], ◌∷◌, ◌++◌, ◌%◌, ◌==◌, ◌&&◌, refl, sym, ap, subst, ◌∙◌, inl, inr, Option, Some, None, Ok, arith}
-use Rattle.std.specs.Prelude.{not}
-use Rattle.std.specs.Option.{option_map}
-use Rattle.std.proofs.lemmas.Bool.{and_parts, eqb-true, false≢true, true≢false}
-use Rattle.fis_view.specs.Frames.{IsFrame, Stamped, marked}
-use Rattle.fis_view.specs.Seen.{seen}
-use Rattle.fis_view.specs.Table.{Count, D2h, Error, Lba, Status, field}
+use Rattle.std.proofs.Common.{◌≡◌, ◌⊎◌, ℕ, ◌<◌, true, false, List, [], ◌∷◌, ◌++◌, ◌%◌, ◌==◌, ◌&&◌, refl, sym, ap, subst, ◌∙◌, inl, inr, Option, Some}
+use Rattle.std.proofs.{Common.{None, Ok, arith}, lemmas.Bool.{and_parts, eqb-true, false≢true, true≢false}}
+use Rattle.std.specs.{Prelude.not, Option.option_map}
+use Rattle.fis_view.specs.{Frames.{IsFrame, Stamped, marked}, Seen.seen, Table.{Count, D2h, Error, Lba, Status, field}}
 use Rattle.fis_view.specs.declared.view.Fis.TheVariants as view
 use Rattle.hba_commands.specs.declared.command.Command as issued_command
-use Rattle.slots.specs.Slots.{is_waiting, own_issue}
-use Rattle.slots.specs.Work.{is_queued}
-use Rattle.hba_fbs.specs.declared.register.Register.TheVariants.{Ci}
-use Rattle.hba_fbs.specs.declared.report.TakeReport.{TakeReport}
-use Rattle.hba_fbs.specs.declared.status.Block.{Block}
-use Rattle.hba_fbs.specs.Issuing.{aimed}
-use Rattle.hba_fbs.specs.Posting.{is_signature}
-use Rattle.hba_fbs.specs.Sending.{Data, Gives, Outgoing, outgoing}
-use Rattle.hba_fbs.specs.Status.{is_quiet}
-use Rattle.hba_fbs.specs.Tables.{is_sound}
-use Rattle.hba_fbs.specs.Taking.{port_of}
+use Rattle.slots.specs.{Slots.{is_waiting, own_issue}, Work.is_queued}
+use Rattle.hba_fbs.specs.{declared.{register.Register.TheVariants.Ci, report.TakeReport.TakeReport, status.Block.Block}, Issuing.aimed}
+use Rattle.hba_fbs.specs.{Posting.is_signature, Sending.{Data, Gives, Outgoing, outgoing}, Status.is_quiet, Tables.is_sound, Taking.port_of}
 use Rattle.hba_fbs.specs.Views.{DeviceView, view_of}
-use Rattle.disk_model.specs.declared.request.Request.{Request}
+use Rattle.disk_model.specs.{declared.request.Request.Request, Anew.{IsCarefulSince, IsRequest, OwesOnly}, Between.alone, Ends.{Fits, FitsRequest}}
+use Rattle.disk_model.specs.{Ends.{IsRight, Rests}, Histories.{Happening, Received, Sent}, Laws.AnswersFirst, Ledger.{Finishes, Ledger, Refuses}}
+use Rattle.disk_model.specs.{Ledger.{Reply, ShowsPage, Signs, Wanted, asks, ledger, listens, listens_down, listens_up}, Requests.request_of}
 use Rattle.disk_model.specs.declared.request.Request.TheVariants as request
-use Rattle.disk_model.specs.Anew.{IsCarefulSince, IsRequest, OwesOnly}
-use Rattle.disk_model.specs.Between.{alone}
-use Rattle.disk_model.specs.Ends.{Fits, FitsRequest, IsRight, Rests}
-use Rattle.disk_model.specs.Histories.{Happening, Received, Sent}
-use Rattle.disk_model.specs.Laws.{AnswersFirst}
-use Rattle.disk_model.specs.Ledger.{Finishes, Ledger, Refuses, Reply, ShowsPage, Signs, Wanted, asks, ledger, listens, listens_down, listens_up}
-use Rattle.disk_model.specs.Requests.{request_of}
 use Rattle.disk_model.proofs.Door.{asks_fits, ledger_push}
-use Rattle.hba_laws.specs.Agreement.{IssueAgrees, work_of_issue, work_of_transfer}
-use Rattle.hba_laws.specs.Between.{GoesOut, NotIssue}
-use Rattle.hba_laws.specs.Client.{own}
-use Rattle.hba_laws.specs.Delivering.{touched}
+use Rattle.hba_laws.specs.{Agreement.{IssueAgrees, work_of_issue, work_of_transfer}, Between.{GoesOut, NotIssue}, Client.own, Delivering.touched}
+use Rattle.hba_laws.specs.{History.{Event, History, Transfer, issued}, Hosts.{Does, Host, Wrote}, Sound.IsHost}
 use Rattle.hba_laws.specs.History as event
-use Rattle.hba_laws.specs.History.{Event, History, Transfer, issued}
-use Rattle.hba_laws.specs.Hosts.{Does, Host, Wrote}
-use Rattle.hba_laws.specs.Sound.{IsHost}
 use Rattle.hba_laws.proofs.Door.{goes_out, is_own, issued_before}
 use Rattle.disk_simulation.specs.Anew as anew
-use Rattle.disk_simulation.specs.Anew.{IsHostedOn, IsKeptOn, IsSignedWell}
-use Rattle.disk_simulation.specs.Answers.{IsAlone, IsIdle}
-use Rattle.disk_simulation.specs.Between.{IsSigned, IsThere}
-use Rattle.disk_simulation.specs.Heard.{IsTakenWell}
-use Rattle.disk_simulation.specs.Joined.{IsAskedBy, IsJoined}
-use Rattle.disk_simulation.specs.Marked.{IsHeardAlike}
-use Rattle.disk_simulation.specs.Same.{SlotCommand}
-use Rattle.disk_simulation.specs.Together.{NothingWaits, told}
+use Rattle.disk_simulation.specs.{Anew.{IsHostedOn, IsKeptOn, IsSignedWell}, Answers.{IsAlone, IsIdle}, Between.{IsSigned, IsThere}}
+use Rattle.disk_simulation.specs.{Heard.IsTakenWell, Joined.{IsAskedBy, IsJoined}, Marked.IsHeardAlike, Same.SlotCommand, Together.NothingWaits}
+use Rattle.disk_simulation.specs.Together.{told}
 use Rattle.disk_simulation.proofs.Door.{careful_before, hosted_on_is_kept, marks_ask_nothing, marks_tell_nothing, signed, there_by}
-use Rattle.world_rests.proofs.Due.{AreOwed, IsEnd, IsPlain, OwesIt, OwesPage, OwesReply, OwesShow, idle_by, owed_up, plain_unqueued}
-use Rattle.world_rests.proofs.Frames.{AllFull, IsFull, full_last, marked_full}
-use Rattle.world_rests.proofs.Open.{IsDue, WasIssued, due_out, heard_fine, heard_it, stood, view_is, was_issued}
+use Rattle.world_rests.proofs.{Due.{AreOwed, IsEnd, IsPlain, OwesIt, OwesPage, OwesReply, OwesShow, idle_by, owed_up, plain_unqueued}, Frames.AllFull}
+use Rattle.world_rests.proofs.{Frames.{IsFull, full_last, marked_full}, Open.{IsDue, WasIssued, due_out, heard_fine, heard_it, stood, view_is}}
+use Rattle.world_rests.proofs.Open.{was_issued}
 
 -- where both begin, the disk owes only this
 abbrev pub Begins : Ledger → Type 0

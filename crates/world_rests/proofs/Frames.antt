@@ -1,34 +1,21 @@
 -- For `rested_disks_are_left`. The Data of a page fills its command, and no more than that page is announced: each Data that a disk
 -- sends has 512 bytes or more, and E_Status of each PIO Setup has BSY, DRQ and ERR clear.
-use Rattle.std.proofs.Common.{◌≡◌, ℕ, ◌<◌, ◌≤◌, Bool, true, false, List, [], ◌∷◌, ◌++◌, append_assoc, drop, length, refl, sym, ap, subst, ◌∙◌, arith, Some, None, Ok, Err, Result}
+use Rattle.std.proofs.Common.{◌≡◌, ℕ, ◌<◌, ◌≤◌, Bool, true, false, List, [], ◌∷◌, ◌++◌, append_assoc, drop, length, refl, sym, ap, subst, ◌∙◌, arith}
+use Rattle.std.proofs.Common.{Some, None, Ok, Err, Result}
 use Rattle.std.specs.Prelude.{if◌then◌else◌}
-use Rattle.fis_view.specs.Built.{cut}
-use Rattle.fis_view.specs.Frames.{IsFrame, marked}
-use Rattle.fis_view.specs.Marks.{IsMarked}
-use Rattle.fis_view.specs.Seen.{kind_of, may_have, seen, view_as}
-use Rattle.fis_view.specs.Table.{EStatus, Kind, Pio, field, places}
+use Rattle.fis_view.specs.{Built.cut, Frames.{IsFrame, marked}, Marks.IsMarked, Seen.{kind_of, may_have, seen, view_as}, Table.{EStatus, Kind, Pio}}
+use Rattle.fis_view.specs.{Table.{field, places}, declared.view.{Fis.Fis, FisFault.{FisFault, TheVariants.WrongLength}}}
 use Rattle.fis_view.specs.Table as table
-use Rattle.fis_view.specs.declared.view.Fis.{Fis}
 use Rattle.fis_view.specs.declared.view.Fis.TheVariants as view
-use Rattle.fis_view.specs.declared.view.FisFault.{FisFault}
-use Rattle.fis_view.specs.declared.view.FisFault.TheVariants.{WrongLength}
 use Rattle.fis_view.proofs.Door.{is_marked}
 use Rattle.hba_fbs.specs.Status.{is_quiet}
-use Rattle.disk_model.specs.declared.answer.Answer.{Answer}
-use Rattle.disk_model.specs.declared.answer.Answer.TheVariants.{PageFollows, PageData}
-use Rattle.disk_model.specs.declared.plan.DiskPlan.{DiskPlan}
+use Rattle.disk_model.specs.{declared.{answer.Answer.{Answer, TheVariants.{PageFollows, PageData}}, plan.DiskPlan.DiskPlan}, Anew.IsLinkedOn}
+use Rattle.disk_model.specs.{Chunks.chunk_count, Disks.{Moment, Turn, after, opening, turn}, Histories.{Happening, Loaded, Plugged, Received, Sent}}
+use Rattle.disk_model.specs.{Ledger.{IsSize, ledger}, Pages.page_bytes, Runs.{IsDiskRun, IsTurn, Runs, moment}, Sendings.{Carries, Sending}}
+use Rattle.disk_model.specs.Sendings.{SetsUpPio, Shows, answer_sent}
 use Rattle.disk_model.specs.Anew as anew
-use Rattle.disk_model.specs.Anew.{IsLinkedOn}
-use Rattle.disk_model.specs.Chunks.{chunk_count}
-use Rattle.disk_model.specs.Disks.{Moment, Turn, after, opening, turn}
-use Rattle.disk_model.specs.Histories.{Happening, Loaded, Plugged, Received, Sent}
-use Rattle.disk_model.specs.Ledger.{IsSize, ledger}
-use Rattle.disk_model.specs.Pages.{page_bytes}
-use Rattle.disk_model.specs.Runs.{IsDiskRun, IsTurn, Runs, moment}
-use Rattle.disk_model.specs.Sendings.{Carries, Sending, SetsUpPio, Shows, answer_sent}
 use Rattle.disk_model.proofs.Door.{agrees, last_may}
-use Rattle.world_rests.proofs.Owes.{has_chunks}
-use Rattle.world_rests.proofs.Shown.{HasChunks, OfEach, chunk_some, data_long, page_long, turn_of}
+use Rattle.world_rests.proofs.{Owes.has_chunks, Shown.{HasChunks, OfEach, chunk_some, data_long, page_long, turn_of}}
 
 abbrev pub IsFull : Result Fis FisFault → Type 0
 IsFull (Ok (view.Payload f)) = 512 ≤ length (drop 4 f)

@@ -1,56 +1,32 @@
 -- For `rested_plans_match`. The control port answers no order with an error: each order is of a register that exists. So the driver never begins
 -- anew with it.
-use Rattle.std.proofs.Common.{◌≡◌, ℕ, ◌+◌, ◌*◌, ◌<◌, ◌≤◌, ◌==◌, ◌&&◌, Bool, true, false, List, [], ◌∷◌, ◌++◌, refl, sym, ap, subst, ◌∙◌, inl, inr, Option, Some, None, Ok, Err, arith}
+use Rattle.std.proofs.Common.{◌≡◌, ℕ, ◌+◌, ◌*◌, ◌<◌, ◌≤◌, ◌==◌, ◌&&◌, Bool, true, false, List, [], ◌∷◌, ◌++◌, refl, sym, ap, subst, ◌∙◌, inl, inr}
+use Rattle.std.proofs.{Common.{Option, Some, None, Ok, Err, arith}, lemmas.Bool.{cases_Bool, cases_eq, lt-ltb, ne_eqb, or_right, true≢false}}
 use Rattle.std.specs.Prelude.{◌%◌, ◌^◌, if◌then◌else◌, is_some, nat_lt, Result, ok_or}
-use Rattle.std.proofs.lemmas.Bool.{cases_Bool, cases_eq, lt-ltb, ne_eqb, or_right, true≢false}
-use Rattle.fis_view.specs.Built.{cut}
-use Rattle.fis_view.specs.Frames.{Stamped}
-use Rattle.fis_view.specs.Seen.{seen}
-use Rattle.fis_view.specs.Table.{D2h, Error, Status, field, places}
-use Rattle.fis_view.specs.declared.build.D2hFields.{D2hFields}
-use Rattle.fis_view.specs.declared.frame.Stamp.{Stamp}
-use Rattle.fis_view.specs.declared.view.Fis.{Fis}
+use Rattle.fis_view.specs.{Built.cut, Frames.Stamped, Seen.seen, Table.{D2h, Error, Status, field, places}, declared.build.D2hFields.D2hFields}
+use Rattle.fis_view.specs.declared.{frame.Stamp.Stamp, view.{Fis.Fis, FisFault.FisFault}}
 use Rattle.fis_view.specs.declared.view.Fis.TheVariants as view
-use Rattle.fis_view.specs.declared.view.FisFault.{FisFault}
-use Rattle.slots.specs.Commands.{answer_of, answered_as}
-use Rattle.slots.specs.Slots.{DeviceSlots, Issue, own_issue}
-use Rattle.slots.specs.declared.answer.Answered.{Answered}
+use Rattle.slots.specs.{Commands.{answer_of, answered_as}, Slots.{DeviceSlots, Issue, own_issue}, declared.answer.Answered.Answered}
 use Rattle.slots.specs.declared.answer.Answered.TheVariants as answer
 use Rattle.port_errors.specs.declared.cause.DeviceCause.{DeviceCause}
 use Rattle.port_errors.specs.declared.cause.DeviceCause.TheVariants as cause
-use Rattle.pm_control.specs.Answers.{IsAnswer, answer_to_request, read_answer, signature, write_answer}
-use Rattle.pm_control.specs.Requests.{request_in}
-use Rattle.pm_control.specs.declared.request.Request.{Request}
-use Rattle.pm_control.specs.declared.request.Request.TheVariants.{EndReset, Read, Unknown, Write}
-use Rattle.pm_registers.specs.Port.{pscr}
-use Rattle.pm_registers.specs.RegisterMap.{RegisterMap, gscr, port_at, read_at, register_at, summary}
-use Rattle.pm_registers.specs.declared.words.RegisterError.{RegisterError}
-use Rattle.pm_registers.specs.declared.words.RegisterError.TheVariants.{NoPort, NoRegister}
-use Rattle.multiplier.specs.Arbiter.{control_port}
-use Rattle.multiplier.specs.Between.{Answer as Answers, FromPort, Gives, Notice}
-use Rattle.multiplier.specs.State.{PmState, control_stamp, pm_port}
+use Rattle.pm_control.specs.{Answers.{IsAnswer, answer_to_request, read_answer, signature, write_answer}, Requests.request_in}
+use Rattle.pm_control.specs.declared.request.Request.{Request, TheVariants.{EndReset, Read, Unknown, Write}}
+use Rattle.pm_registers.specs.{Port.pscr, RegisterMap.{RegisterMap, gscr, port_at, read_at, register_at, summary}}
+use Rattle.pm_registers.specs.declared.words.RegisterError.{RegisterError, TheVariants.{NoPort, NoRegister}}
+use Rattle.multiplier.specs.{Arbiter.control_port, Between.{Answer as Answers, FromPort, Gives, Notice}, State.{PmState, control_stamp, pm_port}}
 use Rattle.hba_fbs.specs.declared.hearing.Happening.TheVariants as happening
-use Rattle.hba_fbs.specs.declared.report.TakeReport.{TakeReport}
-use Rattle.hba_fbs.specs.Hearing.{answer_fault, answered, faulty, heard_register, quietly, signing}
-use Rattle.hba_fbs.specs.Status.{after_reset, is_busy, is_error, with_file}
-use Rattle.hba_fbs.specs.Tables.{is_sound}
-use Rattle.hba_fbs.specs.Taking.{admitted, device_cause, heard_view, ignores, port_of, view_after_hearing}
-use Rattle.hba_fbs.specs.Views.{DeviceView, view_of}
-use Rattle.hba_driver.specs.declared.order.Order.{Order}
-use Rattle.hba_driver.specs.declared.order.Order.TheVariants.{Clear, CountPorts, Detect, Enable, Open, Scan, SetMask}
-use Rattle.hba_driver.specs.HostTurns.{Does, Host, HostTurn, Pushed, Took}
-use Rattle.hba_driver.specs.Slot31.{Asks, IsIn, IsSent, Signs, Stage31, TakesOn, Turns31, control_of, has_failed, is_resetting}
+use Rattle.hba_fbs.specs.{declared.report.TakeReport.TakeReport, Hearing.{answer_fault, answered, faulty, heard_register, quietly, signing}}
+use Rattle.hba_fbs.specs.{Status.{after_reset, is_busy, is_error, with_file}, Tables.is_sound, Taking.{admitted, device_cause, heard_view, ignores}}
+use Rattle.hba_fbs.specs.{Taking.{port_of, view_after_hearing}, Views.{DeviceView, view_of}}
+use Rattle.hba_driver.specs.{declared.order.Order.{Order, TheVariants.{Clear, CountPorts, Detect, Enable, Open, Scan, SetMask}}, HostTurns.Does}
+use Rattle.hba_driver.specs.{HostTurns.{Host, HostTurn, Pushed, Took}, Slot31.{Asks, IsIn, IsSent, Signs, Stage31, TakesOn, Turns31, control_of}}
+use Rattle.hba_driver.specs.Slot31.{has_failed, is_resetting}
 use Rattle.pm_world.specs.Line.{is_register, is_reply}
-use Rattle.world_rests.proofs.ControlFile.{IsCalm, among_either, recorded_answer}
-use Rattle.world_rests.proofs.Ordering.{wish}
-use Rattle.world_rests.proofs.Orders.{Among, register_view}
-use Rattle.world_rests.proofs.Saying.{not_control, notice_none}
-use Rattle.world_rests.proofs.SetUp.{IsOfReset, IsSetUp, IsWell, is_ordered}
-use Rattle.world_rests.proofs.SetWays.{ByControl, ByOther, IsHeard, heard_by}
-use Rattle.world_rests.proofs.Slot31.{answered_free}
-use Rattle.world_rests.proofs.Turning.{took_turn}
-use Rattle.world_rests.proofs.Unfaulted.{IsBeside, IsUnfaulted, turn_none}
-use Rattle.world_rests.proofs.Ways.{Hears, IsGood, IsInside, Line, Pushes, Records, Rises as GoesUp, Stays, Takes, Turns, Way}
+use Rattle.world_rests.proofs.{ControlFile.{IsCalm, among_either, recorded_answer}, Ordering.wish, Orders.{Among, register_view}, Saying.not_control}
+use Rattle.world_rests.proofs.{Saying.notice_none, SetUp.{IsOfReset, IsSetUp, IsWell, is_ordered}, SetWays.{ByControl, ByOther, IsHeard, heard_by}}
+use Rattle.world_rests.proofs.{Slot31.answered_free, Turning.took_turn, Unfaulted.{IsBeside, IsUnfaulted, turn_none}, Ways.{Hears, IsGood, IsInside}}
+use Rattle.world_rests.proofs.Ways.{Line, Pushes, Records, Rises as GoesUp, Stays, Takes, Turns, Way}
 
 -- ---- what is asked has an answer
 

@@ -1,52 +1,30 @@
 -- For `rested_disks_are_left`. Where no command is with a disk, nothing is issued for it, and slot 30 does not work on it.
-use Rattle.std.proofs.Common.{◌≡◌, ℕ, ◌<◌, Bool, true, false, List, [], ◌∷◌, ◌++◌, length, refl, sym, ap, subst, ◌∙◌, inl, inr, Option, Some, None, arith}
+use Rattle.std.proofs.Common.{◌≡◌, ℕ, ◌<◌, Bool, true, false, List, [], ◌∷◌, ◌++◌, length, refl, sym, ap, subst, ◌∙◌, inl, inr, Option, Some, None}
+use Rattle.std.proofs.{Common.arith, lemmas.{Bool.{and_parts, false≢true, true≢false}, List.FromFn.{get_or-map-range_with_len}}}
 use Rattle.std.specs.Prelude.{◌||◌, is_some, not, slice_index_or}
-use Rattle.std.proofs.lemmas.Bool.{and_parts, false≢true, true≢false}
-use Rattle.std.proofs.lemmas.List.FromFn.{get_or-map-range_with_len}
 use Rattle.host_memory.specs.Memory.{Memory}
-use Rattle.slots.specs.Commands.{has_outstanding}
-use Rattle.slots.specs.Setup.{is_outstanding}
-use Rattle.slots.specs.Slots.{Issue, has_bit, holds as issue_holds, is_control, is_queued_issue, is_waiting, lowest_below, new_issue, own_issue, slots_of, waiting}
-use Rattle.slots.specs.Table.{IsIssue}
+use Rattle.slots.specs.{Commands.has_outstanding, Setup.is_outstanding, Slots.{Issue, has_bit, holds as issue_holds, is_control, is_queued_issue}}
+use Rattle.slots.specs.{Slots.{is_waiting, lowest_below, new_issue, own_issue, slots_of, waiting}, Table.IsIssue}
 use Rattle.slots.proofs.Door.{lowest_is}
 use Rattle.hba_commands.specs.Requests.{request_of, work_of}
-use Rattle.hba_fbs.specs.Status.{is_busy, wants_data}
-use Rattle.hba_fbs.specs.Views.{Port, state_at, view_of}
-use Rattle.disk_model.specs.declared.plan.DiskPlan.{DiskPlan}
-use Rattle.disk_model.specs.Histories.{Happening}
-use Rattle.disk_model.specs.Laws.{OwesNothing}
-use Rattle.disk_model.specs.Ledger.{ledger}
+use Rattle.hba_fbs.specs.{Status.{is_busy, wants_data}, Views.{Port, state_at, view_of}}
+use Rattle.disk_model.specs.{declared.plan.DiskPlan.DiskPlan, Histories.Happening, Laws.OwesNothing, Ledger.ledger}
 use Rattle.hba_laws.specs.Client.{Touches}
 use Rattle.hba_laws.proofs.Door.{is_own, own_here, own_in}
-use Rattle.hba_driver.specs.declared.mode.Mode.{Mode}
-use Rattle.hba_driver.specs.declared.path.Path.{Path}
-use Rattle.hba_driver.specs.declared.path.Recovery.{Recovery}
-use Rattle.hba_driver.specs.declared.path.Stage.{Stage}
-use Rattle.hba_driver.specs.declared.path.Stage.TheVariants.{AssertReset, AwaitReset, ReadLog, ReleaseReset}
-use Rattle.hba_driver.specs.declared.plan.Device.{Device}
-use Rattle.hba_driver.specs.declared.plan.Device.TheVariants.{Recovering}
-use Rattle.hba_driver.specs.declared.slot.Phase.{Phase}
+use Rattle.hba_driver.specs.declared.{mode.Mode.Mode, path.{Path.Path, Recovery.Recovery, Stage.{Stage, TheVariants.{AssertReset, AwaitReset}}}}
+use Rattle.hba_driver.specs.declared.{path.Stage.TheVariants.{ReadLog, ReleaseReset}, plan.Device.{Device, TheVariants.Recovering}, slot.Phase.Phase}
+use Rattle.hba_driver.specs.{Drivers.{Entry, device_at, entry_at, has_ended_in, is_aside_in, is_issued, waits, waits_in}, Events.shared_by}
+use Rattle.hba_driver.specs.{HostTurns.{Host, sight_in}, Orders.control, Served.IsIssueOf, Sights.sight_of, Slot30.{Asks, Cleared, Clears, Faulty}}
+use Rattle.hba_driver.specs.Slot30.{IsApart30, IsPlan30, IsSlot30, LogSent, Off, On, Sets, Stage30, is_faulty, is_resetting, path_of}
+use Rattle.hba_driver.specs.{Tended.{IsLiveAt, IsUnworked}, Turns.is_in_reset}
 use Rattle.hba_driver.specs.declared.slot.Phase.TheVariants as phase
-use Rattle.hba_driver.specs.Drivers.{Entry, device_at, entry_at, has_ended_in, is_aside_in, is_issued, waits, waits_in}
-use Rattle.hba_driver.specs.Events.{shared_by}
-use Rattle.hba_driver.specs.HostTurns.{Host, sight_in}
-use Rattle.hba_driver.specs.Orders.{control}
-use Rattle.hba_driver.specs.Served.{IsIssueOf}
-use Rattle.hba_driver.specs.Sights.{sight_of}
-use Rattle.hba_driver.specs.Slot30.{Asks, Cleared, Clears, Faulty, IsApart30, IsPlan30, IsSlot30, LogSent, Off, On, Sets, Stage30, is_faulty, is_resetting, path_of}
-use Rattle.hba_driver.specs.Tended.{IsLiveAt, IsUnworked}
-use Rattle.hba_driver.specs.Turns.{is_in_reset}
 use Rattle.hba_driver.proofs.Door.{is_alone, told_of}
 use Rattle.disk_simulation.specs.Line.{Asked, Both, Failed, Held, Line, Loose, OnLine, Releasing, Resting}
-use Rattle.disk_recovery.specs.Ends.{Apart, AreEnds, IsRunning, IsSetAside, IsTogether, Together}
-use Rattle.disk_recovery.specs.Stages.{Fits, IsIdle, Leans}
-use Rattle.world_rests.specs.Left.{IsOccupied}
-use Rattle.world_rests.specs.Out.{DiskIsFree, NoRequestIsLeft, NothingIsIssued, NothingIsOut, WorksElsewhere}
-use Rattle.world_rests.specs.Sent.{HasOther, HasQueued, Holds, InReset, IsBusy, PortWaits, WantsData}
-use Rattle.world_rests.specs.Waits.{DriverWaits, ForCommand, ForEnd, ForNobody, NeedsNothing, Waits30}
-use Rattle.world_rests.proofs.Answered.{has_told}
-use Rattle.world_rests.proofs.NothingOut.{control_kind}
-use Rattle.world_rests.proofs.Ready.{own_dev, stands_at}
+use Rattle.disk_recovery.specs.{Ends.{Apart, AreEnds, IsRunning, IsSetAside, IsTogether, Together}, Stages.{Fits, IsIdle, Leans}}
+use Rattle.world_rests.specs.{Left.IsOccupied, Out.{DiskIsFree, NoRequestIsLeft, NothingIsIssued, NothingIsOut, WorksElsewhere}, Sent.HasOther}
+use Rattle.world_rests.specs.{Sent.{HasQueued, Holds, InReset, IsBusy, PortWaits, WantsData}, Waits.{DriverWaits, ForCommand, ForEnd, ForNobody}}
+use Rattle.world_rests.specs.Waits.{NeedsNothing, Waits30}
+use Rattle.world_rests.proofs.{Answered.has_told, NothingOut.control_kind, Ready.{own_dev, stands_at}}
 
 not_both : {X : Type 0} (b : Bool) → b ≡ true → b ≡ false → X
 not_both b is not = absurd (true≢false (sym is ∙ not))

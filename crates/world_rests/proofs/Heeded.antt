@@ -1,29 +1,20 @@
 -- For `rested_ports_are_open`. A port of the multiplier that asks for attention is heeded: a notification is due, on its way, or came, or a
 -- scan of the driver is to come to the port.
-use Rattle.std.proofs.Common.{◌≡◌, ◌⊎◌, ℕ, ◌+◌, ◌<◌, ◌≤◌, ◌==◌, ◌&&◌, Bool, true, false, refl, sym, ap, subst, ◌∙◌, inl, inr, Option, Some, None, arith}
+use Rattle.std.proofs.Common.{◌≡◌, ◌⊎◌, ℕ, ◌+◌, ◌<◌, ◌≤◌, ◌==◌, ◌&&◌, Bool, true, false, refl, sym, ap, subst, ◌∙◌, inl, inr, Option, Some, None}
+use Rattle.std.proofs.{Common.arith, lemmas.Bool.{and_from, cases_Bool, cases_eq, cases_lt, false≢true, le-leb, true≢false}}
 use Rattle.std.specs.Prelude.{nat_le, nat_lt}
-use Rattle.std.proofs.lemmas.Bool.{and_from, cases_Bool, cases_eq, cases_lt, false≢true, le-leb, true≢false}
 use Rattle.fis_view.specs.Frames.{Stamped}
 use Rattle.slots.specs.Slots.{has_bit, lowest_below, match_some}
 use Rattle.slots.proofs.Door.{lowest_before, none_below}
 use Rattle.pm_registers.specs.RegisterMap.{RegisterMap, asks, notifies}
 use Rattle.multiplier.specs.Arbiter.{control_port}
-use Rattle.hba_driver.specs.declared.order.Order.{Order}
-use Rattle.hba_driver.specs.declared.order.Order.TheVariants.{AwaitSignature, Clear, CountPorts, Detect, Enable, Open, ResetOn, Scan, Watch}
-use Rattle.hba_driver.specs.declared.plan.Plan.{Plan}
-use Rattle.hba_driver.specs.Orders.{next_order, scan_from}
-use Rattle.hba_driver.specs.Seeing.{Sight}
-use Rattle.hba_driver.specs.HostTurns.{sight_in}
-use Rattle.hba_driver.specs.Slot31.{Control, IsFree31, control_in, control_of, is_off, is_on, seen_in}
-use Rattle.hba_driver.specs.Turns.{met_order, noted}
+use Rattle.hba_driver.specs.declared.order.Order.{Order, TheVariants.{AwaitSignature, Clear, CountPorts, Detect, Enable, Open, ResetOn, Scan, Watch}}
+use Rattle.hba_driver.specs.{declared.plan.Plan.Plan, Orders.{next_order, scan_from}, Seeing.Sight, HostTurns.sight_in, Slot31.{Control, IsFree31}}
+use Rattle.hba_driver.specs.{Slot31.{control_in, control_of, is_off, is_on, seen_in}, Turns.{met_order, noted}}
 use Rattle.hba_driver.proofs.Door.{either, free_seen, seen_free, seen_out, seen_unasked, told_seen}
 use Rattle.pm_world.specs.Line.{is_reply}
-use Rattle.world_rests.proofs.Notified.{is_noticed}
-use Rattle.world_rests.proofs.Ordering.{Upto}
-use Rattle.world_rests.proofs.Orders.{Among}
-use Rattle.world_rests.proofs.Saying.{never_coming, said_now}
-use Rattle.world_rests.proofs.SetUp.{IsCommand, IsComing, IsSaid, IsWell, is_asking}
-use Rattle.world_rests.proofs.Ways.{IsGood, Line}
+use Rattle.world_rests.proofs.{Notified.is_noticed, Ordering.Upto, Orders.Among, Saying.{never_coming, said_now}, SetUp.{IsCommand, IsComing, IsSaid}}
+use Rattle.world_rests.proofs.{SetUp.{IsWell, is_asking}, Ways.{IsGood, Line}}
 
 -- ---- what is to come
 

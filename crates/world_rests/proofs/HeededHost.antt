@@ -1,38 +1,27 @@
 -- For `rested_ports_are_open`. Each turn of the host leaves each port heeded that asks for attention, and so does each way.
 use Rattle.std.proofs.Common.{◌≡◌, ℕ, ◌<◌, ◌≤◌, ◌&&◌, Bool, true, false, List, [], ◌∷◌, ◌++◌, refl, sym, ap, subst, ◌∙◌, inl, inr, Some, None, arith}
 use Rattle.std.proofs.lemmas.Bool.{cases_Bool, cases_lt, eq-eqb, false≢true, true≢false}
-use Rattle.fis_view.specs.Frames.{Stamped}
-use Rattle.fis_view.specs.Seen.{seen}
+use Rattle.fis_view.specs.{Frames.Stamped, Seen.seen}
 use Rattle.host_memory.specs.Memory.{IsHostMemory, Memory}
 use Rattle.pm_registers.specs.RegisterMap.{RegisterMap, asks}
 use Rattle.multiplier.specs.Arbiter.{control_port}
-use Rattle.hba_fbs.specs.declared.report.TakeReport.{TakeReport}
-use Rattle.hba_fbs.specs.Taking.{port_of}
-use Rattle.hba_fbs.specs.Views.{view_of}
+use Rattle.hba_fbs.specs.{declared.report.TakeReport.TakeReport, Taking.port_of, Views.view_of}
 use Rattle.hba_laws.specs.Parts.{DevicePart}
-use Rattle.hba_driver.specs.declared.order.Order.{Order}
-use Rattle.hba_driver.specs.declared.order.Order.TheVariants.{Clear, Scan}
-use Rattle.hba_driver.specs.declared.plan.Plan.{Plan}
-use Rattle.hba_driver.specs.Drivers.{Driver}
-use Rattle.hba_driver.specs.HostTurns.{Does, Host, HostTurn, Polled, Pushed, Put, Submitted, Ticked, Took, sight_in}
-use Rattle.hba_driver.specs.Sights.{file_shown}
-use Rattle.hba_driver.specs.Slot31.{Anew, Control, Goes31, IsAt31, IsIn, IsUnsent, Kept, Looked, Ordered, Resets, Signs, Stage31, Turns31, Waits, control_in, control_of, has_failed, is_resetting, seen_in}
+use Rattle.hba_driver.specs.{declared.{order.Order.{Order, TheVariants.{Clear, Scan}}, plan.Plan.Plan}, Drivers.Driver, HostTurns.{Does, Host}}
+use Rattle.hba_driver.specs.{HostTurns.{HostTurn, Polled, Pushed, Put, Submitted, Ticked, Took, sight_in}, Sights.file_shown, Slot31.{Anew, Control}}
+use Rattle.hba_driver.specs.Slot31.{Goes31, IsAt31, IsIn, IsUnsent, Kept, Looked, Ordered, Resets, Signs, Stage31, Turns31, Waits, control_in}
+use Rattle.hba_driver.specs.Slot31.{control_of, has_failed, is_resetting, seen_in}
 use Rattle.hba_driver.proofs.Door.{poll_plan, tick_is}
 use Rattle.pm_world.specs.Line.{is_register, is_reply}
-use Rattle.world_rests.proofs.ControlFile.{IsCalm, recorded_answer}
-use Rattle.world_rests.proofs.Heeded.{AreHeeded, Early, HasBit, IsCleared, IsDue, IsHeeded, IsListed, IsNamed, IsNoticed, IsScanned, Notifies, clear_command, heeded_keeps, is_early, scan_command, seen_heeded}
-use Rattle.world_rests.proofs.HeededWays.{heeded_pm, hears_heeded, records_heeded, rises_heeded}
-use Rattle.world_rests.proofs.Notified.{control_heard, going_runs, is_noticed, orders_scan, pushed_noticed, ticked_noticed, took_noticed, took_notice}
-use Rattle.world_rests.proofs.Ordering.{seen_asked}
-use Rattle.world_rests.proofs.Orders.{Among}
-use Rattle.world_rests.proofs.Saying.{push_coming, push_said, push_same, push_turn, pushed_failed, then31, ticks_waits, took_coming, took_failed, took_said, took_same, turn_coming, turn_said, view_well, well_was}
-use Rattle.world_rests.proofs.Scanned.{IsDriven, scan_ordered, scan_waits}
-use Rattle.world_rests.proofs.Settled.{Notes, Says, Tells}
-use Rattle.world_rests.proofs.SetUp.{IsCommand, IsComing, IsSetUp, IsWell, Unsent, asking_of, is_asking, is_ordered, waits_of}
-use Rattle.world_rests.proofs.SetWays.{heard_by}
-use Rattle.world_rests.proofs.Summary.{asks_same}
-use Rattle.world_rests.proofs.Turning.{took_turn}
-use Rattle.world_rests.proofs.Ways.{Hears, IsGood, IsInside, Line, Pushes, Records, Rises as GoesUp, Stays, Takes, Turns, Way}
+use Rattle.world_rests.proofs.{ControlFile.{IsCalm, recorded_answer}, Heeded.{AreHeeded, Early, HasBit, IsCleared, IsDue, IsHeeded, IsListed}}
+use Rattle.world_rests.proofs.Heeded.{IsNamed, IsNoticed, IsScanned, Notifies, clear_command, heeded_keeps, is_early, scan_command, seen_heeded}
+use Rattle.world_rests.proofs.{HeededWays.{heeded_pm, hears_heeded, records_heeded, rises_heeded}, Notified.{control_heard, going_runs, is_noticed}}
+use Rattle.world_rests.proofs.{Notified.{orders_scan, pushed_noticed, ticked_noticed, took_noticed, took_notice}, Ordering.seen_asked, Orders.Among}
+use Rattle.world_rests.proofs.Saying.{push_coming, push_said, push_same, push_turn, pushed_failed, then31, ticks_waits, took_coming, took_failed}
+use Rattle.world_rests.proofs.{Saying.{took_said, took_same, turn_coming, turn_said, view_well, well_was}, Scanned.{IsDriven, scan_ordered}}
+use Rattle.world_rests.proofs.{Scanned.scan_waits, Settled.{Notes, Says, Tells}, SetUp.{IsCommand, IsComing, IsSetUp, IsWell, Unsent, asking_of}}
+use Rattle.world_rests.proofs.{SetUp.{is_asking, is_ordered, waits_of}, SetWays.heard_by, Summary.asks_same, Turning.took_turn, Ways.{Hears, IsGood}}
+use Rattle.world_rests.proofs.Ways.{IsInside, Line, Pushes, Records, Rises as GoesUp, Stays, Takes, Turns, Way}
 
 -- while the multiplier is in software reset the driver has not scanned
 reset_early : (s : Stage31) (o : Order) (asked : Bool) (part : DevicePart) → is_resetting s ≡ true → IsIn s o asked part → is_early o ≡ true

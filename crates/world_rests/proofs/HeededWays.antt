@@ -1,35 +1,26 @@
 -- For `rested_ports_are_open`. Each way of the multiplier leaves each port heeded that asks for attention.
-use Rattle.std.proofs.Common.{◌≡◌, ◌≢◌, ◌⊎◌, ℕ, ◌<◌, ◌≤◌, Bool, true, false, List, [], ◌∷◌, ◌++◌, refl, sym, ap, subst, ◌∙◌, inl, inr, Option, Some, None}
+use Rattle.std.proofs.Common.{◌≡◌, ◌≢◌, ◌⊎◌, ℕ, ◌<◌, ◌≤◌, Bool, true, false, List, [], ◌∷◌, ◌++◌, refl, sym, ap, subst, ◌∙◌, inl, inr, Option, Some}
+use Rattle.std.proofs.{Common.None, lemmas.Bool.{cases_Bool, true≢false}}
 use Rattle.std.specs.Prelude.{if◌then◌else◌, is_none}
-use Rattle.std.proofs.lemmas.Bool.{cases_Bool, true≢false}
-use Rattle.fis_view.specs.Frames.{Stamped}
-use Rattle.fis_view.specs.declared.frame.Stamp.{Stamp}
+use Rattle.fis_view.specs.{Frames.Stamped, declared.frame.Stamp.Stamp}
 use Rattle.slots.specs.Slots.{has_bit}
-use Rattle.pm_control.specs.Answers.{IsAnswer, answer_to_request, registers_after_request, value_answer}
-use Rattle.pm_control.specs.Requests.{request_in}
+use Rattle.pm_control.specs.{Answers.{IsAnswer, answer_to_request, registers_after_request, value_answer}, Requests.request_in}
 use Rattle.pm_control.specs.declared.request.Request.{Request}
 use Rattle.pm_ports.specs.Port.{came_refusal, gone_refusal}
 use Rattle.pm_registers.specs.RegisterMap.{RegisterMap, after_notice, after_write, asks, notifies, summary}
-use Rattle.multiplier.specs.Arbiter.{control_port}
-use Rattle.multiplier.specs.Between.{Answer as Answers, FromPort, Gives, Notice}
-use Rattle.multiplier.specs.Rules.{with_device as connected, without_device}
-use Rattle.multiplier.specs.State.{PmState, control_stamp, pm_port, port_at}
-use Rattle.hba_driver.specs.declared.order.Order.{Order}
-use Rattle.hba_driver.specs.declared.order.Order.TheVariants.{Clear, Detect, Scan, Watch}
-use Rattle.hba_driver.specs.Orders.{changes}
-use Rattle.hba_driver.specs.Slot31.{Control, IsLow, control_in}
-use Rattle.pm_world.specs.Rules.{recorded}
-use Rattle.pm_world.specs.declared.link.Change.{Change}
+use Rattle.multiplier.specs.{Arbiter.control_port, Between.{Answer as Answers, FromPort, Gives, Notice}, Rules.with_device as connected}
+use Rattle.multiplier.specs.{Rules.without_device, State.{PmState, control_stamp, pm_port, port_at}}
+use Rattle.hba_driver.specs.{declared.order.Order.{Order, TheVariants.{Clear, Detect, Scan, Watch}}, Orders.changes, Slot31.{Control, IsLow}}
+use Rattle.hba_driver.specs.Slot31.{control_in}
+use Rattle.pm_world.specs.{Rules.recorded, declared.link.Change.Change}
 use Rattle.pm_world.specs.declared.link.Change.TheVariants as change
-use Rattle.world_rests.proofs.Heeded.{AreHeeded, Early, HasBit, IsCleared, IsDue, IsHeeded, IsListed, IsNamed, IsNoticed, IsScanned, IsToCome, KeepsHeeded, Notifies, clear_same, clear_unasked, early_or_on, heeded_keeps, is_early, not_clear, not_scan, scan_unasked}
-use Rattle.world_rests.proofs.Ordering.{Upto, after_wish, answer_value, clears_as, wish}
-use Rattle.world_rests.proofs.Orders.{Among, among_last, among_more}
-use Rattle.world_rests.proofs.Saying.{coming_other, coming_pm, coming_risen, not_control, notice_none, said_answer, said_beside, said_other, said_pm}
-use Rattle.world_rests.proofs.SetUp.{Held, IsOfReset, IsSaid, IsSetUp, IsWell, command_of, is_ordered}
-use Rattle.world_rests.proofs.SetWays.{ByControl, ByOther, IsHeard, replies}
-use Rattle.world_rests.proofs.Setting.{put_keeps}
-use Rattle.world_rests.proofs.Summary.{AsksOn, asks_same, clear_asks, clear_due, insert_asks, names_asking, remove_asks, summary_small}
-use Rattle.world_rests.proofs.Ways.{IsGood, Line}
+use Rattle.world_rests.proofs.Heeded.{AreHeeded, Early, HasBit, IsCleared, IsDue, IsHeeded, IsListed, IsNamed, IsNoticed, IsScanned, IsToCome}
+use Rattle.world_rests.proofs.Heeded.{KeepsHeeded, Notifies, clear_same, clear_unasked, early_or_on, heeded_keeps, is_early, not_clear, not_scan}
+use Rattle.world_rests.proofs.{Heeded.scan_unasked, Ordering.{Upto, after_wish, answer_value, clears_as, wish}, Orders.{Among, among_last}}
+use Rattle.world_rests.proofs.{Orders.among_more, Saying.{coming_other, coming_pm, coming_risen, not_control, notice_none, said_answer, said_beside}}
+use Rattle.world_rests.proofs.{Saying.{said_other, said_pm}, SetUp.{Held, IsOfReset, IsSaid, IsSetUp, IsWell, command_of, is_ordered}}
+use Rattle.world_rests.proofs.{SetWays.{ByControl, ByOther, IsHeard, replies}, Setting.put_keeps, Summary.{AsksOn, asks_same, clear_asks, clear_due}}
+use Rattle.world_rests.proofs.{Summary.{insert_asks, names_asking, remove_asks, summary_small}, Ways.{IsGood, Line}}
 
 -- ---- the registers change
 

@@ -1,33 +1,23 @@
 -- For `idle_drivers_wait`. A driver that has nothing to do waits for others.
-use Rattle.std.proofs.Common.{◌≡◌, ◌⊎◌, ℕ, zero, suc, ◌<◌, Bool, true, false, List, [], ◌∷◌, length, refl, sym, ap, subst, ◌∙◌, inl, inr, Option, Some, None, arith}
-use Rattle.std.specs.Prelude.{if◌then◌else◌, ◌==◌, ◌&&◌, ◌||◌, not, is_some, nat_lt, slice_index_or}
-use Rattle.std.specs.Option.{option_map, option_or}
-use Rattle.std.proofs.lemmas.Bool.{false≢true, true≢false, ltb-false}
-use Rattle.std.proofs.lemmas.List.FromFn.{get_or-map-range_with_len}
+use Rattle.std.proofs.Common.{◌≡◌, ◌⊎◌, ℕ, zero, suc, ◌<◌, Bool, true, false, List, [], ◌∷◌, length, refl, sym, ap, subst, ◌∙◌, inl, inr, Option}
+use Rattle.std.proofs.{Common.{Some, None, arith}, lemmas.{Bool.{false≢true, true≢false, ltb-false}, List.FromFn.{get_or-map-range_with_len}}}
+use Rattle.std.specs.{Prelude.{if◌then◌else◌, ◌==◌, ◌&&◌, ◌||◌, not, is_some, nat_lt, slice_index_or}, Option.{option_map, option_or}}
 use Rattle.fis_view.specs.declared.build.H2dFields.{H2dFields}
 use Rattle.slots.specs.Slots.{has_bit, lowest_below, match_some}
 use Rattle.slots.proofs.Door.{lowest_is, none_below}
-use Rattle.hba_driver.specs.declared.mode.Mode.{Mode}
-use Rattle.hba_driver.specs.declared.mode.Mode.TheVariants.{Switching}
-use Rattle.hba_driver.specs.declared.order.Order.{Order}
-use Rattle.hba_driver.specs.declared.order.Order.TheVariants.{AwaitSignature, CountPorts, ResetOn, Scan, Watch}
-use Rattle.hba_driver.specs.declared.path.Path.{Path}
-use Rattle.hba_driver.specs.declared.path.Recovery.TheVariants.{Log, Reset}
-use Rattle.hba_driver.specs.declared.path.Stage.{Stage}
-use Rattle.hba_driver.specs.declared.path.Stage.TheVariants.{AwaitReset, Identify}
-use Rattle.hba_driver.specs.declared.plan.Device.{Device}
-use Rattle.hba_driver.specs.declared.plan.Device.TheVariants.{Recovering, Starting}
-use Rattle.hba_driver.specs.declared.plan.Plan.{Plan}
-use Rattle.hba_driver.specs.declared.request.Outcome.TheVariants.{Done}
-use Rattle.hba_driver.specs.declared.slot.Phase.{Phase}
-use Rattle.hba_driver.specs.declared.slot.Phase.TheVariants.{Waits, Ended}
+use Rattle.hba_driver.specs.declared.{mode.Mode.{Mode, TheVariants.Switching}, order.Order.{Order, TheVariants.{AwaitSignature, CountPorts, ResetOn}}}
+use Rattle.hba_driver.specs.declared.{order.Order.TheVariants.{Scan, Watch}, path.{Path.Path, Recovery.TheVariants.{Log, Reset}, Stage.Stage}}
+use Rattle.hba_driver.specs.declared.{path.Stage.TheVariants.{AwaitReset, Identify}, plan.Device.{Device, TheVariants.{Recovering, Starting}}}
+use Rattle.hba_driver.specs.declared.{plan.Plan.Plan, request.Outcome.TheVariants.Done, slot.Phase.{Phase, TheVariants.{Waits, Ended}}}
 use Rattle.hba_driver.specs.Drivers.{Driver, Entry, device_at, entry_at, holds, is_issued_in, rephase, rephase_all, rephased, waits_in}
-use Rattle.hba_driver.specs.Orders.{order_fields}
-use Rattle.hba_driver.specs.Paths.{first_stage, stage_fields}
-use Rattle.hba_driver.specs.Seeing.{Sight}
-use Rattle.hba_driver.specs.Ticks.{acts, any_done, done_ended, is_done, turn}
-use Rattle.hba_driver.specs.Turns.{advanced, allowed, answered, awaits, awaits_reset, control_news, control_seen, control_turn, device_due, device_news, device_or_request, device_seen, device_turn, early_due, fault_due, is_back, is_due, is_in_reset, is_out, is_ready, issue_of, may_issue, met, met_order, met_path, met_stage, opening_due, order_allowed, order_due, path_answered, path_due, path_met, path_news, plain_turn, request_due, restart_due, stage_due, step_of, turn_of, watches}
-use Rattle.world_rests.specs.Waits.{DriverWaits, ForAnswer, ForCommand, ForEnd, ForNobody, ForNotice, ForSignature, NeedsNothing, RequestsWait, Waits30, Waits31}
+use Rattle.hba_driver.specs.{Orders.order_fields, Paths.{first_stage, stage_fields}, Seeing.Sight, Ticks.{acts, any_done, done_ended, is_done, turn}}
+use Rattle.hba_driver.specs.Turns.{advanced, allowed, answered, awaits, awaits_reset, control_news, control_seen, control_turn, device_due}
+use Rattle.hba_driver.specs.Turns.{device_news, device_or_request, device_seen, device_turn, early_due, fault_due, is_back, is_due, is_in_reset}
+use Rattle.hba_driver.specs.Turns.{is_out, is_ready, issue_of, may_issue, met, met_order, met_path, met_stage, opening_due, order_allowed, order_due}
+use Rattle.hba_driver.specs.Turns.{path_answered, path_due, path_met, path_news, plain_turn, request_due, restart_due, stage_due, step_of, turn_of}
+use Rattle.hba_driver.specs.Turns.{watches}
+use Rattle.world_rests.specs.Waits.{DriverWaits, ForAnswer, ForCommand, ForEnd, ForNobody, ForNotice, ForSignature, NeedsNothing, RequestsWait}
+use Rattle.world_rests.specs.Waits.{Waits30, Waits31}
 
 -- ---- tests
 

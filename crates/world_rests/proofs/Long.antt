@@ -1,28 +1,17 @@
 -- For `rested_disks_have_done`. Each Data FIS that a disk sends brings 512 bytes at least.
-use Rattle.std.proofs.Common.{◌≡◌, ℕ, zero, suc, ◌+◌, ◌-◌, ◌*◌, ◌≤◌, Bool, true, false, List, [], ◌∷◌, ◌++◌, drop, length, length-append, length-drop, refl, sym, ap, subst, ◌∙◌, Option, Some, None, Ok, Err, Result, arith}
-use Rattle.std.specs.Prelude.{if◌then◌else◌, nat_le, replicate}
-use Rattle.std.proofs.lemmas.Bool.{and_parts, leb-true, true≢false}
+use Rattle.std.proofs.Common.{◌≡◌, ℕ, zero, suc, ◌+◌, ◌-◌, ◌*◌, ◌≤◌, Bool, true, false, List, [], ◌∷◌, ◌++◌, drop, length, length-append, length-drop}
+use Rattle.std.proofs.{Common.{refl, sym, ap, subst, ◌∙◌, Option, Some, None, Ok, Err, Result, arith}, lemmas.Bool.{and_parts, leb-true, true≢false}}
 use Rattle.std.proofs.lemmas.List.{length-replicate}
-use Rattle.fis_view.specs.Seen.{kind_of, may_have, seen, view_as}
-use Rattle.fis_view.specs.Table.{Activate, Bits, D2h, Data, H2d, Kind, Other, Pio, Setup}
-use Rattle.fis_view.specs.declared.view.Fis.{Fis}
+use Rattle.std.specs.Prelude.{if◌then◌else◌, nat_le, replicate}
+use Rattle.fis_view.specs.{Seen.{kind_of, may_have, seen, view_as}, Table.{Activate, Bits, D2h, Data, H2d, Kind, Other, Pio, Setup}}
+use Rattle.fis_view.specs.declared.view.{Fis.Fis, FisFault.{FisFault, TheVariants.WrongLength}}
 use Rattle.fis_view.specs.declared.view.Fis.TheVariants as view
-use Rattle.fis_view.specs.declared.view.FisFault.{FisFault}
-use Rattle.fis_view.specs.declared.view.FisFault.TheVariants.{WrongLength}
-use Rattle.disk_model.specs.declared.plan.DiskPlan.{DiskPlan}
-use Rattle.disk_model.specs.declared.answer.Answer.{Answer}
-use Rattle.disk_model.specs.declared.answer.Fault.{Fault}
-use Rattle.disk_model.specs.declared.plan.Profile.{Profile}
-use Rattle.disk_model.specs.declared.plan.Profile.TheVariants.{Bare, Stock}
-use Rattle.disk_model.specs.declared.request.Command.{Command}
-use Rattle.disk_model.specs.Between.{Agrees, IsReading, Moves, moved_sectors}
-use Rattle.disk_model.specs.Chunks.{chunk_count}
-use Rattle.disk_model.specs.Disks.{Started, Writing, opening, picked}
-use Rattle.disk_model.specs.Histories.{Happening, Sent}
-use Rattle.disk_model.specs.Laws.{CarriesNext, CarriesRight, ErrsRight, IsPage, LogsNext, MovesRight, PageRight, bytes_named}
-use Rattle.disk_model.specs.Ledger.{IdentifyData, IsSize, LogOf, Moving, Wanted, ledger}
-use Rattle.disk_model.specs.Pages.{bare_data, checksum, error_head, error_log, filled_to, profile_data, stock_data, stock_summed}
-use Rattle.disk_model.specs.Runs.{IsDiskRun, moment}
+use Rattle.disk_model.specs.declared.{plan.{DiskPlan.DiskPlan, Profile.{Profile, TheVariants.{Bare, Stock}}}, answer.{Answer.Answer, Fault.Fault}}
+use Rattle.disk_model.specs.{declared.request.Command.Command, Between.{Agrees, IsReading, Moves, moved_sectors}, Chunks.chunk_count, Disks.Started}
+use Rattle.disk_model.specs.{Disks.{Writing, opening, picked}, Histories.{Happening, Sent}, Laws.{CarriesNext, CarriesRight, ErrsRight, IsPage}}
+use Rattle.disk_model.specs.{Laws.{LogsNext, MovesRight, PageRight, bytes_named}, Ledger.{IdentifyData, IsSize, LogOf, Moving, Wanted, ledger}}
+use Rattle.disk_model.specs.{Pages.{bare_data, checksum, error_head, error_log, filled_to, profile_data, stock_data, stock_summed}, Runs.IsDiskRun}
+use Rattle.disk_model.specs.Runs.{moment}
 use Rattle.disk_model.proofs.Door.{agrees, errs_right, last_may, moves_right}
 
 abbrev pub IsLong : Result Fis FisFault → Type 0

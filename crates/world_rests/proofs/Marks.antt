@@ -1,17 +1,14 @@
 -- For `rested_plans_match`. Bits N and X of SError of a port of the multiplier, over all that changes its registers: where a device comes or
 -- goes one of them is set, and while one is set no FIS passes the port.
-use Rattle.std.proofs.Common.{◌≡◌, ◌≢◌, ◌⊎◌, ℕ, zero, suc, ◌+◌, ◌*◌, ◌%◌, ◌^◌, ◌<◌, ◌==◌, ◌&&◌, min, Bool, true, false, not, bit_and, bit_or, List, [], ◌∷◌, length, slice_index_or, refl, sym, ap, subst, ◌∙◌, inl, inr, arith, get_or-set_same, get_or-set_other}
-use Rattle.std.specs.Prelude.{if◌then◌else◌, is_some, slice_set}
-use Rattle.std.specs.Int.{bit_at}
-use Rattle.std.proofs.lemmas.Bool.{eqb-true, false≢true, ne_eqb, true≢false}
-use Rattle.std.proofs.lemmas.Nat.Bits.{bit_at_and, bit_at-lt, bit_at_or, bit_at-zero, bit_at_xor, same_from_bits}
-use Rattle.hba_driver.specs.declared.order.Order.{Order}
-use Rattle.hba_driver.specs.declared.order.Order.TheVariants.{Clear, Enable, Open, SetMask}
-use Rattle.hba_driver.specs.Orders.{changes}
-use Rattle.pm_registers.specs.Bits.{shares, without}
-use Rattle.pm_registers.specs.Port.{bit_n, bit_x, controlled, det, inserted, is_open, met, opening_port, passes, port_written, removed}
-use Rattle.pm_registers.specs.RegisterMap.{RegisterMap, after_insert, after_remove, after_write, control_written, port_at, register_at, settled, summary, with_port, written}
-use Rattle.pm_registers.specs.declared.port.PortRegisters.{PortRegisters}
+use Rattle.std.proofs.Common.{◌≡◌, ◌≢◌, ◌⊎◌, ℕ, zero, suc, ◌+◌, ◌*◌, ◌%◌, ◌^◌, ◌<◌, ◌==◌, ◌&&◌, min, Bool, true, false, not, bit_and, bit_or, List}
+use Rattle.std.proofs.Common.{[], ◌∷◌, length, slice_index_or, refl, sym, ap, subst, ◌∙◌, inl, inr, arith, get_or-set_same, get_or-set_other}
+use Rattle.std.proofs.lemmas.{Bool.{eqb-true, false≢true, ne_eqb, true≢false}, Nat.Bits.{bit_at_and, bit_at-lt, bit_at_or, bit_at-zero, bit_at_xor}}
+use Rattle.std.proofs.lemmas.Nat.Bits.{same_from_bits}
+use Rattle.std.specs.{Prelude.{if◌then◌else◌, is_some, slice_set}, Int.bit_at}
+use Rattle.hba_driver.specs.{declared.order.Order.{Order, TheVariants.{Clear, Enable, Open, SetMask}}, Orders.changes}
+use Rattle.pm_registers.specs.{Bits.{shares, without}, Port.{bit_n, bit_x, controlled, det, inserted, is_open, met, opening_port, passes}}
+use Rattle.pm_registers.specs.{Port.{port_written, removed}, RegisterMap.{RegisterMap, after_insert, after_remove, after_write, control_written}}
+use Rattle.pm_registers.specs.{RegisterMap.{port_at, register_at, settled, summary, with_port, written}, declared.port.PortRegisters.PortRegisters}
 use Rattle.pm_registers.proofs.Door.{either}
 use Rattle.world_rests.proofs.Ordering.{after_wish, clears_as}
 

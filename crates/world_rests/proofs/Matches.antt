@@ -1,66 +1,35 @@
 -- For `rested_plans_match`. Over a run what the driver takes each device to be goes with what its port shows; and in a world at rest a port
 -- shows a device exactly where one is plugged in.
-use Rattle.std.proofs.Common.{◌≡◌, ◌≢◌, ◌⊎◌, ℕ, zero, suc, ◌<◌, ◌≤◌, Bool, true, false, List, [], ◌∷◌, ◌++◌, length, replicate, slice_index_or, Option, Some, None, refl, sym, ap, subst, ◌∙◌, inl, inr, arith}
-use Rattle.std.specs.Prelude.{if◌then◌else◌, is_none, is_some, slice_get}
-use Rattle.std.proofs.lemmas.Bool.{cases_Bool, false≢true, true≢false}
+use Rattle.std.proofs.Common.{◌≡◌, ◌≢◌, ◌⊎◌, ℕ, zero, suc, ◌<◌, ◌≤◌, Bool, true, false, List, [], ◌∷◌, ◌++◌, length, replicate, slice_index_or}
+use Rattle.std.proofs.{Common.{Option, Some, None, refl, sym, ap, subst, ◌∙◌, inl, inr, arith}, lemmas.Bool.{cases_Bool, false≢true, true≢false}}
 use Rattle.std.proofs.lemmas.List.{length-replicate}
+use Rattle.std.specs.Prelude.{if◌then◌else◌, is_none, is_some, slice_get}
 use Rattle.fis_view.specs.Frames.{Stamped}
 use Rattle.port_errors.specs.declared.cause.DeviceCause.{DeviceCause}
 use Rattle.pm_control.specs.Answers.{registers_after_request}
 use Rattle.pm_ports.specs.Port.{came_refusal, gone_refusal}
-use Rattle.pm_registers.specs.Bits.{shares}
-use Rattle.pm_registers.specs.Port.{is_open, opening_port}
-use Rattle.pm_registers.specs.RegisterMap.{RegisterMap, port_at}
-use Rattle.multiplier.specs.Between.{Answer as Answers, FromPort, Gives, Notice}
-use Rattle.multiplier.specs.Rules.{with_device as connected, without_device}
-use Rattle.multiplier.specs.State.{PmState, port_at as connections_at}
-use Rattle.hba_driver.specs.declared.mode.Mode.TheVariants.{Switching}
-use Rattle.hba_driver.specs.declared.order.Order.{Order}
-use Rattle.hba_driver.specs.declared.order.Order.TheVariants.{Clear, Detect, Open}
-use Rattle.hba_driver.specs.declared.plan.Device.TheVariants.{Absent}
-use Rattle.hba_driver.specs.declared.plan.Plan.{Plan}
-use Rattle.hba_driver.specs.Drivers.{Driver, IsPath, device_at}
-use Rattle.hba_driver.specs.HostTurns.{Does, Host, HostTurn, Polled, Pushed, Put, Submitted, Ticked}
-use Rattle.hba_driver.specs.Scans.{IsFound, found}
-use Rattle.hba_driver.specs.Steady.{detects}
+use Rattle.pm_registers.specs.{Bits.shares, Port.{is_open, opening_port}, RegisterMap.{RegisterMap, port_at}}
+use Rattle.multiplier.specs.{Between.{Answer as Answers, FromPort, Gives, Notice}, Rules.{with_device as connected, without_device}, State.PmState}
+use Rattle.multiplier.specs.State.{port_at as connections_at}
+use Rattle.hba_driver.specs.declared.{mode.Mode.TheVariants.Switching, order.Order.{Order, TheVariants.{Clear, Detect, Open}}}
+use Rattle.hba_driver.specs.{declared.plan.{Device.TheVariants.Absent, Plan.Plan}, Drivers.{Driver, IsPath, device_at}, HostTurns.{Does, Host}}
+use Rattle.hba_driver.specs.{HostTurns.{HostTurn, Polled, Pushed, Put, Submitted, Ticked}, Scans.{IsFound, found}, Steady.detects}
 use Rattle.hba_driver.proofs.Door.{opens_steady, poll_plan, scans_on}
-use Rattle.pm_world.specs.Attached.{Attached}
-use Rattle.pm_world.specs.DevicePaths.{ReachedAreOrderly}
-use Rattle.pm_world.specs.Line.{OneOrderAtATime}
-use Rattle.pm_world.specs.Places.{Place, Places, is_config, new_world}
-use Rattle.pm_world.specs.PortsGoOn.{PortsGoOn}
-use Rattle.pm_world.specs.Rules.{Run, recorded}
-use Rattle.pm_world.specs.Runs.{IsReached}
-use Rattle.pm_world.specs.declared.link.Change.{Change}
+use Rattle.pm_world.specs.{Attached.Attached, DevicePaths.ReachedAreOrderly, Line.OneOrderAtATime, Places.{Place, Places, is_config, new_world}}
+use Rattle.pm_world.specs.{PortsGoOn.PortsGoOn, Rules.{Run, recorded}, Runs.IsReached, declared.{link.Change.Change, step.Answer.Answer}}
+use Rattle.pm_world.specs.declared.step.{Config.Config, Step.Step}
 use Rattle.pm_world.specs.declared.link.Change.TheVariants as change
-use Rattle.pm_world.specs.declared.step.Answer.{Answer}
-use Rattle.pm_world.specs.declared.step.Config.{Config}
-use Rattle.pm_world.specs.declared.step.Step.{Step}
-use Rattle.world_rests.specs.Laws.{RestedHaveDone}
-use Rattle.world_rests.specs.Matches.{IsPlugged, RestedPlansMatch}
-use Rattle.world_rests.specs.Opens.{MultiplierIsSet, RestedPortsAreOpen}
-use Rattle.world_rests.specs.Rests.{PortRests}
-use Rattle.world_rests.specs.Watches.{RestedDriversWatch}
-use Rattle.world_rests.proofs.Comings.{Of, all, known, known_reached}
-use Rattle.world_rests.proofs.ControlFile.{keeps_calm, recorded_answer}
-use Rattle.world_rests.proofs.Frank.{IsOfPort, is_well, keeps_frank}
-use Rattle.world_rests.proofs.Marks.{AllMarkOn, AreShut, IsShut, all_same, insert_marks, insert_shut, is_marked, marks_same, remove_marks, remove_shut, shut_same, wish_shut}
-use Rattle.world_rests.proofs.Matching.{IsHeld, IsMatched, clear_sought, detect_low, hears_matched, pm_matched, rises_matched}
-use Rattle.world_rests.proofs.MatchingHost.{inside_matched, pushes_matched, takes_matched, ticks_found, ticks_matched, ticks_sought}
-use Rattle.world_rests.proofs.Nothing.{HasNothing, nothing_open, nothing_turn, nothing_worked}
-use Rattle.world_rests.proofs.Ordering.{AreOpen, IsOn, Upto}
-use Rattle.world_rests.proofs.Orders.{Among}
-use Rattle.world_rests.proofs.Parts.{get_below, get_there}
-use Rattle.world_rests.proofs.Present.{shows_all}
-use Rattle.world_rests.proofs.Saying.{then31}
-use Rattle.world_rests.proofs.SetHost.{keeps_set}
-use Rattle.world_rests.proofs.SetUp.{IsCommand, IsOfReset, IsSetUp, command_of, is_ordered}
-use Rattle.world_rests.proofs.SetWays.{ByControl, ByOther, IsHeard, heard_by}
-use Rattle.world_rests.proofs.Setting.{IsShape, ShowsIt}
-use Rattle.world_rests.proofs.Turning.{took_turn}
-use Rattle.world_rests.proofs.Watched.{opening_calm}
-use Rattle.world_rests.proofs.Ways.{Hears, IsGood, IsInside, Line, Pushes, Records, Rises, Stays, Takes, Turns, Way, good, kept_by, line_of}
-use Rattle.world_rests.proofs.Well.{well_in}
+use Rattle.world_rests.specs.{Laws.RestedHaveDone, Matches.{IsPlugged, RestedPlansMatch}, Opens.{MultiplierIsSet, RestedPortsAreOpen}}
+use Rattle.world_rests.specs.{Rests.PortRests, Watches.RestedDriversWatch}
+use Rattle.world_rests.proofs.{Comings.{Of, all, known, known_reached}, ControlFile.{keeps_calm, recorded_answer}, Frank.{IsOfPort, is_well}}
+use Rattle.world_rests.proofs.{Frank.keeps_frank, Marks.{AllMarkOn, AreShut, IsShut, all_same, insert_marks, insert_shut, is_marked, marks_same}}
+use Rattle.world_rests.proofs.{Marks.{remove_marks, remove_shut, shut_same, wish_shut}, Matching.{IsHeld, IsMatched, clear_sought, detect_low}}
+use Rattle.world_rests.proofs.{Matching.{hears_matched, pm_matched, rises_matched}, MatchingHost.{inside_matched, pushes_matched, takes_matched}}
+use Rattle.world_rests.proofs.{MatchingHost.{ticks_found, ticks_matched, ticks_sought}, Nothing.{HasNothing, nothing_open, nothing_turn}}
+use Rattle.world_rests.proofs.{Nothing.nothing_worked, Ordering.{AreOpen, IsOn, Upto}, Orders.Among, Parts.{get_below, get_there}, Present.shows_all}
+use Rattle.world_rests.proofs.{Saying.then31, SetHost.keeps_set, SetUp.{IsCommand, IsOfReset, IsSetUp, command_of, is_ordered}, SetWays.ByControl}
+use Rattle.world_rests.proofs.{SetWays.{ByOther, IsHeard, heard_by}, Setting.{IsShape, ShowsIt}, Turning.took_turn, Watched.opening_calm, Ways.Hears}
+use Rattle.world_rests.proofs.{Ways.{IsGood, IsInside, Line, Pushes, Records, Rises, Stays, Takes, Turns, Way, good, kept_by, line_of}, Well.well_in}
 
 -- ---- what each way keeps
 

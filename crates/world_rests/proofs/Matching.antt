@@ -1,45 +1,26 @@
 -- For `rested_plans_match`. What the driver takes a device to be, against what its port of the multiplier shows. Each way of the multiplier keeps it.
-use Rattle.std.proofs.Common.{◌≡◌, ◌≢◌, ◌⊎◌, ℕ, ◌<◌, ◌≤◌, ◌==◌, ◌&&◌, Bool, true, false, List, [], ◌∷◌, ◌++◌, slice_index_or, refl, sym, ap, subst, ◌∙◌, inl, inr, Option, Some, None, arith}
+use Rattle.std.proofs.Common.{◌≡◌, ◌≢◌, ◌⊎◌, ℕ, ◌<◌, ◌≤◌, ◌==◌, ◌&&◌, Bool, true, false, List, [], ◌∷◌, ◌++◌, slice_index_or, refl, sym, ap, subst}
+use Rattle.std.proofs.{Common.{◌∙◌, inl, inr, Option, Some, None, arith}, lemmas.Bool.{cases_Bool, cases_eq, eq-eqb, eqb-true, true≢false}}
 use Rattle.std.specs.Prelude.{Result}
-use Rattle.std.proofs.lemmas.Bool.{cases_Bool, cases_eq, eq-eqb, eqb-true, true≢false}
-use Rattle.fis_view.specs.Frames.{Stamped}
-use Rattle.fis_view.specs.Seen.{seen}
-use Rattle.fis_view.specs.declared.frame.Stamp.{Stamp}
+use Rattle.fis_view.specs.{Frames.Stamped, Seen.seen, declared.frame.Stamp.Stamp}
 use Rattle.hba_laws.specs.Parts.{DevicePart}
-use Rattle.pm_control.specs.Answers.{IsAnswer, answer_to_request, read_answer, registers_after_request, value_answer}
-use Rattle.pm_control.specs.Requests.{request_in}
+use Rattle.pm_control.specs.{Answers.{IsAnswer, answer_to_request, read_answer, registers_after_request, value_answer}, Requests.request_in}
 use Rattle.pm_control.specs.declared.request.Request.{Request}
-use Rattle.pm_registers.specs.Port.{det, is_open, opening_port, passes}
-use Rattle.pm_registers.specs.RegisterMap.{RegisterMap, port_at}
-use Rattle.pm_registers.specs.declared.port.PortRegisters.{PortRegisters}
-use Rattle.pm_registers.specs.declared.words.RegisterError.{RegisterError}
-use Rattle.multiplier.specs.Arbiter.{control_port}
-use Rattle.multiplier.specs.Between.{Answer as Answers, FromPort, Gives, Notice}
-use Rattle.multiplier.specs.State.{PmState, control_stamp, pm_port}
-use Rattle.hba_driver.specs.declared.order.Order.{Order}
-use Rattle.hba_driver.specs.declared.order.Order.TheVariants.{Clear, Detect, Scan}
-use Rattle.hba_driver.specs.declared.plan.Device.TheVariants.{Absent}
-use Rattle.hba_driver.specs.declared.plan.Plan.{Plan}
-use Rattle.hba_driver.specs.Drivers.{device_at}
-use Rattle.hba_driver.specs.Scans.{IsFound, is_scan}
-use Rattle.hba_driver.specs.Sights.{answer_in}
-use Rattle.hba_driver.specs.Slot31.{Asks, IsIn, IsLow, Resets, Signs, Stage31, Waits, control_of, is_off, is_on}
-use Rattle.hba_driver.specs.Steady.{detects}
-use Rattle.hba_driver.specs.Turns.{is_there}
+use Rattle.pm_registers.specs.{Port.{det, is_open, opening_port, passes}, RegisterMap.{RegisterMap, port_at}}
+use Rattle.pm_registers.specs.declared.{port.PortRegisters.PortRegisters, words.RegisterError.RegisterError}
+use Rattle.multiplier.specs.{Arbiter.control_port, Between.{Answer as Answers, FromPort, Gives, Notice}, State.{PmState, control_stamp, pm_port}}
+use Rattle.hba_driver.specs.declared.{order.Order.{Order, TheVariants.{Clear, Detect, Scan}}, plan.{Device.TheVariants.Absent, Plan.Plan}}
+use Rattle.hba_driver.specs.{Drivers.device_at, Scans.{IsFound, is_scan}, Sights.answer_in, Slot31.{Asks, IsIn, IsLow, Resets, Signs, Stage31, Waits}}
+use Rattle.hba_driver.specs.{Slot31.{control_of, is_off, is_on}, Steady.detects, Turns.is_there}
 use Rattle.pm_world.specs.Line.{NoneDown, OnLine}
-use Rattle.world_rests.proofs.ControlFile.{IsCalm}
-use Rattle.world_rests.proofs.Frank.{NoneFails, at_low, is_well}
-use Rattle.world_rests.proofs.Heeded.{scan_command}
-use Rattle.world_rests.proofs.Marks.{AreShut, ClearsOne, MarksOn, is_marked, marks_same, passes_parts, wish_clears, wish_marks}
-use Rattle.world_rests.proofs.Named.{IsMarked, IsNamed, found_beside, marked_on, named_other, named_pm, named_scan, none_more, not_scanning, passes_of, risen_forwards, rises_named, slot31}
-use Rattle.world_rests.proofs.Nothing.{HasNothing, nothing_pm}
-use Rattle.world_rests.proofs.Ordering.{AreOpen, IsOn, Upto, after_wish, answer_value, wish, wish_shape}
-use Rattle.world_rests.proofs.Orders.{Among, none_down}
-use Rattle.world_rests.proofs.Saying.{coming_other, coming_pm, coming_risen, not_control, notice_none, said_answer, said_beside, said_other, said_pm}
-use Rattle.world_rests.proofs.SetUp.{Came, Falls, Held, IsCommand, IsComing, IsOfReset, IsSaid, IsSetUp, Rises, Unsent, asking_of, command_of, is_ordered, waits_by}
-use Rattle.world_rests.proofs.SetWays.{ByControl, ByOther, IsHeard, replies}
-use Rattle.world_rests.proofs.Setting.{IsShape}
-use Rattle.world_rests.proofs.Ways.{IsGood, Line}
+use Rattle.world_rests.proofs.{ControlFile.IsCalm, Frank.{NoneFails, at_low, is_well}, Heeded.scan_command, Marks.{AreShut, ClearsOne, MarksOn}}
+use Rattle.world_rests.proofs.{Marks.{is_marked, marks_same, passes_parts, wish_clears, wish_marks}, Named.{IsMarked, IsNamed, found_beside}}
+use Rattle.world_rests.proofs.Named.{marked_on, named_other, named_pm, named_scan, none_more, not_scanning, passes_of, risen_forwards, rises_named}
+use Rattle.world_rests.proofs.{Named.slot31, Nothing.{HasNothing, nothing_pm}, Ordering.{AreOpen, IsOn, Upto, after_wish, answer_value, wish}}
+use Rattle.world_rests.proofs.{Ordering.wish_shape, Orders.{Among, none_down}, Saying.{coming_other, coming_pm, coming_risen, not_control}}
+use Rattle.world_rests.proofs.{Saying.{notice_none, said_answer, said_beside, said_other, said_pm}, SetUp.{Came, Falls, Held, IsCommand, IsComing}}
+use Rattle.world_rests.proofs.{SetUp.{IsOfReset, IsSaid, IsSetUp, Rises, Unsent, asking_of, command_of, is_ordered, waits_by}, SetWays.ByControl}
+use Rattle.world_rests.proofs.{SetWays.{ByOther, IsHeard, replies}, Setting.IsShape, Ways.{IsGood, Line}}
 
 -- ---- what holds of a port
 

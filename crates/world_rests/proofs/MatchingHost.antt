@@ -1,39 +1,28 @@
 -- For `rested_plans_match`. Each turn of the host keeps what the driver takes a device to be, against what its port shows.
 use Rattle.std.proofs.Common.{◌≡◌, ◌≢◌, ◌⊎◌, ℕ, ◌<◌, Bool, true, false, List, [], ◌∷◌, ◌++◌, refl, sym, ap, subst, ◌∙◌, inl, inr, Some, None, arith}
-use Rattle.std.specs.Prelude.{if◌then◌else◌, is_some}
 use Rattle.std.proofs.lemmas.Bool.{cases_Bool, cases_eq, eqb-true, false≢true, true≢false}
+use Rattle.std.specs.Prelude.{if◌then◌else◌, is_some}
 use Rattle.fis_view.specs.Frames.{Stamped}
 use Rattle.slots.specs.Slots.{has_bit}
 use Rattle.pm_registers.specs.RegisterMap.{RegisterMap, port_at}
 use Rattle.multiplier.specs.State.{PmState, pm_port}
 use Rattle.hba_fbs.specs.declared.report.TakeReport.{TakeReport}
-use Rattle.hba_driver.specs.declared.order.Order.{Order}
-use Rattle.hba_driver.specs.declared.order.Order.TheVariants.{Clear, Detect, ResetOff, ResetOn}
-use Rattle.hba_driver.specs.declared.plan.Device.{Device}
-use Rattle.hba_driver.specs.declared.plan.Device.TheVariants.{Absent, Ready, Recovering, Starting, Unusable}
-use Rattle.hba_driver.specs.declared.plan.Plan.{Plan}
-use Rattle.hba_driver.specs.Drivers.{Driver, device_at}
-use Rattle.hba_driver.specs.HostTurns.{Does, Host, HostTurn, Pushed, Ticked, Took, sight_in}
-use Rattle.hba_driver.specs.Scans.{IsFound, ScansOn, found}
-use Rattle.hba_driver.specs.Seeing.{Sight}
-use Rattle.hba_driver.specs.Slot31.{Anew, Asks, Control, Follows31, Goes31, IsAt31, IsFree31, IsIn, Kept, Looked, Ordered, Resets, Rests, Stage31, TicksOn, Turns31, Waits, control_in, control_of, is_idle, orders_clear}
-use Rattle.hba_driver.specs.Steady.{detects}
-use Rattle.hba_driver.specs.Turns.{control_seen, detected, found_there, is_there}
+use Rattle.hba_driver.specs.declared.{order.Order.{Order, TheVariants.{Clear, Detect, ResetOff, ResetOn}}, plan.Device.{Device, TheVariants.Absent}}
+use Rattle.hba_driver.specs.{declared.plan.{Device.TheVariants.{Ready, Recovering, Starting, Unusable}, Plan.Plan}, Drivers.{Driver, device_at}}
+use Rattle.hba_driver.specs.{HostTurns.{Does, Host, HostTurn, Pushed, Ticked, Took, sight_in}, Scans.{IsFound, ScansOn, found}, Seeing.Sight}
+use Rattle.hba_driver.specs.Slot31.{Anew, Asks, Control, Follows31, Goes31, IsAt31, IsFree31, IsIn, Kept, Looked, Ordered, Resets, Rests, Stage31}
+use Rattle.hba_driver.specs.{Slot31.{TicksOn, Turns31, Waits, control_in, control_of, is_idle, orders_clear}, Steady.detects, Turns.control_seen}
+use Rattle.hba_driver.specs.Turns.{detected, found_there, is_there}
 use Rattle.hba_driver.proofs.Door.{free_seen, scans_on, told_seen}
 use Rattle.pm_world.specs.Line.{NoneUp}
-use Rattle.world_rests.proofs.ControlFile.{among_either}
-use Rattle.world_rests.proofs.Marks.{is_marked}
-use Rattle.world_rests.proofs.Matching.{Agrees, IsHeld, IsMatched, IsShown, IsTaken, IsTakenAt, clear_sought, detect_command, detect_low, detect_open, not_detect}
-use Rattle.world_rests.proofs.Named.{IsMarked, IsNamed, IsScanning, NoneOf, slot31, takes_named, turns_named, unsent_clear}
-use Rattle.world_rests.proofs.Nothing.{Early, HasNothing, Late, Moves, flush_nothing, moves, nothing_turn, tick_nothing, within}
-use Rattle.world_rests.proofs.Heeded.{not_clear, not_scan}
-use Rattle.world_rests.proofs.Ordering.{seen_asked}
-use Rattle.world_rests.proofs.Orders.{Among}
-use Rattle.world_rests.proofs.Saying.{never_coming, push_coming, push_port, push_said, push_same, push_turn, said_now, then31, ticks_waits, took_coming, took_said, turn_coming, turn_said}
-use Rattle.world_rests.proofs.SetUp.{Falls, IsCommand, IsComing, IsSaid, IsWell, Unsent, asking_of, is_ordered, waits_by, waits_of}
-use Rattle.world_rests.proofs.Sought.{Looks, Same, Told, seen_detects, seen_looks}
-use Rattle.world_rests.proofs.Unfaulted.{turn_none}
-use Rattle.world_rests.proofs.Ways.{IsGood, IsInside, Line}
+use Rattle.world_rests.proofs.{ControlFile.among_either, Marks.is_marked, Matching.{Agrees, IsHeld, IsMatched, IsShown, IsTaken, IsTakenAt}}
+use Rattle.world_rests.proofs.{Matching.{clear_sought, detect_command, detect_low, detect_open, not_detect}, Named.{IsMarked, IsNamed, IsScanning}}
+use Rattle.world_rests.proofs.{Named.{NoneOf, slot31, takes_named, turns_named, unsent_clear}, Nothing.{Early, HasNothing, Late, Moves}}
+use Rattle.world_rests.proofs.{Nothing.{flush_nothing, moves, nothing_turn, tick_nothing, within}, Heeded.{not_clear, not_scan}, Ordering.seen_asked}
+use Rattle.world_rests.proofs.{Orders.Among, Saying.{never_coming, push_coming, push_port, push_said, push_same, push_turn, said_now, then31}}
+use Rattle.world_rests.proofs.{Saying.{ticks_waits, took_coming, took_said, turn_coming, turn_said}, SetUp.{Falls, IsCommand, IsComing, IsSaid}}
+use Rattle.world_rests.proofs.{SetUp.{IsWell, Unsent, asking_of, is_ordered, waits_by, waits_of}, Sought.{Looks, Same, Told, seen_detects}}
+use Rattle.world_rests.proofs.{Sought.seen_looks, Unfaulted.turn_none, Ways.{IsGood, IsInside, Line}}
 
 -- ---- a turn that leaves the plan
 

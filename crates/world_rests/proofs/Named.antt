@@ -1,44 +1,27 @@
 -- For `rested_plans_match`. A port that the answer to a scan names is marked until it is cleared, and no frame of it comes: those that went up
 -- before the answer come before it, and none goes up while the port is marked.
-use Rattle.std.proofs.Common.{◌≡◌, ◌≢◌, ◌⊎◌, ℕ, zero, suc, ◌+◌, ◌-◌, ◌*◌, ◌%◌, ◌^◌, ◌<◌, ◌≤◌, ◌==◌, ◌&&◌, ◌||◌, Bool, true, false, List, [], ◌∷◌, ◌++◌, refl, sym, ap, subst, ◌∙◌, inl, inr, Option, Some, None, arith}
-use Rattle.std.specs.Prelude.{if◌then◌else◌, nat_lt}
-use Rattle.std.specs.Int.{bit_at}
-use Rattle.std.proofs.lemmas.Bool.{and_parts, cases_Bool, cases_lt, false≢true, ltb-true, true≢false}
-use Rattle.std.proofs.lemmas.Nat.Bits.{bit_at_above, bit_at_cat_high, bit_at_cat_low, bit_at_lowest}
-use Rattle.fis_view.specs.Frames.{Stamped}
-use Rattle.fis_view.specs.Seen.{seen}
-use Rattle.fis_view.specs.declared.frame.Stamp.{Stamp}
+use Rattle.std.proofs.Common.{◌≡◌, ◌≢◌, ◌⊎◌, ℕ, zero, suc, ◌+◌, ◌-◌, ◌*◌, ◌%◌, ◌^◌, ◌<◌, ◌≤◌, ◌==◌, ◌&&◌, ◌||◌, Bool, true, false, List, [], ◌∷◌}
+use Rattle.std.proofs.{Common.{◌++◌, refl, sym, ap, subst, ◌∙◌, inl, inr, Option, Some, None, arith}, lemmas.Bool.{and_parts, cases_Bool, cases_lt}}
+use Rattle.std.proofs.lemmas.{Bool.{false≢true, ltb-true, true≢false}, Nat.Bits.{bit_at_above, bit_at_cat_high, bit_at_cat_low, bit_at_lowest}}
+use Rattle.std.specs.{Prelude.{if◌then◌else◌, nat_lt}, Int.bit_at}
+use Rattle.fis_view.specs.{Frames.Stamped, Seen.seen, declared.frame.Stamp.Stamp}
 use Rattle.slots.specs.Slots.{has_bit, own_issue}
 use Rattle.pm_control.specs.Answers.{IsAnswer, answer_to_request}
 use Rattle.pm_ports.specs.Port.{only_if, rises as rises_from}
-use Rattle.pm_registers.specs.Bits.{bits_where, shares}
-use Rattle.pm_registers.specs.Port.{passes}
-use Rattle.pm_registers.specs.RegisterMap.{RegisterMap, after_notice, asks, forwards, port_at, summary}
+use Rattle.pm_registers.specs.{Bits.{bits_where, shares}, Port.passes, RegisterMap.{RegisterMap, after_notice, asks, forwards, port_at, summary}}
 use Rattle.pm_registers.proofs.Door.{bits_where_fits}
-use Rattle.multiplier.specs.Arbiter.{control_port}
-use Rattle.multiplier.specs.Between.{Answer as Answers, FromPort, Gives, Notice}
-use Rattle.multiplier.specs.State.{PmState, control_stamp, held}
+use Rattle.multiplier.specs.{Arbiter.control_port, Between.{Answer as Answers, FromPort, Gives, Notice}, State.{PmState, control_stamp, held}}
 use Rattle.multiplier.specs.State as state
 use Rattle.hba_fbs.specs.declared.report.TakeReport.{TakeReport}
-use Rattle.hba_driver.specs.declared.order.Order.{Order}
-use Rattle.hba_driver.specs.declared.order.Order.TheVariants.{Clear, Scan}
-use Rattle.hba_driver.specs.HostTurns.{Does, Host, HostTurn, Took}
-use Rattle.hba_driver.specs.Orders.{changes}
-use Rattle.hba_driver.specs.Scans.{Finds, IsFound, ScansOn, found, is_left, is_scan, tells}
-use Rattle.hba_driver.specs.Sights.{answer_in}
-use Rattle.hba_driver.specs.Slot31.{Asks, Control, IsIn, IsUnsent, Resets, Signs, Stage31, Turns31, control_in, control_of}
+use Rattle.hba_driver.specs.{declared.order.Order.{Order, TheVariants.{Clear, Scan}}, HostTurns.{Does, Host, HostTurn, Took}, Orders.changes}
+use Rattle.hba_driver.specs.{Scans.{Finds, IsFound, ScansOn, found, is_left, is_scan, tells}, Sights.answer_in, Slot31.{Asks, Control, IsIn}}
+use Rattle.hba_driver.specs.Slot31.{IsUnsent, Resets, Signs, Stage31, Turns31, control_in, control_of}
 use Rattle.hba_driver.proofs.Door.{scans_on}
 use Rattle.hba_laws.specs.Parts.{DevicePart}
 use Rattle.pm_world.specs.Line.{NoneUp, OnLine, is_register, is_reply}
-use Rattle.world_rests.proofs.ControlFile.{IsCalm, among_either}
-use Rattle.world_rests.proofs.Marks.{AreShut, is_marked}
-use Rattle.world_rests.proofs.Ordering.{answer_value, wish}
-use Rattle.world_rests.proofs.Orders.{Among}
-use Rattle.world_rests.proofs.Saying.{not_control, notice_none, took_same}
-use Rattle.world_rests.proofs.SetUp.{sent_not}
-use Rattle.world_rests.proofs.Slot31.{none_there}
-use Rattle.world_rests.proofs.Summary.{summary_small}
-use Rattle.world_rests.proofs.Ways.{IsGood, Line}
+use Rattle.world_rests.proofs.{ControlFile.{IsCalm, among_either}, Marks.{AreShut, is_marked}, Ordering.{answer_value, wish}, Orders.Among}
+use Rattle.world_rests.proofs.{Saying.{not_control, notice_none, took_same}, SetUp.sent_not, Slot31.none_there, Summary.summary_small, Ways.IsGood}
+use Rattle.world_rests.proofs.Ways.{Line}
 
 -- ---- the bits of GSCR[32]
 

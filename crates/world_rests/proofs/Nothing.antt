@@ -1,33 +1,21 @@
 -- For `rested_plans_match`. A device of which the driver has nothing: over each turn of the host, and as its port is cleared.
 use Rattle.std.proofs.Common.{◌≡◌, ◌≢◌, ◌⊎◌, ℕ, ◌<◌, Bool, true, false, List, length, refl, sym, ap, subst, ◌∙◌, inl, inr, Some, arith}
-use Rattle.std.specs.Prelude.{if◌then◌else◌, is_some, nat_lt}
 use Rattle.std.proofs.lemmas.Bool.{cases_eq, true≢false}
+use Rattle.std.specs.Prelude.{if◌then◌else◌, is_some, nat_lt}
 use Rattle.fis_view.specs.Frames.{Stamped}
 use Rattle.slots.specs.Slots.{has_bit}
 use Rattle.multiplier.specs.State.{PmState}
 use Rattle.hba_fbs.specs.Views.{view_of}
-use Rattle.hba_driver.specs.declared.mode.Mode.TheVariants.{Switching}
-use Rattle.hba_driver.specs.declared.order.Order.TheVariants.{Clear, Detect}
-use Rattle.hba_driver.specs.declared.path.TaskFile.{TaskFile}
-use Rattle.hba_driver.specs.declared.plan.Device.TheVariants.{Absent, Ready, Starting}
-use Rattle.hba_driver.specs.declared.plan.Plan.{Plan}
-use Rattle.hba_driver.specs.Between.{MayClear, MayEnd}
-use Rattle.hba_driver.specs.Drivers.{Driver, Entry, device_at, entry_at, has_ended}
-use Rattle.hba_driver.specs.Going.{leaves_port}
-use Rattle.hba_driver.specs.HostTurns.{Does, Host, HostTurn, Ticked, sight_in}
-use Rattle.hba_driver.specs.Seeing.{Sight}
-use Rattle.hba_driver.specs.Sights.{file_shown}
-use Rattle.hba_driver.specs.Slot31.{orders_clear}
-use Rattle.hba_driver.specs.Steady.{IsCalmAct, IsFlushTick, IsSteady, IsSteadyTurn}
-use Rattle.hba_driver.specs.Tended.{IsUnworked}
-use Rattle.hba_driver.specs.Ticks.{due, from_reset, recovering}
-use Rattle.hba_driver.specs.Turns.{control_seen, early_due, found_there, is_there}
+use Rattle.hba_driver.specs.declared.{mode.Mode.TheVariants.Switching, order.Order.TheVariants.{Clear, Detect}, path.TaskFile.TaskFile}
+use Rattle.hba_driver.specs.{declared.plan.{Device.TheVariants.{Absent, Ready, Starting}, Plan.Plan}, Between.{MayClear, MayEnd}, Drivers.Driver}
+use Rattle.hba_driver.specs.{Drivers.{Entry, device_at, entry_at, has_ended}, Going.leaves_port, HostTurns.{Does, Host, HostTurn, Ticked, sight_in}}
+use Rattle.hba_driver.specs.{Seeing.Sight, Sights.file_shown, Slot31.orders_clear, Steady.{IsCalmAct, IsFlushTick, IsSteady, IsSteadyTurn}}
+use Rattle.hba_driver.specs.{Tended.IsUnworked, Ticks.{due, from_reset, recovering}, Turns.{control_seen, early_due, found_there, is_there}}
 use Rattle.hba_driver.proofs.Door.{act_clears, cleared_faulty, flush_steady, goes_on, may_end, ticks_serve, turn_steady}
-use Rattle.world_rests.proofs.Frank.{NoneFails}
-use Rattle.world_rests.proofs.Named.{NoneOf}
-use Rattle.world_rests.proofs.Sought.{Cleared, First, Firsts, Kept, Last, Lasts, Leaves, Left, Looks, Makes, Ordered, Same, Stopped, Told, cleared_is, late_faulty, ordered_device, ordered_order, recovering_other, recovering_there, seen_looks, seen_path, tick_makes}
-use Rattle.world_rests.proofs.Unfaulted.{IsBeside, IsUnfaulted, none_faulty, turn_none}
-use Rattle.world_rests.proofs.Ways.{IsGood, Line}
+use Rattle.world_rests.proofs.{Frank.NoneFails, Named.NoneOf, Sought.{Cleared, First, Firsts, Kept, Last, Lasts, Leaves, Left, Looks, Makes, Ordered}}
+use Rattle.world_rests.proofs.Sought.{Same, Stopped, Told, cleared_is, late_faulty, ordered_device, ordered_order, recovering_other, recovering_there}
+use Rattle.world_rests.proofs.{Sought.{seen_looks, seen_path, tick_makes}, Unfaulted.{IsBeside, IsUnfaulted, none_faulty, turn_none}, Ways.IsGood}
+use Rattle.world_rests.proofs.Ways.{Line}
 
 -- It is taken to be absent, slot 30 does not work on it, each request of it has ended, it has no fault at the port, and no frame of it comes.
 pub record HasNothing (n : ℕ) (l : Line) : Type 0 where

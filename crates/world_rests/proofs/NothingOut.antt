@@ -1,54 +1,31 @@
 -- For `rested_disks_are_left`. Where nothing is on its way between a disk and its host, and the disk owes nothing, no command is with
 -- the disk.
 use Rattle.std.proofs.Common.{◌≡◌, ℕ, ◌<◌, Bool, true, false, List, [], ◌∷◌, ◌++◌, refl, sym, ap, subst, ◌∙◌, inl, inr, Option, Some, None, arith}
-use Rattle.std.specs.Prelude.{is_some}
-use Rattle.std.specs.Option.{option_map}
 use Rattle.std.proofs.lemmas.Bool.{false≢true, true≢false}
+use Rattle.std.specs.{Prelude.is_some, Option.option_map}
 use Rattle.port_errors.specs.Errors.{cause_of}
-use Rattle.slots.specs.Data.{payload}
-use Rattle.slots.specs.Slots.{Issue, context_of, is_control, issue_at, own_issue}
-use Rattle.slots.specs.Table.{IsIssue}
-use Rattle.slots.specs.Work.{is_queued}
-use Rattle.slots.specs.declared.work.Kind.TheVariants.{Control}
-use Rattle.slots.specs.declared.work.Work.{Work}
-use Rattle.hba_commands.specs.Requests.{request_of, work_of}
-use Rattle.hba_commands.specs.declared.command.Command.{Command}
+use Rattle.slots.specs.{Data.payload, Slots.{Issue, context_of, is_control, issue_at, own_issue}, Table.IsIssue, Work.is_queued}
+use Rattle.slots.specs.declared.work.{Kind.TheVariants.Control, Work.Work}
+use Rattle.hba_commands.specs.{Requests.{request_of, work_of}, declared.command.Command.Command}
 use Rattle.hba_fbs.specs.Views.{last_command, view_of}
-use Rattle.disk_model.specs.declared.plan.DiskPlan.{DiskPlan}
-use Rattle.disk_model.specs.Histories.{Happening}
-use Rattle.disk_model.specs.Laws.{OwesNothing}
-use Rattle.disk_model.specs.Ledger.{ledger}
-use Rattle.hba_laws.specs.Agreement.{IssueAgrees, work_of_issue}
-use Rattle.hba_laws.specs.Client.{Touches, own}
-use Rattle.hba_laws.specs.History.{issued}
+use Rattle.disk_model.specs.{declared.plan.DiskPlan.DiskPlan, Histories.Happening, Laws.OwesNothing, Ledger.ledger}
+use Rattle.hba_laws.specs.{Agreement.{IssueAgrees, work_of_issue}, Client.{Touches, own}, History.issued}
 use Rattle.hba_laws.proofs.Door.{is_own}
-use Rattle.hba_driver.specs.declared.path.Path.{Path}
-use Rattle.hba_driver.specs.declared.path.Stage.{Stage}
-use Rattle.hba_driver.specs.declared.path.Stage.TheVariants.{AssertReset, AwaitReset, Identify, ReadLog, ReleaseReset}
+use Rattle.hba_driver.specs.declared.path.{Path.Path, Stage.{Stage, TheVariants.{AssertReset, AwaitReset, Identify, ReadLog, ReleaseReset}}}
+use Rattle.hba_driver.specs.{Drivers.Entry, Events.shared_by, HostTurns.Host, Orders.{control, identify_fields, log_fields, request_fields}}
+use Rattle.hba_driver.specs.{Orders.work_fields, Paths.stage_fields, Served.{IsFisOf, IsIssueOf, IsRequest, IsStep}, Slot30.{Asks, Clears, Faulty}}
+use Rattle.hba_driver.specs.{Slot30.{IsSlot30, LogSent, Sets, Stage30, is_faulty}, Tended.{Awaits, Fine, Identifies, IsTendedBy, Logs, Releases}}
+use Rattle.hba_driver.specs.Tended.{Spoilt}
 use Rattle.hba_driver.specs.declared.request.Work as driver_work
 use Rattle.hba_driver.specs.declared.request.Work.TheVariants as work
-use Rattle.hba_driver.specs.Drivers.{Entry}
-use Rattle.hba_driver.specs.Events.{shared_by}
-use Rattle.hba_driver.specs.HostTurns.{Host}
-use Rattle.hba_driver.specs.Orders.{control, identify_fields, log_fields, request_fields, work_fields}
 use Rattle.hba_driver.specs.Orders as order
-use Rattle.hba_driver.specs.Paths.{stage_fields}
-use Rattle.hba_driver.specs.Served.{IsFisOf, IsIssueOf, IsRequest, IsStep}
-use Rattle.hba_driver.specs.Slot30.{Asks, Clears, Faulty, IsSlot30, LogSent, Sets, Stage30, is_faulty}
-use Rattle.hba_driver.specs.Tended.{Awaits, Fine, Identifies, IsTendedBy, Logs, Releases, Spoilt}
 use Rattle.hba_driver.proofs.Door.{is_alone}
-use Rattle.disk_simulation.specs.Anew.{IsKeptOn}
-use Rattle.disk_simulation.specs.Line.{Asked, Line, OnLine}
-use Rattle.disk_recovery.specs.Ends.{Apart, AreEnds, IsRunning, IsSetAside, IsTogether, Together}
-use Rattle.disk_recovery.specs.Stages.{Fits}
+use Rattle.disk_simulation.specs.{Anew.IsKeptOn, Line.{Asked, Line, OnLine}}
+use Rattle.disk_recovery.specs.{Ends.{Apart, AreEnds, IsRunning, IsSetAside, IsTogether, Together}, Stages.Fits}
 use Rattle.disk_recovery.proofs.Door.{request_kind}
-use Rattle.world_rests.specs.Left.{NoneIsOut}
-use Rattle.world_rests.specs.Out.{NothingIsOut}
-use Rattle.world_rests.proofs.Answered.{kept_at, linked_at, none_is_out, not_sent, own_at, same_told}
-use Rattle.world_rests.proofs.Due.{AreOwed, IsPlain, WaitsIn, owes_none, waits_if}
-use Rattle.world_rests.proofs.Dues.{hosted_is_owed}
-use Rattle.world_rests.proofs.Frames.{AllFull, given_full}
-use Rattle.world_rests.proofs.Open.{WasIssued, was_issued}
+use Rattle.world_rests.specs.{Left.NoneIsOut, Out.NothingIsOut}
+use Rattle.world_rests.proofs.{Answered.{kept_at, linked_at, none_is_out, not_sent, own_at, same_told}, Due.{AreOwed, IsPlain, WaitsIn, owes_none}}
+use Rattle.world_rests.proofs.{Due.waits_if, Dues.hosted_is_owed, Frames.{AllFull, given_full}, Open.{WasIssued, was_issued}}
 
 -- ---- what the driver issues that is not queued
 

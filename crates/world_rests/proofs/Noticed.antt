@@ -1,38 +1,23 @@
 -- For `rested_drivers_watch`. In a world at rest slot 31 waits for a notification alone: an order that is issued goes out, and the
 -- signature comes.
 use Rattle.std.proofs.Common.{◌≡◌, ℕ, ◌<◌, true, false, [], length, refl, sym, ap, subst, ◌∙◌, inl, inr, Option, Some, None, arith}
+use Rattle.std.proofs.lemmas.{Bool.{and_parts, cases_Bool, false≢true, true≢false}, Option.same_Some}
 use Rattle.std.specs.Prelude.{is_some, not}
-use Rattle.std.proofs.lemmas.Bool.{and_parts, cases_Bool, false≢true, true≢false}
-use Rattle.std.proofs.lemmas.Option.{same_Some}
 use Rattle.fis_view.specs.declared.build.H2dFields.{H2dFields}
 use Rattle.hba_commands.specs.Requests.{request_of, work_of}
-use Rattle.slots.specs.Commands.{has_outstanding}
-use Rattle.slots.specs.Setup.{is_outstanding}
-use Rattle.slots.specs.Slots.{Issue, holds, is_control, is_waiting, issue_at, lowest, new_issue, own_issue, slots_of, waiting}
-use Rattle.slots.specs.Work.{is_queued}
+use Rattle.slots.specs.{Commands.has_outstanding, Setup.is_outstanding, Slots.{Issue, holds, is_control, is_waiting, issue_at, lowest, new_issue}}
+use Rattle.slots.specs.{Slots.{own_issue, slots_of, waiting}, Work.is_queued}
 use Rattle.slots.proofs.Door.{lowest_is}
-use Rattle.hba_fbs.specs.Status.{is_busy, wants_data}
-use Rattle.hba_fbs.specs.Views.{state_at, view_of}
+use Rattle.hba_fbs.specs.{Status.{is_busy, wants_data}, Views.{state_at, view_of}}
 use Rattle.hba_laws.proofs.Door.{own_here, own_in}
-use Rattle.hba_driver.specs.declared.order.Order.TheVariants.{ResetOff}
-use Rattle.hba_driver.specs.Drivers.{IsPath}
-use Rattle.hba_driver.specs.Events.{shared_by}
-use Rattle.hba_driver.specs.HostTurns.{Host, sight_in}
-use Rattle.hba_driver.specs.Orders.{order_fields}
-use Rattle.hba_driver.specs.Seeing.{Sight}
-use Rattle.hba_driver.specs.Served.{IsBounded, IsIssueOf}
-use Rattle.hba_driver.specs.Sights.{sight_of}
-use Rattle.hba_driver.specs.Slot31.{IsIn, IsUnsent, Resets, Signs, Stage31, control_of, is_resetting}
+use Rattle.hba_driver.specs.{declared.order.Order.TheVariants.ResetOff, Drivers.IsPath, Events.shared_by, HostTurns.{Host, sight_in}}
+use Rattle.hba_driver.specs.{Orders.order_fields, Seeing.Sight, Served.{IsBounded, IsIssueOf}, Sights.sight_of, Slot31.{IsIn, IsUnsent, Resets}}
+use Rattle.hba_driver.specs.{Slot31.{Signs, Stage31, control_of, is_resetting}, declared.mode.Mode.TheVariants.Switching}
 use Rattle.hba_driver.proofs.Door.{sight_is, told_of}
-use Rattle.hba_driver.specs.declared.mode.Mode.TheVariants.{Switching}
-use Rattle.world_rests.specs.Sent.{HasOther, HasQueued, Holds, InReset, IsBusy, PortWaits, WantsData}
-use Rattle.world_rests.specs.Waits.{DriverWaits, ForAnswer, ForNotice, ForSignature, Waits31}
-use Rattle.world_rests.specs.Watches.{WaitsForNotice}
-use Rattle.world_rests.proofs.ControlFile.{IsCalm}
-use Rattle.world_rests.proofs.Ready.{not_dma, own_dev as owned_dev, stands_at}
-use Rattle.world_rests.proofs.Signed.{IsSigned, none_awaited}
-use Rattle.world_rests.proofs.Slot31.{IsAsking, IsOut}
-use Rattle.world_rests.proofs.Ways.{IsGood, Line}
+use Rattle.world_rests.specs.{Sent.{HasOther, HasQueued, Holds, InReset, IsBusy, PortWaits, WantsData}, Waits.{DriverWaits, ForAnswer, ForNotice}}
+use Rattle.world_rests.specs.{Waits.{ForSignature, Waits31}, Watches.WaitsForNotice}
+use Rattle.world_rests.proofs.{ControlFile.IsCalm, Ready.{not_dma, own_dev as owned_dev, stands_at}, Signed.{IsSigned, none_awaited}, Slot31.IsAsking}
+use Rattle.world_rests.proofs.{Slot31.IsOut, Ways.{IsGood, Line}}
 
 -- the second FIS of a software reset is a Control
 off_control : (f : H2dFields) → order_fields ResetOff ≡ Some f → is_control (work_of (request_of f)).kind ≡ true

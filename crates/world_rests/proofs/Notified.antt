@@ -1,57 +1,29 @@
 -- For `rested_ports_are_open`. The control port's bit of PxSNTF over each turn of the host: a notification sets it, and nothing but the order
 -- to scan clears it.
-use Rattle.std.proofs.Common.{◌≡◌, ℕ, zero, suc, ◌+◌, ◌*◌, ◌^◌, ◌<◌, ◌≤◌, ◌==◌, ◌&&◌, ◌||◌, max, Bool, true, false, not, bit_or, if◌then◌else◌, List, [], ◌∷◌, refl, sym, ap, subst, ◌∙◌, inl, inr, Option, Some, None, Ok, arith}
-use Rattle.std.specs.Prelude.{is_none, is_some, nat_lt, MatchOption, Result}
-use Rattle.std.specs.Int.{bit_at}
-use Rattle.std.specs.Option.{option_or}
-use Rattle.std.proofs.lemmas.Bool.{cases_Bool, eqb-true, false≢true, true≢false}
-use Rattle.std.proofs.lemmas.Nat.Bits.{bit_at-lt, bit_at-pow_same, bit_at_or}
-use Rattle.fis_view.specs.Frames.{Stamped}
-use Rattle.fis_view.specs.Seen.{seen}
-use Rattle.fis_view.specs.Table.{Bits, N, field}
-use Rattle.fis_view.specs.declared.build.H2dFields.{H2dFields}
-use Rattle.fis_view.specs.declared.view.Fis.{Fis}
+use Rattle.std.proofs.Common.{◌≡◌, ℕ, zero, suc, ◌+◌, ◌*◌, ◌^◌, ◌<◌, ◌≤◌, ◌==◌, ◌&&◌, ◌||◌, max, Bool, true, false, not, bit_or, if◌then◌else◌, List}
+use Rattle.std.proofs.{Common.{[], ◌∷◌, refl, sym, ap, subst, ◌∙◌, inl, inr, Option, Some, None, Ok, arith}, lemmas.Bool.{cases_Bool, eqb-true}}
+use Rattle.std.proofs.lemmas.{Bool.{false≢true, true≢false}, Nat.Bits.{bit_at-lt, bit_at-pow_same, bit_at_or}}
+use Rattle.std.specs.{Prelude.{is_none, is_some, nat_lt, MatchOption, Result}, Int.bit_at, Option.option_or}
+use Rattle.fis_view.specs.{Frames.Stamped, Seen.seen, Table.{Bits, N, field}, declared.{build.H2dFields.H2dFields, view.{Fis.Fis, FisFault.FisFault}}}
 use Rattle.fis_view.specs.declared.view.Fis.TheVariants as view
-use Rattle.fis_view.specs.declared.view.FisFault.{FisFault}
 use Rattle.host_memory.specs.Memory.{Memory}
 use Rattle.slots.specs.Slots.{has_bit, lowest_below, match_some}
-use Rattle.hba_fbs.specs.declared.error.WriteError.{WriteError}
-use Rattle.hba_fbs.specs.declared.hearing.Heard.{Heard}
-use Rattle.hba_fbs.specs.declared.register.Register.{Register}
-use Rattle.hba_fbs.specs.declared.register.Register.TheVariants.{Sntf}
-use Rattle.hba_fbs.specs.declared.registers.Registers.{Registers}
-use Rattle.hba_fbs.specs.declared.report.TakeReport.{TakeReport}
-use Rattle.hba_fbs.specs.Bits.{bit}
-use Rattle.hba_fbs.specs.Offsets.{register_at}
-use Rattle.hba_fbs.specs.Posting.{posted, signs}
-use Rattle.hba_fbs.specs.Registers.{written}
-use Rattle.hba_fbs.specs.Sending.{Gives, Nothing, Outgoing, Unreadable, outgoing}
-use Rattle.hba_fbs.specs.Taking.{admitted, heard_now, ignores, is_of_transfer, is_running, owns_none, port_of, posted_of, settled}
-use Rattle.hba_fbs.specs.Views.{Port, view_of}
-use Rattle.hba_fbs.specs.Writing.{Accepts, write_refusal}
-use Rattle.hba_driver.specs.declared.mode.Mode.{Mode}
-use Rattle.hba_driver.specs.declared.mode.Mode.TheVariants.{CommandBased, Switching}
-use Rattle.hba_driver.specs.declared.order.Order.{Order}
-use Rattle.hba_driver.specs.declared.order.Order.TheVariants.{AwaitSignature, Clear, Scan, Watch}
-use Rattle.hba_driver.specs.declared.path.Path.{Path}
-use Rattle.hba_driver.specs.declared.path.Stage.{Stage}
-use Rattle.hba_driver.specs.declared.path.Stage.TheVariants.{AwaitReset}
-use Rattle.hba_driver.specs.declared.plan.Plan.{Plan}
-use Rattle.hba_driver.specs.Between.{IsGoing}
-use Rattle.hba_driver.specs.Drivers.{Entry, entry_at}
-use Rattle.hba_driver.specs.Effects.{ActsAll, Tries, clearing, effects_of, issuing, opening_write, order_effects, restart_write, sending}
-use Rattle.hba_driver.specs.Events.{IsSoundHost}
-use Rattle.hba_driver.specs.HostTurns.{Does, Host, Pushed, Ticked, Took, sight_in}
-use Rattle.hba_driver.specs.Modes.{clears_with, enabled}
-use Rattle.hba_driver.specs.Orders.{is_queued, order_fields}
-use Rattle.hba_driver.specs.Paths.{stage_fields}
-use Rattle.hba_driver.specs.Scans.{is_scan}
-use Rattle.hba_driver.specs.Seeing.{Sight}
-use Rattle.hba_driver.specs.Sights.{px_ci, px_clb, px_clbu, px_cmd, px_fb, px_fbs, px_fbu, px_is, px_sact, shown, sight_of}
-use Rattle.hba_driver.specs.Ticks.{done_ended, effects_due}
-use Rattle.hba_driver.specs.Turns.{allowed, control_news, control_seen, control_turn, device_due, device_of, device_or_request, device_seen, device_turn, early_due, fault_due, is_due, issue_of, may_go_to, may_issue, opening_due, order_allowed, order_due, path_due, plain_turn, request_due, restart_due, stage_due, stage_for, step_of, turn_of}
+use Rattle.hba_fbs.specs.declared.{error.WriteError.WriteError, hearing.Heard.Heard, register.Register.{Register, TheVariants.Sntf}}
+use Rattle.hba_fbs.specs.{declared.{registers.Registers.Registers, report.TakeReport.TakeReport}, Bits.bit, Offsets.register_at, Posting.posted}
+use Rattle.hba_fbs.specs.{Posting.signs, Registers.written, Sending.{Gives, Nothing, Outgoing, Unreadable, outgoing}, Taking.{admitted, heard_now}}
+use Rattle.hba_fbs.specs.{Taking.{ignores, is_of_transfer, is_running, owns_none, port_of, posted_of, settled}, Views.{Port, view_of}}
+use Rattle.hba_fbs.specs.{Writing.{Accepts, write_refusal}, Reading.value_of}
+use Rattle.hba_driver.specs.declared.{mode.Mode.{Mode, TheVariants.{CommandBased, Switching}}, order.Order.{Order, TheVariants.AwaitSignature}}
+use Rattle.hba_driver.specs.declared.{order.Order.TheVariants.{Clear, Scan, Watch}, path.{Path.Path, Stage.{Stage, TheVariants.AwaitReset}}}
+use Rattle.hba_driver.specs.{declared.plan.Plan.Plan, Between.IsGoing, Drivers.{Entry, entry_at}, Effects.{ActsAll, Tries, clearing, effects_of}}
+use Rattle.hba_driver.specs.{Effects.{issuing, opening_write, order_effects, restart_write, sending}, Events.IsSoundHost, HostTurns.{Does, Host}}
+use Rattle.hba_driver.specs.{HostTurns.{Pushed, Ticked, Took, sight_in}, Modes.{clears_with, enabled}, Orders.{is_queued, order_fields}}
+use Rattle.hba_driver.specs.{Paths.stage_fields, Scans.is_scan, Seeing.Sight, Sights.{px_ci, px_clb, px_clbu, px_cmd, px_fb, px_fbs, px_fbu, px_is}}
+use Rattle.hba_driver.specs.{Sights.{px_sact, shown, sight_of}, Ticks.{done_ended, effects_due}, Turns.{allowed, control_news, control_seen}}
+use Rattle.hba_driver.specs.Turns.{control_turn, device_due, device_of, device_or_request, device_seen, device_turn, early_due, fault_due, is_due}
+use Rattle.hba_driver.specs.Turns.{issue_of, may_go_to, may_issue, opening_due, order_allowed, order_due, path_due, plain_turn, request_due}
+use Rattle.hba_driver.specs.Turns.{restart_due, stage_due, stage_for, step_of, turn_of}
 use Rattle.hba_driver.proofs.Door.{tick_acts}
-use Rattle.hba_fbs.specs.Reading.{value_of}
 
 -- the bit of the control port is set
 abbrev pub is_noticed : Host → Bool

@@ -1,65 +1,35 @@
 -- For `rested_disks_have_done`. Over all that a host does with a disk since both began anew: the tag of a queued command that was
 -- sent is taken, and Data that the disk asked for may go.
-use Rattle.std.proofs.Common.{◌≡◌, eqb, ℕ, ◌<◌, Bool, true, false, List, [], ◌∷◌, ◌++◌, ◌≤◌, ◌%◌, length, refl, sym, ap, subst, ◌∙◌, inl, inr, Option, Some, None, Ok, Result, arith}
-use Rattle.std.specs.Prelude.{if◌then◌else◌}
-use Rattle.std.specs.Option.{option_map}
-use Rattle.std.proofs.lemmas.Bool.{cases_lt, eq-eqb, le-ltb, lt-ltb, true≢false}
-use Rattle.std.proofs.lemmas.Bool.Decides.{nat_tests}
+use Rattle.std.proofs.Common.{◌≡◌, eqb, ℕ, ◌<◌, Bool, true, false, List, [], ◌∷◌, ◌++◌, ◌≤◌, ◌%◌, length, refl, sym, ap, subst, ◌∙◌, inl, inr, Option}
+use Rattle.std.proofs.{Common.{Some, None, Ok, Result, arith}, lemmas.Bool.{cases_lt, eq-eqb, le-ltb, lt-ltb, true≢false, Decides.nat_tests}}
 use Rattle.std.proofs.lemmas.List.FromFn.{length-map-range_with_len}
-use Rattle.fis_view.specs.Frames.{IsFrame, IsPayload, Stamped, marked}
-use Rattle.fis_view.specs.Seen.{seen}
+use Rattle.std.specs.{Prelude.{if◌then◌else◌}, Option.option_map}
+use Rattle.fis_view.specs.{Frames.{IsFrame, IsPayload, Stamped, marked}, Seen.seen, declared.view.{Fis.Fis, FisFault.FisFault}}
 use Rattle.fis_view.proofs.Door.{payload_seen}
-use Rattle.fis_view.specs.declared.view.Fis.{Fis}
 use Rattle.fis_view.specs.declared.view.Fis.TheVariants as view
-use Rattle.fis_view.specs.declared.view.FisFault.{FisFault}
 use Rattle.hba_commands.specs.declared.command.Command as issued_command
-use Rattle.slots.specs.Data.{payload_len}
-use Rattle.slots.specs.Commands.{is_slot, with_sent}
-use Rattle.slots.specs.Setup.{begun, whole_context, with_own_context}
-use Rattle.slots.specs.Slots.{DeviceSlots, Issue, freed, holds, is_control, match_some, new_issue, own_issue}
-use Rattle.slots.specs.Work.{is_dma, is_queued}
-use Rattle.slots.specs.declared.table.Context.{Context}
-use Rattle.slots.specs.declared.work.Kind.{Kind}
-use Rattle.slots.specs.declared.work.Kind.TheVariants.{DmaIn, DmaOut, QueuedRead, QueuedWrite}
-use Rattle.slots.specs.declared.work.Work.{Work}
-use Rattle.hba_fbs.specs.declared.hearing.Fault.{Fault}
+use Rattle.slots.specs.{Data.payload_len, Commands.{is_slot, with_sent}, Setup.{begun, whole_context, with_own_context}, Slots.{DeviceSlots, Issue}}
+use Rattle.slots.specs.{Slots.{freed, holds, is_control, match_some, new_issue, own_issue}, Work.{is_dma, is_queued}, declared.table.Context.Context}
+use Rattle.slots.specs.declared.work.{Kind.{Kind, TheVariants.{DmaIn, DmaOut, QueuedRead, QueuedWrite}}, Work.Work}
+use Rattle.hba_fbs.specs.{declared.{hearing.Fault.Fault, register.Register.TheVariants.Ci, report.TakeReport.TakeReport}, Issuing.{aimed, asked}}
+use Rattle.hba_fbs.specs.{Issuing.{issue_with, issued_slots, view_issued}, Sending.{Data, Gives, Order, Outgoing, data_fis, gathered, outgoing}}
+use Rattle.hba_fbs.specs.{Tables.{is_sound, prds_of}, Taking.{admitted, device_cause, heard, heard_now, heard_report, ignores, port_cause, port_of}}
+use Rattle.hba_fbs.specs.{Views.{DeviceView, view_of}, Writing.view_after}
 use Rattle.hba_fbs.specs.declared.hearing.Fault.TheVariants as fault
-use Rattle.hba_fbs.specs.declared.register.Register.TheVariants.{Ci}
-use Rattle.hba_fbs.specs.declared.report.TakeReport.{TakeReport}
-use Rattle.hba_fbs.specs.Issuing.{aimed, asked, issue_with, issued_slots, view_issued}
-use Rattle.hba_fbs.specs.Sending.{Data, Gives, Order, Outgoing, data_fis, gathered, outgoing}
-use Rattle.hba_fbs.specs.Tables.{is_sound, prds_of}
-use Rattle.hba_fbs.specs.Taking.{admitted, device_cause, heard, heard_now, heard_report, ignores, port_cause, port_of}
-use Rattle.hba_fbs.specs.Views.{DeviceView, view_of}
-use Rattle.hba_fbs.specs.Writing.{view_after}
-use Rattle.disk_model.specs.declared.request.Request.{Request}
-use Rattle.disk_model.specs.declared.request.Request.TheVariants.{Queue}
-use Rattle.disk_model.specs.Between.{opened}
-use Rattle.disk_model.specs.Ends.{IsFree, IsRight, MovesOther}
-use Rattle.disk_model.specs.Histories.{Happening, Received, Sent}
-use Rattle.disk_model.specs.Ledger.{Ledger, Moving, asks, ledger, listens, listens_down, listens_up, takes_data}
-use Rattle.disk_model.specs.Requests.{request_of}
+use Rattle.disk_model.specs.{declared.request.Request.{Request, TheVariants.Queue}, Between.opened, Ends.{IsFree, IsRight, MovesOther}}
+use Rattle.disk_model.specs.{Histories.{Happening, Received, Sent}, Ledger.{Ledger, Moving, asks, ledger, listens, listens_down, listens_up}}
+use Rattle.disk_model.specs.{Ledger.takes_data, Requests.request_of}
 use Rattle.disk_model.proofs.Door.{ledger_push, opens_free}
-use Rattle.hba_laws.specs.Agreement.{work_of_issue, work_of_transfer}
-use Rattle.hba_laws.specs.Client.{own}
-use Rattle.hba_laws.specs.Delivering.{touched}
+use Rattle.hba_laws.specs.{Agreement.{work_of_issue, work_of_transfer}, Client.own, Delivering.touched, History.{Event, History, Transfer, issued}}
+use Rattle.hba_laws.specs.{Hosts.{Does, Gave, Host, TakesFrame, Wrote}, Sound.IsHost, Between.{GoesOut, HasContext, IsOwn, NotIssue, issue_below}}
 use Rattle.hba_laws.specs.History as event
-use Rattle.hba_laws.specs.History.{Event, History, Transfer, issued}
-use Rattle.hba_laws.specs.Hosts.{Does, Gave, Host, TakesFrame, Wrote}
-use Rattle.hba_laws.specs.Sound.{IsHost}
-use Rattle.hba_laws.specs.Between.{GoesOut, HasContext, IsOwn, NotIssue, issue_below}
 use Rattle.hba_laws.proofs.Door.{goes_out, is_own, issued_before, own_here, own_issued}
 use Rattle.disk_simulation.specs.Anew as anew
-use Rattle.disk_simulation.specs.Anew.{IsHostedOn, IsKeptOn, IsOpening, IsSignedWell, KeepsSlots}
-use Rattle.disk_simulation.specs.Between.{IsSigned, IsThere}
-use Rattle.disk_simulation.specs.Heard.{IsTakenWell, IsToldSo}
-use Rattle.disk_simulation.specs.Joined.{IsAskedBy, IsJoined}
-use Rattle.disk_simulation.specs.Marked.{IsHeardAlike}
-use Rattle.disk_simulation.specs.Same.{SlotCommand}
-use Rattle.disk_simulation.specs.Together.{NoneQueued, is_sent, told}
+use Rattle.disk_simulation.specs.{Anew.{IsHostedOn, IsKeptOn, IsOpening, IsSignedWell, KeepsSlots}, Between.{IsSigned, IsThere}, Heard.IsTakenWell}
+use Rattle.disk_simulation.specs.{Heard.IsToldSo, Joined.{IsAskedBy, IsJoined}, Marked.IsHeardAlike, Same.SlotCommand, Together.{NoneQueued, is_sent}}
+use Rattle.disk_simulation.specs.Together.{told}
 use Rattle.disk_simulation.proofs.Door.{heard_as_told, hosted_on_is_kept, marks_tell_nothing, signature_is_none, signed, there_by}
-use Rattle.world_rests.proofs.Asking.{IsAsked, asked_up, takes_quiet}
-use Rattle.world_rests.proofs.Taken.{AreTaken, taken_down, taken_sent, taken_signed, taken_up}
+use Rattle.world_rests.proofs.{Asking.{IsAsked, asked_up, takes_quiet}, Taken.{AreTaken, taken_down, taken_sent, taken_signed, taken_up}}
 
 pub record IsOpen (n : ℕ) (host : Host) (past : History) (k : Ledger) : Type 0 where
   pub taken : AreTaken past k

@@ -1,53 +1,27 @@
 -- For `rested_ports_are_open`. In a world at rest each port of the multiplier is open: the driver watches, so it has set up all before. And
 -- none asks for attention: nothing would heed it.
-use Rattle.std.proofs.Common.{◌≡◌, ℕ, zero, suc, ◌<◌, ◌≤◌, ◌==◌, ◌&&◌, Bool, true, false, List, [], length, replicate, slice_index_or, refl, sym, ap, subst, ◌∙◌, Some, None, arith}
-use Rattle.std.specs.Prelude.{IsTrue, bit_and, if◌then◌else◌, is_some, nat_lt}
-use Rattle.std.proofs.lemmas.Bool.{eq-eqb, false_from_ne_true, false≢true, lt-ltb, true≢false}
+use Rattle.std.proofs.Common.{◌≡◌, ℕ, zero, suc, ◌<◌, ◌≤◌, ◌==◌, ◌&&◌, Bool, true, false, List, [], length, replicate, slice_index_or, refl, sym, ap}
+use Rattle.std.proofs.{Common.{subst, ◌∙◌, Some, None, arith}, lemmas.Bool.{eq-eqb, false_from_ne_true, false≢true, lt-ltb, true≢false}}
 use Rattle.std.proofs.lemmas.List.{length-replicate}
+use Rattle.std.specs.Prelude.{IsTrue, bit_and, if◌then◌else◌, is_some, nat_lt}
 use Rattle.host_memory.specs.Memory.{IsHostMemory, Memory, zeroed}
-use Rattle.pm_registers.specs.Port.{bit_n, bit_x, det, is_open, opening_port}
-use Rattle.pm_registers.specs.RegisterMap.{RegisterMap, asks, port_at}
+use Rattle.pm_registers.specs.{Port.{bit_n, bit_x, det, is_open, opening_port}, RegisterMap.{RegisterMap, asks, port_at}}
 use Rattle.pm_registers.specs.declared.port.PortRegisters.{PortRegisters}
 use Rattle.multiplier.specs.State.{port_at as connections_at}
 use Rattle.hba_fbs.specs.Views.{view_of}
-use Rattle.hba_driver.specs.declared.mode.Mode.TheVariants.{Switching}
-use Rattle.hba_driver.specs.declared.order.Order.{Order}
-use Rattle.hba_driver.specs.declared.order.Order.TheVariants.{Watch}
-use Rattle.hba_driver.specs.HostTurns.{Pushed, Took}
+use Rattle.hba_driver.specs.{declared.{mode.Mode.TheVariants.Switching, order.Order.{Order, TheVariants.Watch}}, HostTurns.{Pushed, Took}}
 use Rattle.hba_driver.specs.Slot31.{control_in}
 use Rattle.hba_driver.proofs.Door.{zeroed_right}
-use Rattle.pm_world.specs.Attached.{Attached}
-use Rattle.pm_world.specs.Line.{OneOrderAtATime}
-use Rattle.pm_world.specs.DevicePaths.{ReachedAreOrderly}
-use Rattle.pm_world.specs.Places.{Place, Places, is_config, new_world}
-use Rattle.pm_world.specs.PortsGoOn.{PortsGoOn}
-use Rattle.pm_world.specs.Rules.{Run}
-use Rattle.pm_world.specs.Runs.{IsReached}
-use Rattle.pm_world.specs.declared.link.Change.{Change}
-use Rattle.pm_world.specs.declared.step.Answer.{Answer}
-use Rattle.pm_world.specs.declared.step.Config.{Config}
+use Rattle.pm_world.specs.{Attached.Attached, Line.OneOrderAtATime, DevicePaths.ReachedAreOrderly, Places.{Place, Places, is_config, new_world}}
+use Rattle.pm_world.specs.{PortsGoOn.PortsGoOn, Rules.Run, Runs.IsReached, declared.{link.Change.Change, step.{Answer.Answer, Config.Config}}}
 use Rattle.pm_world.specs.declared.step.Step.{Step}
-use Rattle.world_rests.specs.Laws.{RestedHaveDone}
-use Rattle.world_rests.specs.Opens.{PortIsOpen, RestedPortsAreOpen}
-use Rattle.world_rests.specs.Rests.{PortRests}
-use Rattle.world_rests.specs.Watches.{RestedDriversWatch}
-use Rattle.world_rests.proofs.Comings.{Of, all, known, known_reached}
-use Rattle.world_rests.proofs.ControlFile.{IsCalm, keeps_calm}
-use Rattle.world_rests.proofs.Heeded.{AreHeeded, Early, IsCleared, IsDue, IsHeeded, IsListed, IsNamed, IsNoticed, IsScanned, Notifies, not_at, not_clear, not_scan, scan_early}
-use Rattle.world_rests.proofs.HeededHost.{keeps_heeded}
-use Rattle.world_rests.proofs.Notified.{is_noticed, notified_seen}
-use Rattle.world_rests.proofs.Ordering.{AreOpen, IsOn, Upto}
-use Rattle.world_rests.proofs.Orders.{Among}
-use Rattle.world_rests.proofs.Parts.{get_below}
-use Rattle.world_rests.proofs.Present.{shows_all}
-use Rattle.world_rests.proofs.Scanned.{IsDriven, driven_more}
-use Rattle.world_rests.proofs.SetHost.{keeps_set}
-use Rattle.world_rests.proofs.SetUp.{IsSetUp}
-use Rattle.world_rests.proofs.Setting.{IsShape, ShowsIt}
-use Rattle.world_rests.proofs.Summary.{errors_none}
-use Rattle.world_rests.proofs.Watched.{opening_calm}
-use Rattle.world_rests.proofs.Ways.{Hears, IsGood, Line, Pushes, Records, Rises, Stays, Takes, Turns, Way, kept_by, line_of}
-use Rattle.world_rests.proofs.Well.{sized, well_in}
+use Rattle.world_rests.specs.{Laws.RestedHaveDone, Opens.{PortIsOpen, RestedPortsAreOpen}, Rests.PortRests, Watches.RestedDriversWatch}
+use Rattle.world_rests.proofs.{Comings.{Of, all, known, known_reached}, ControlFile.{IsCalm, keeps_calm}, Heeded.{AreHeeded, Early, IsCleared, IsDue}}
+use Rattle.world_rests.proofs.Heeded.{IsHeeded, IsListed, IsNamed, IsNoticed, IsScanned, Notifies, not_at, not_clear, not_scan, scan_early}
+use Rattle.world_rests.proofs.{HeededHost.keeps_heeded, Notified.{is_noticed, notified_seen}, Ordering.{AreOpen, IsOn, Upto}, Orders.Among}
+use Rattle.world_rests.proofs.{Parts.get_below, Present.shows_all, Scanned.{IsDriven, driven_more}, SetHost.keeps_set, SetUp.IsSetUp, Setting.IsShape}
+use Rattle.world_rests.proofs.{Setting.ShowsIt, Summary.errors_none, Watched.opening_calm, Ways.{Hears, IsGood, Line, Pushes, Records, Rises, Stays}}
+use Rattle.world_rests.proofs.{Ways.{Takes, Turns, Way, kept_by, line_of}, Well.{sized, well_in}}
 
 -- the turns of the host go on
 keeps_driven : (start : Memory) (l m : Line) → Way l m → IsDriven start l.host → IsDriven start m.host

@@ -1,34 +1,20 @@
 -- For `rested_ports_are_open`. What each order of the driver asks the multiplier for, and what it has set once the multiplier took its
 -- command.
-use Rattle.std.proofs.Common.{◌≡◌, ℕ, ◌+◌, ◌*◌, ◌<◌, ◌≤◌, ◌==◌, Bool, true, false, bit_and, List, refl, sym, ap, subst, ◌∙◌, inl, inr, Option, Some, None, arith}
-use Rattle.std.specs.Prelude.{◌/◌, ◌%◌, ◌^◌, if◌then◌else◌, nat_le, nat_lt, ◌&&◌}
-use Rattle.std.specs.Int.{from_bool}
-use Rattle.std.proofs.lemmas.Bool.{cases_Bool, cases_eq, true≢false}
-use Rattle.std.proofs.lemmas.Bool.Decides.{nat_tests}
-use Rattle.std.proofs.lemmas.Option.{same_Some}
-use Rattle.fis_view.specs.Built.{IsBuilt, cut, d2h_given, h2d_given}
-use Rattle.fis_view.specs.Frames.{Stamped}
-use Rattle.fis_view.specs.Seen.{seen}
-use Rattle.fis_view.specs.Table.{C, Command, Control, Count, D2h, Device, Features, H2d, Lba, field, places}
-use Rattle.fis_view.specs.declared.build.H2dFields.{H2dFields}
-use Rattle.fis_view.specs.declared.frame.Stamp.{Stamp}
+use Rattle.std.proofs.Common.{◌≡◌, ℕ, ◌+◌, ◌*◌, ◌<◌, ◌≤◌, ◌==◌, Bool, true, false, bit_and, List, refl, sym, ap, subst, ◌∙◌, inl, inr, Option, Some}
+use Rattle.std.proofs.{Common.{None, arith}, lemmas.{Bool.{cases_Bool, cases_eq, true≢false, Decides.nat_tests}, Option.same_Some}}
+use Rattle.std.specs.{Prelude.{◌/◌, ◌%◌, ◌^◌, if◌then◌else◌, nat_le, nat_lt, ◌&&◌}, Int.from_bool}
+use Rattle.fis_view.specs.{Built.{IsBuilt, cut, d2h_given, h2d_given}, Frames.Stamped, Seen.seen, Table.{C, Command, Control, Count, D2h, Device}}
+use Rattle.fis_view.specs.{Table.{Features, H2d, Lba, field, places}, declared.{build.H2dFields.H2dFields, frame.Stamp.Stamp}}
 use Rattle.slots.specs.Slots.{has_bit, lowest_below, match_some}
-use Rattle.hba_driver.specs.declared.order.Order.{Order}
-use Rattle.hba_driver.specs.declared.order.Order.TheVariants.{AwaitSignature, Clear, CountPorts, Detect, Enable, Open, ResetOff, ResetOn, Scan, SetMask, Watch}
-use Rattle.hba_driver.specs.declared.plan.Plan.{Plan}
-use Rattle.hba_driver.specs.Orders.{changes, control_port, error_mask, error_ports, features_on, next_order, order_fields, port_count, reads, scan_from, scontrol, serror, sstatus, writes}
-use Rattle.hba_driver.specs.Seeing.{Sight}
-use Rattle.hba_driver.specs.Sights.{answer_in}
-use Rattle.hba_driver.specs.Slot31.{is_off, is_on}
-use Rattle.hba_driver.specs.Turns.{control_seen, met_order, noted}
+use Rattle.hba_driver.specs.declared.order.Order.{Order, TheVariants.{AwaitSignature, Clear, CountPorts, Detect, Enable, Open, ResetOff, ResetOn}}
+use Rattle.hba_driver.specs.{declared.{order.Order.TheVariants.{Scan, SetMask, Watch}, plan.Plan.Plan}, Orders.{changes, control_port, error_mask}}
+use Rattle.hba_driver.specs.Orders.{error_ports, features_on, next_order, order_fields, port_count, reads, scan_from, scontrol, serror, sstatus}
+use Rattle.hba_driver.specs.{Orders.writes, Seeing.Sight, Sights.answer_in, Slot31.{is_off, is_on}, Turns.{control_seen, met_order, noted}}
 use Rattle.hba_driver.proofs.Door.{either, seen_free, seen_out, seen_unasked}
-use Rattle.pm_control.specs.Answers.{IsAnswer, answer_to_request, registers_after_request, value_answer}
-use Rattle.pm_control.specs.Requests.{address_in, request_in, request_under, value_in}
-use Rattle.pm_control.specs.declared.request.Address.{Address}
-use Rattle.pm_control.specs.declared.request.Request.{Request}
-use Rattle.pm_control.specs.declared.request.Request.TheVariants.{EndReset, Read, Reset, Unknown, Write}
-use Rattle.pm_registers.specs.Port.{is_open}
-use Rattle.pm_registers.specs.RegisterMap.{RegisterMap, after_write, notifies, port_at}
+use Rattle.pm_control.specs.{Answers.{IsAnswer, answer_to_request, registers_after_request, value_answer}, Requests.{address_in, request_in}}
+use Rattle.pm_control.specs.{Requests.{request_under, value_in}, declared.request.{Address.Address, Request.{Request, TheVariants.{EndReset, Read}}}}
+use Rattle.pm_control.specs.declared.request.Request.TheVariants.{Reset, Unknown, Write}
+use Rattle.pm_registers.specs.{Port.is_open, RegisterMap.{RegisterMap, after_write, notifies, port_at}}
 use Rattle.world_rests.proofs.Setting.{IsShape, Keeps, open_done, put_keeps, put_shape}
 
 -- ---- what is asked

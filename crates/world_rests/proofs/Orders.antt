@@ -1,64 +1,43 @@
 -- For `rested_have_done`. While a command to the control port is unanswered, it is on its way there, or its answer on its way back.
-use Rattle.std.proofs.Common.{◌≡◌, ◌≢◌, ◌⊎◌, ℕ, ◌==◌, ◌&&◌, ◌||◌, Bool, true, false, List, [], ◌∷◌, ◌++◌, length, refl, sym, ap, subst, ◌∙◌, inl, inr, Option, Some, None, Ok, Err, arith}
-use Rattle.std.specs.Prelude.{bit_and, if◌then◌else◌, is_none, is_some, not, MatchBool, MatchOption, Result}
-use Rattle.std.proofs.lemmas.Bool.{cases_Bool, cases_eq, cases_lt, eq-eqb, false≢true, true≢false}
+use Rattle.std.proofs.Common.{◌≡◌, ◌≢◌, ◌⊎◌, ℕ, ◌==◌, ◌&&◌, ◌||◌, Bool, true, false, List, [], ◌∷◌, ◌++◌, length, refl, sym, ap, subst, ◌∙◌, inl, inr}
+use Rattle.std.proofs.{Common.{Option, Some, None, Ok, Err, arith}, lemmas.Bool.{cases_Bool, cases_eq, cases_lt, eq-eqb, false≢true, true≢false}}
 use Rattle.std.proofs.lemmas.Option.{same_Some}
-use Rattle.fis_view.specs.Built.{IsBuilt, cut, d2h_given}
-use Rattle.fis_view.specs.Frames.{Stamped}
-use Rattle.fis_view.specs.Seen.{seen}
-use Rattle.fis_view.specs.Table.{Bits, Command, Control, D2h, Error, H2d, PmPort, SActive, Status, field, places}
-use Rattle.fis_view.specs.declared.build.D2hFields.{D2hFields}
-use Rattle.fis_view.specs.declared.frame.Stamp.{Stamp}
-use Rattle.fis_view.specs.declared.view.Fis.{Fis}
-use Rattle.fis_view.specs.declared.view.Fis.TheVariants as view
+use Rattle.std.specs.Prelude.{bit_and, if◌then◌else◌, is_none, is_some, not, MatchBool, MatchOption, Result}
+use Rattle.fis_view.specs.{Built.{IsBuilt, cut, d2h_given}, Frames.Stamped, Seen.seen, Table.{Bits, Command, Control, D2h, Error, H2d, PmPort}}
+use Rattle.fis_view.specs.{Table.{SActive, Status, field, places}, declared.{build.D2hFields.D2hFields, frame.Stamp.Stamp, view.Fis.Fis}}
 use Rattle.fis_view.specs.declared.view.FisFault.{FisFault}
+use Rattle.fis_view.specs.declared.view.Fis.TheVariants as view
 use Rattle.fis_view.proofs.Door.{port_bits, port_field}
 use Rattle.host_memory.specs.Memory.{zeroed}
-use Rattle.pm_registers.specs.RegisterMap.{RegisterMap, read_at}
-use Rattle.pm_registers.specs.declared.words.RegisterError.{RegisterError}
-use Rattle.pm_registers.specs.declared.words.RegisterError.TheVariants.{NoPort, NoRegister}
-use Rattle.pm_control.specs.Answers.{IsAnswer, answer_of as answers_of, answer_to_request, read_answer, refused, write_answer}
-use Rattle.pm_control.specs.Requests.{IsCommand, address_in, request_in, request_under, value_in}
-use Rattle.pm_control.specs.declared.request.Request.{Request}
-use Rattle.pm_control.specs.declared.request.Request.TheVariants.{Read, Write, Unknown, Reset, EndReset}
+use Rattle.pm_registers.specs.{RegisterMap.{RegisterMap, read_at}, declared.words.RegisterError.{RegisterError, TheVariants.{NoPort, NoRegister}}}
+use Rattle.pm_control.specs.{Answers.{IsAnswer, answer_of as answers_of, answer_to_request, read_answer, refused, write_answer}, Requests.IsCommand}
+use Rattle.pm_control.specs.{Requests.{address_in, request_in, request_under, value_in}, declared.request.Request.{Request, TheVariants.Read}}
+use Rattle.pm_control.specs.declared.request.Request.TheVariants.{Write, Unknown, Reset, EndReset}
 use Rattle.pm_ports.specs.Port.{came_refusal, gone_refusal}
-use Rattle.multiplier.specs.Arbiter.{control_port}
-use Rattle.multiplier.specs.Between.{Answer as Answers, FromPort, Gives, Notice}
-use Rattle.multiplier.specs.Rules.{FromHostRule, ToControl, ToDevice, ToNobody, ToPort, with_device as connected, without_device}
-use Rattle.multiplier.specs.State.{PmState, control_stamp, passes_to, pm_port, port_at}
-use Rattle.multiplier.specs.declared.multiplier.Passed.{Passed}
+use Rattle.multiplier.specs.{Arbiter.control_port, Between.{Answer as Answers, FromPort, Gives, Notice}, Rules.{FromHostRule, ToControl, ToDevice}}
+use Rattle.multiplier.specs.{Rules.{ToNobody, ToPort, with_device as connected, without_device}, State.{PmState, control_stamp, passes_to, pm_port}}
+use Rattle.multiplier.specs.{State.port_at, declared.multiplier.Passed.Passed}
 use Rattle.multiplier.specs.declared.multiplier.Passed.TheVariants as passed
 use Rattle.multiplier.proofs.Door.{gives}
-use Rattle.hba_fbs.specs.declared.report.TakeReport.{TakeReport}
-use Rattle.hba_fbs.specs.Status.{after_reset, is_busy}
-use Rattle.hba_fbs.specs.Taking.{admitted, heard_view, ignores, is_ignored, is_of_transfer, is_running, owns_none, passes_over, port_of, view_after_hearing}
+use Rattle.hba_fbs.specs.{declared.report.TakeReport.TakeReport, Status.{after_reset, is_busy}, Taking.{admitted, heard_view, ignores, is_ignored}}
+use Rattle.hba_fbs.specs.{Taking.{is_of_transfer, is_running, owns_none, passes_over, port_of, view_after_hearing}, Hearing.{heard_bits, heard_d2h}}
+use Rattle.hba_fbs.specs.{Hearing.{heard_fis, heard_register, quietly, signing}, Tables.is_sound, Posting.signs, Views.{DeviceView, Port, view_of}}
 use Rattle.hba_fbs.specs.declared.hearing.Happening.TheVariants as happening
-use Rattle.hba_fbs.specs.Hearing.{heard_bits, heard_d2h, heard_fis, heard_register, quietly, signing}
-use Rattle.hba_fbs.specs.Tables.{is_sound}
-use Rattle.hba_fbs.specs.Posting.{signs}
-use Rattle.hba_fbs.specs.Views.{DeviceView, Port, view_of}
-use Rattle.slots.specs.Slots.{DeviceSlots, Issue, own_issue}
-use Rattle.slots.specs.Work.{is_queued, needs_all}
-use Rattle.hba_driver.specs.declared.request.Request.{Request as Wanted}
-use Rattle.hba_driver.specs.Between.{AreOfTheir, IsGoing}
-use Rattle.hba_driver.specs.Going.{IsOfControl}
-use Rattle.hba_driver.specs.HostTurns.{Does, Host, HostTurn, Polled, Pushed, Put, Submitted, Ticked, Took}
-use Rattle.hba_driver.specs.Slot31.{Asks, IsAt31, MayBe31, Resets, Signs, Stage31, Turns31}
+use Rattle.slots.specs.{Slots.{DeviceSlots, Issue, own_issue}, Work.{is_queued, needs_all}}
+use Rattle.hba_driver.specs.{declared.request.Request.Request as Wanted, Between.{AreOfTheir, IsGoing}, Going.IsOfControl, HostTurns.{Does, Host}}
+use Rattle.hba_driver.specs.{HostTurns.{HostTurn, Polled, Pushed, Put, Submitted, Ticked, Took}, Slot31.{Asks, IsAt31, MayBe31, Resets, Signs}}
+use Rattle.hba_driver.specs.Slot31.{Stage31, Turns31}
 use Rattle.hba_driver.proofs.Door.{control_in31, going_opens, going_turn, none_issued, turn31, turn_addressed, turn_their, zeroed_right}
-use Rattle.pm_world.specs.Attached.{Attached}
-use Rattle.pm_world.specs.Line.{AreResets, HasLine, IsReset, NoneDown, NoneUp, OnLine, OneOrderAtATime, is_register, is_reply}
-use Rattle.pm_world.specs.Places.{Place, Places, Queue, is_config, new_world, with_host}
-use Rattle.pm_world.specs.PortsGoOn.{PortGoesOn, PortsGoOn}
-use Rattle.pm_world.specs.Rules.{CameRule, DiskSendRule, DiskTakeRule, GoneRule, HostPushRule, HostTakeRule, InjectRule, OnDevice, OnDeviceAndMultiplier, Outcome, PmDownRule, PmFromDeviceRule, PmFromHostRule, PmPresenceRule, PmUpRule, PollRule, PutRule, Rule, Run, SubmitRule, TickRule, recorded}
-use Rattle.pm_world.specs.declared.link.Change.{Change}
+use Rattle.pm_world.specs.{Attached.Attached, Line.{AreResets, HasLine, IsReset, NoneDown, NoneUp, OnLine, OneOrderAtATime, is_register, is_reply}}
+use Rattle.pm_world.specs.{Places.{Place, Places, Queue, is_config, new_world, with_host}, PortsGoOn.{PortGoesOn, PortsGoOn}, Rules.CameRule}
+use Rattle.pm_world.specs.Rules.{DiskSendRule, DiskTakeRule, GoneRule, HostPushRule, HostTakeRule, InjectRule, OnDevice, OnDeviceAndMultiplier}
+use Rattle.pm_world.specs.Rules.{Outcome, PmDownRule, PmFromDeviceRule, PmFromHostRule, PmPresenceRule, PmUpRule, PollRule, PutRule, Rule, Run}
+use Rattle.pm_world.specs.{Rules.{SubmitRule, TickRule, recorded}, declared.{link.Change.Change, step.{Answer.Answer, Config.Config, Step.Step}}}
 use Rattle.pm_world.specs.declared.link.Change.TheVariants as change
-use Rattle.pm_world.specs.declared.step.Answer.{Answer}
 use Rattle.pm_world.specs.declared.step.Answer.TheVariants as answer
-use Rattle.pm_world.specs.declared.step.Config.{Config}
-use Rattle.pm_world.specs.declared.step.Step.{Step}
 use Rattle.pm_world.specs.declared.step.Step.TheVariants as step
-use Rattle.world_rests.proofs.Parts.{AtBoth, AtDevice, at_both, at_device, run_more}
-use Rattle.world_rests.proofs.Slot31.{Answers as Answered, IsAsking, IsAwaiting, Leaves, Stays, answered_free, bits_keep, pushes_none, pushes_other, pushes_own, register_leaves, same_asks, tick_asks}
+use Rattle.world_rests.proofs.{Parts.{AtBoth, AtDevice, at_both, at_device, run_more}, Slot31.{Answers as Answered, IsAsking, IsAwaiting, Leaves}}
+use Rattle.world_rests.proofs.Slot31.{Stays, answered_free, bits_keep, pushes_none, pushes_other, pushes_own, register_leaves, same_asks, tick_asks}
 use Rattle.world_rests.proofs.Well.{sized}
 
 -- ---- what is on its way

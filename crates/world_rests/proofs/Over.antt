@@ -1,19 +1,11 @@
 -- For `rested_worlds_have_ended`. Slot 30 works only on a device that is plugged in, and on none that was left alone.
-use Rattle.std.proofs.Common.{◌≡◌, ◌≢◌, ◌⊎◌, ℕ, ◌<◌, ◌≤◌, length, refl, sym, ◌∙◌, inl, inr, Option, Some, None, arith}
-use Rattle.std.proofs.lemmas.Bool.{cases_Bool, true≢false}
-use Rattle.hba_driver.specs.declared.mode.Mode.TheVariants.{Switching}
-use Rattle.hba_driver.specs.declared.path.Path.{Path}
-use Rattle.hba_driver.specs.declared.path.Recovery.{Recovery}
-use Rattle.hba_driver.specs.declared.plan.Device.{Device}
-use Rattle.hba_driver.specs.declared.plan.Device.TheVariants.{Absent, Ready, Recovering, Starting, Unusable}
-use Rattle.hba_driver.specs.Drivers.{device_at, has_ended}
-use Rattle.world_rests.specs.Ended.{IsKnown}
-use Rattle.world_rests.specs.Matches.{IsPlugged, PlanMatches, RestedPlansMatch}
-use Rattle.world_rests.specs.Out.{DiskIsLeft, RestedDisksAreLeft, WorksElsewhere}
-use Rattle.world_rests.specs.Over.{IsLeftAlone, IsUp, RestedWorldsHaveEnded}
-use Rattle.world_rests.specs.Signs.{DiskHasSigned, RestedDisksHaveSigned}
-use Rattle.world_rests.proofs.Parts.{get_below}
-use Rattle.world_rests.proofs.Well.{well_in}
+use Rattle.std.proofs.{Common.{◌≡◌, ◌≢◌, ◌⊎◌, ℕ, ◌<◌, ◌≤◌, length, refl, sym, ◌∙◌, inl, inr, Option, Some, None, arith}, lemmas.Bool.cases_Bool}
+use Rattle.std.proofs.lemmas.Bool.{true≢false}
+use Rattle.hba_driver.specs.declared.{mode.Mode.TheVariants.Switching, path.{Path.Path, Recovery.Recovery}, plan.Device.{Device, TheVariants.Absent}}
+use Rattle.hba_driver.specs.{declared.plan.Device.TheVariants.{Ready, Recovering, Starting, Unusable}, Drivers.{device_at, has_ended}}
+use Rattle.world_rests.specs.{Ended.IsKnown, Matches.{IsPlugged, PlanMatches, RestedPlansMatch}, Out.{DiskIsLeft, RestedDisksAreLeft, WorksElsewhere}}
+use Rattle.world_rests.specs.{Over.{IsLeftAlone, IsUp, RestedWorldsHaveEnded}, Signs.{DiskHasSigned, RestedDisksHaveSigned}}
+use Rattle.world_rests.proofs.{Parts.get_below, Well.well_in}
 
 absent_or : (d : Device) → (d ≡ Absent) ⊎ (d ≢ Absent)
 absent_or Absent = inl refl

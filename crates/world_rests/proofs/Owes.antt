@@ -1,13 +1,8 @@
 -- For `rested_have_done`. A disk that may send nothing has answered what it heard.
-use Rattle.std.proofs.Common.{ℕ, ◌%◌, ◌==◌, ◌&&◌, Bool}
+use Rattle.std.proofs.{Common.{ℕ, ◌%◌, ◌==◌, ◌&&◌, Bool}, lemmas.Bool.{and_parts, leb-true}}
 use Rattle.std.specs.Prelude.{nat_le}
-use Rattle.std.proofs.lemmas.Bool.{and_parts, leb-true}
-use Rattle.disk_model.specs.declared.plan.DiskPlan.{DiskPlan}
-use Rattle.disk_model.specs.declared.unit.Unit.TheVariants.{Disk}
-use Rattle.disk_model.specs.Disks.{DiskValue, Moment, turn}
-use Rattle.disk_model.specs.Laws.{AfterEachRun, SilentRight}
-use Rattle.disk_model.specs.Ledger.{IsSize, ledger}
-use Rattle.disk_model.specs.Runs.{moment, most_sectors}
+use Rattle.disk_model.specs.{declared.{plan.DiskPlan.DiskPlan, unit.Unit.TheVariants.Disk}, Disks.{DiskValue, Moment, turn}, Laws.AfterEachRun}
+use Rattle.disk_model.specs.{Laws.SilentRight, Ledger.{IsSize, ledger}, Runs.{moment, most_sectors}}
 use Rattle.disk_model.proofs.Door.{agrees}
 use Rattle.pm_world.specs.Attached.{Attached, IsSilentAttached, Modelled}
 use Rattle.world_rests.specs.Rests.{HasAnswered}

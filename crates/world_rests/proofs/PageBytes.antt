@@ -1,14 +1,9 @@
 -- For `rested_have_done`. The bytes of the PIO Setup FIS before a page.
 use Rattle.std.proofs.Common.{◌≡◌, ℕ, zero, suc, ◌+◌, ◌-◌, ◌*◌, ◌/◌, ◌%◌, ◌^◌, ◌<◌, ◌≤◌, ◌⊎◌, Bool, true, false, List, [], ◌∷◌, refl, arith, inl, inr}
-use Rattle.std.proofs.Math.Nat.{zero-div}
-use Rattle.std.proofs.lemmas.Bool.{cases_lt, leb-true}
-use Rattle.std.specs.Prelude.{nat_le, ◌&&◌, ◌||◌}
-use Rattle.std.specs.Int.{bit_at}
-use Rattle.fis_view.specs.Bits.{bit, bits}
-use Rattle.fis_view.specs.Built.{IsBuilt, Outside, cut, pio_setup_given}
-use Rattle.fis_view.specs.Seen.{seen}
-use Rattle.fis_view.specs.Table.{Kind, Name, Part, Run, Gap, Pio, places, field, spelled}
-use Rattle.fis_view.specs.Table.{PmPort, I, D, Status, Error, Lba, Device, Count, EStatus, Transfer}
+use Rattle.std.proofs.{Math.Nat.{zero-div}, lemmas.Bool.{cases_lt, leb-true}}
+use Rattle.std.specs.{Prelude.{nat_le, ◌&&◌, ◌||◌}, Int.bit_at}
+use Rattle.fis_view.specs.{Bits.{bit, bits}, Built.{IsBuilt, Outside, cut, pio_setup_given}, Seen.seen, Table.{Kind, Name, Part, Run, Gap, Pio}}
+use Rattle.fis_view.specs.Table.{places, field, spelled, PmPort, I, D, Status, Error, Lba, Device, Count, EStatus, Transfer}
 use Rattle.fis_view.specs.declared.build.PioSetupFields.{PioSetupFields}
 
 -- bit i of the frame is in no field

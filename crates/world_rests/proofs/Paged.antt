@@ -1,29 +1,22 @@
 -- For `rested_disks_have_done`. A page that a disk shows fills the block that its PIO Setup FIS announced, and no page comes before
 -- that FIS.
-use Rattle.std.proofs.Common.{◌≡◌, ◌≢◌, ◌⊎◌, ◌==◌, ◌&&◌, ◌+◌, eqb, ℕ, ◌≤◌, Bool, true, false, List, [], ◌∷◌, ◌++◌, drop, length, refl, sym, ap, subst, ◌∙◌, inl, inr, Option, Some, None, Ok, Result, arith}
+use Rattle.std.proofs.Common.{◌≡◌, ◌≢◌, ◌⊎◌, ◌==◌, ◌&&◌, ◌+◌, eqb, ℕ, ◌≤◌, Bool, true, false, List, [], ◌∷◌, ◌++◌, drop, length, refl, sym, ap, subst}
+use Rattle.std.proofs.{Common.{◌∙◌, inl, inr, Option, Some, None, Ok, Result, arith}, lemmas.Bool.{eq-eqb, eqb-true, false≢true, true≢false}}
 use Rattle.std.specs.Prelude.{◌*◌, if◌then◌else◌, find}
-use Rattle.std.proofs.lemmas.Bool.{eq-eqb, eqb-true, false≢true, true≢false}
-use Rattle.fis_view.specs.Table.{Bits, BufferId, EStatus, Offset, Pio, SActive, Setup, field}
+use Rattle.fis_view.specs.{Table.{Bits, BufferId, EStatus, Offset, Pio, SActive, Setup, field}, declared.view.{Fis.Fis, FisFault.FisFault}}
 use Rattle.fis_view.specs.Table as table
-use Rattle.fis_view.specs.declared.view.Fis.{Fis}
 use Rattle.fis_view.specs.declared.view.Fis.TheVariants as view
-use Rattle.fis_view.specs.declared.view.FisFault.{FisFault}
-use Rattle.slots.specs.Slots.{match_some}
-use Rattle.slots.specs.Work.{is_queued}
-use Rattle.disk_model.specs.declared.request.Command.{Command}
-use Rattle.disk_model.specs.declared.request.Request.{Request}
+use Rattle.slots.specs.{Slots.match_some, Work.is_queued}
+use Rattle.disk_model.specs.{declared.request.{Command.Command, Request.Request}, Between.{alone, opened}, Ends.{IsFree, IsRight, MovesOther, Rests}}
+use Rattle.disk_model.specs.{Laws.{SetsUpRight, ShowsFirst, StartsOne}, Ledger.{Accepts, Finishes, Ledger, Moving, Refuses, Reply, ShowsPage, Wanted}}
+use Rattle.disk_model.specs.Ledger.{activates, answered, ends, is_auto, listens_up, moves, sends_data, sets_up, starts_moving, takes_data, with_auto}
 use Rattle.disk_model.specs.declared.request.Request.TheVariants as asked
-use Rattle.disk_model.specs.Between.{alone, opened}
-use Rattle.disk_model.specs.Ends.{IsFree, IsRight, MovesOther, Rests}
-use Rattle.disk_model.specs.Laws.{SetsUpRight, ShowsFirst, StartsOne}
-use Rattle.disk_model.specs.Ledger.{Accepts, Finishes, Ledger, Moving, Refuses, Reply, ShowsPage, Wanted, activates, answered, ends, is_auto, listens_up, moves, sends_data, sets_up, starts_moving, takes_data, with_auto}
 use Rattle.disk_model.proofs.Door.{bits_up, found_not}
-use Rattle.hba_laws.specs.Between.{NotIssue}
+use Rattle.hba_laws.specs.{Between.NotIssue, History.{Event, History, Setup as LastSetup, Transfer, carried, is_set_up, issued, last_setup}}
+use Rattle.hba_laws.specs.History.{pio_setup, waiting_in}
 use Rattle.hba_laws.specs.History as event
-use Rattle.hba_laws.specs.History.{Event, History, Setup as LastSetup, Transfer, carried, is_set_up, issued, last_setup, pio_setup, waiting_in}
 use Rattle.hba_laws.proofs.Door.{issued_before}
-use Rattle.disk_simulation.specs.Answers.{IsAlone, IsIdle}
-use Rattle.disk_simulation.specs.Together.{AtMostAccepts, InTalk, NoneQueued, Pages, Queues, Replies, Shows, told}
+use Rattle.disk_simulation.specs.{Answers.{IsAlone, IsIdle}, Together.{AtMostAccepts, InTalk, NoneQueued, Pages, Queues, Replies, Shows, told}}
 use Rattle.disk_simulation.specs.Files.{IsOfDisk}
 use Rattle.world_rests.proofs.Long.{IsLong}
 

@@ -1,13 +1,10 @@
 -- For `rested_have_done`. What a step that gives an answer finds and leaves, by the parts that it works on.
 use Rattle.std.proofs.Common.{◌≡◌, ◌≢◌, ℕ, zero, suc, ◌<◌, List, [], ◌∷◌, ◌++◌, length, Option, Some, None, refl, sym, ap, subst, arith}
-use Rattle.std.specs.Prelude.{slice_get, slice_set, Ok, Err, MatchOption}
 use Rattle.std.proofs.lemmas.Option.{same_Some}
+use Rattle.std.specs.Prelude.{slice_get, slice_set, Ok, Err, MatchOption}
 use Rattle.multiplier.specs.State.{PmState}
-use Rattle.pm_world.specs.Places.{Places, Place, new_world_in, with_device, with_multiplier}
-use Rattle.pm_world.specs.Rules.{AtPort, Outcome, OnDevice, OnDeviceAndMultiplier, Rule, Run}
-use Rattle.pm_world.specs.Runs.{IsReached}
-use Rattle.pm_world.specs.declared.step.Step.{Step}
-use Rattle.pm_world.specs.declared.step.Answer.{Answer}
+use Rattle.pm_world.specs.{Places.{Places, Place, new_world_in, with_device, with_multiplier}, Rules.{AtPort, Outcome, OnDevice}}
+use Rattle.pm_world.specs.{Rules.{OnDeviceAndMultiplier, Rule, Run}, Runs.IsReached, declared.step.{Step.Step, Answer.Answer}}
 use Rattle.pm_world.specs.declared.step.StepError.TheVariants as error
 
 -- if a step at a port gives an answer, the port is there

@@ -1,34 +1,25 @@
 -- For `rested_ports_are_open`. The registers show a device at a port exactly where the port has a connection, over each run.
-use Rattle.std.proofs.Common.{◌≡◌, ℕ, zero, suc, ◌<◌, ◌==◌, Bool, true, false, List, [], ◌∷◌, length, replicate, Option, Some, None, Ok, refl, sym, ap, subst, ◌∙◌, inl, inr, arith, get_or-set_same, get_or-set_other, slice_index_or}
-use Rattle.std.specs.Prelude.{if◌then◌else◌, is_none, is_some, slice_set, MatchBool, MatchOption}
-use Rattle.std.proofs.lemmas.Bool.{cases_eq}
+use Rattle.std.proofs.Common.{◌≡◌, ℕ, zero, suc, ◌<◌, ◌==◌, Bool, true, false, List, [], ◌∷◌, length, replicate, Option, Some, None, Ok, refl, sym}
+use Rattle.std.proofs.{Common.{ap, subst, ◌∙◌, inl, inr, arith, get_or-set_same, get_or-set_other, slice_index_or}, lemmas.Bool.cases_eq}
 use Rattle.std.proofs.lemmas.List.{length-replicate, length-set}
+use Rattle.std.specs.Prelude.{if◌then◌else◌, is_none, is_some, slice_set, MatchBool, MatchOption}
 use Rattle.fis_view.specs.Frames.{Stamped}
-use Rattle.pm_registers.specs.Port.{inserted, is_open, met, opening_port, port_written, removed}
-use Rattle.pm_registers.specs.RegisterMap.{RegisterMap, control_written, port_at as shown_at, register_at, settled, summary, with_port as with_registers, written}
+use Rattle.pm_registers.specs.{Port.{inserted, is_open, met, opening_port, port_written, removed}, RegisterMap.{RegisterMap, control_written}}
+use Rattle.pm_registers.specs.RegisterMap.{port_at as shown_at, register_at, settled, summary, with_port as with_registers, written}
 use Rattle.pm_registers.specs.declared.port.PortRegisters.{PortRegisters}
 use Rattle.pm_registers.proofs.Door.{either, write_devices}
-use Rattle.pm_control.specs.Answers.{registers_after_request}
-use Rattle.pm_control.specs.Requests.{request_in}
-use Rattle.pm_control.specs.declared.request.Request.{Request}
-use Rattle.pm_control.specs.declared.request.Request.TheVariants.{Write}
+use Rattle.pm_control.specs.{Answers.registers_after_request, Requests.request_in, declared.request.Request.{Request, TheVariants.Write}}
 use Rattle.pm_ports.specs.Port.{PortState, came_refusal, empty_port, gone_refusal, with_connection, with_down, with_removal, with_up}
-use Rattle.multiplier.specs.Arbiter.{control_port}
-use Rattle.multiplier.specs.Between.{Answer as Answers, FromPort, Gives, Notice}
-use Rattle.multiplier.specs.Rules.{FromHostRule, ToControl, ToDevice, ToNobody, ToPort, with_device as connected, without_device}
-use Rattle.multiplier.specs.State.{PmState, falling, passes_to, pm_port, port_at, stamped}
-use Rattle.multiplier.specs.declared.multiplier.Passed.{Passed}
+use Rattle.multiplier.specs.{Arbiter.control_port, Between.{Answer as Answers, FromPort, Gives, Notice}, Rules.{FromHostRule, ToControl, ToDevice}}
+use Rattle.multiplier.specs.{Rules.{ToNobody, ToPort, with_device as connected, without_device}, State.{PmState, falling, passes_to, pm_port}}
+use Rattle.multiplier.specs.{State.{port_at, stamped}, declared.multiplier.Passed.Passed}
 use Rattle.multiplier.specs.declared.multiplier.Passed.TheVariants as passed
 use Rattle.multiplier.proofs.Door.{each_port, gives, other_port, this_port}
-use Rattle.pm_world.specs.Attached.{Attached}
-use Rattle.pm_world.specs.Places.{Place, Places, Queue, new_world}
-use Rattle.pm_world.specs.Rules.{CameRule, DiskSendRule, DiskTakeRule, GoneRule, InjectRule, OnDevice, OnDeviceAndMultiplier, Outcome, PmDownRule, PmFromDeviceRule, PmFromHostRule, PmPresenceRule, PmUpRule, Rule, Run, recorded}
-use Rattle.pm_world.specs.declared.link.Change.{Change}
+use Rattle.pm_world.specs.{Attached.Attached, Places.{Place, Places, Queue, new_world}, Rules.{CameRule, DiskSendRule, DiskTakeRule, GoneRule}}
+use Rattle.pm_world.specs.Rules.{InjectRule, OnDevice, OnDeviceAndMultiplier, Outcome, PmDownRule, PmFromDeviceRule, PmFromHostRule, PmPresenceRule}
+use Rattle.pm_world.specs.{Rules.{PmUpRule, Rule, Run, recorded}, declared.{link.Change.Change, step.{Answer.Answer, Config.Config, Step.Step}}}
 use Rattle.pm_world.specs.declared.link.Change.TheVariants as change
-use Rattle.pm_world.specs.declared.step.Answer.{Answer}
 use Rattle.pm_world.specs.declared.step.Answer.TheVariants as answer
-use Rattle.pm_world.specs.declared.step.Config.{Config}
-use Rattle.pm_world.specs.declared.step.Step.{Step}
 use Rattle.pm_world.specs.declared.step.Step.TheVariants as step
 use Rattle.world_rests.proofs.Parts.{AtBoth, AtDevice, at_both, at_device}
 

@@ -1,54 +1,32 @@
 -- For `rested_disks_have_done`. Of a disk that the driver takes to be ready no read or write waits or is issued, since its port shows
 -- neither BSY nor DRQ.
-use Rattle.std.proofs.Common.{◌≡◌, ℕ, ◌<◌, ◌≤◌, ◌==◌, Bool, true, false, List, [], max, bit_or, length, refl, sym, ap, subst, ◌∙◌, inl, inr, Option, Some, None, arith}
-use Rattle.std.specs.Prelude.{◌||◌, if◌then◌else◌, is_some, not}
-use Rattle.std.specs.Int.{bit_at}
-use Rattle.std.specs.Option.{option_map}
-use Rattle.std.proofs.lemmas.Bool.{and_parts, eqb-true, false≢true, true≢false}
-use Rattle.std.proofs.lemmas.Bool.Decides.{nat_tests}
+use Rattle.std.proofs.Common.{◌≡◌, ℕ, ◌<◌, ◌≤◌, ◌==◌, Bool, true, false, List, [], max, bit_or, length, refl, sym, ap, subst, ◌∙◌, inl, inr, Option}
+use Rattle.std.proofs.{Common.{Some, None, arith}, lemmas.Bool.{and_parts, eqb-true, false≢true, true≢false, Decides.nat_tests}}
 use Rattle.std.proofs.lemmas.Nat.Bits.{bit_at-lt, bit_at-zero, bit_at_or}
+use Rattle.std.specs.{Prelude.{◌||◌, if◌then◌else◌, is_some, not}, Int.bit_at, Option.option_map}
 use Rattle.host_memory.specs.Memory.{Memory}
-use Rattle.slots.specs.Commands.{is_unanswered, slots_where}
-use Rattle.slots.specs.Slots.{Issue, has_bit, holds as issue_holds, is_queued_issue, is_waiting, issue_at, own_issue, owned_by, slots_of, waiting, Slots}
-use Rattle.slots.specs.Work.{is_dma}
+use Rattle.slots.specs.{Commands.{is_unanswered, slots_where}, Slots.{Issue, has_bit, holds as issue_holds, is_queued_issue, is_waiting, issue_at}}
+use Rattle.slots.specs.{Slots.{own_issue, owned_by, slots_of, waiting, Slots}, Work.is_dma, declared.work.Kind.{Kind, TheVariants.QueuedRead}}
+use Rattle.slots.specs.declared.work.Kind.TheVariants.{QueuedWrite}
 use Rattle.slots.specs.Work as moved
-use Rattle.slots.specs.declared.work.Kind.{Kind}
-use Rattle.slots.specs.declared.work.Kind.TheVariants.{QueuedRead, QueuedWrite}
 use Rattle.slots.specs.declared.work.Work as transferred
 use Rattle.slots.proofs.Door.{has_bit_mask, lowest_is, own_at}
 use Rattle.hba_commands.specs.declared.command.Command.{Command}
-use Rattle.hba_fbs.specs.Offsets.{register_at}
-use Rattle.hba_fbs.specs.Reading.{value_of}
-use Rattle.hba_fbs.specs.Status.{is_busy, wants_data}
-use Rattle.hba_fbs.specs.Views.{Port, last_command, state_at, view_of}
-use Rattle.disk_model.specs.declared.plan.DiskPlan.{DiskPlan}
-use Rattle.disk_model.specs.Histories.{Happening}
-use Rattle.hba_laws.specs.Agreement.{IsHistoryOf, work_of_issue}
-use Rattle.hba_laws.specs.Client.{Touches, own}
-use Rattle.hba_laws.specs.History.{Transfer, issued}
+use Rattle.hba_fbs.specs.{Offsets.register_at, Reading.value_of, Status.{is_busy, wants_data}, Views.{Port, last_command, state_at, view_of}}
+use Rattle.disk_model.specs.{declared.plan.DiskPlan.DiskPlan, Histories.Happening}
+use Rattle.hba_laws.specs.{Agreement.{IsHistoryOf, work_of_issue}, Client.{Touches, own}, History.{Transfer, issued}}
 use Rattle.hba_laws.proofs.Door.{own_here, own_in}
-use Rattle.hba_driver.specs.declared.mode.Mode.TheVariants.{Switching}
-use Rattle.hba_driver.specs.declared.path.Path.{Path}
-use Rattle.hba_driver.specs.declared.plan.Device.{Device}
-use Rattle.hba_driver.specs.declared.plan.Device.TheVariants.{Ready, Recovering, Starting}
-use Rattle.hba_driver.specs.declared.path.Recovery.{Recovery}
-use Rattle.hba_driver.specs.declared.request.Work.{Work}
+use Rattle.hba_driver.specs.declared.{mode.Mode.TheVariants.Switching, path.Path.Path, plan.Device.{Device, TheVariants.{Ready, Recovering}}}
+use Rattle.hba_driver.specs.{declared.{plan.Device.TheVariants.Starting, path.Recovery.Recovery, request.Work.Work}, Drivers.{Entry, device_at}}
+use Rattle.hba_driver.specs.{Drivers.{entry_at, is_issued, waits}, Events.{IsSoundHost, shared_by}, HostTurns.{Host, sight_in}, Orders.is_flush}
+use Rattle.hba_driver.specs.{Orders.is_queued, Seeing.Sight, Served.{IsIssueOf, IsRequest}, Sights.{px_ci, px_sact, shown, sight_of}, Slot30.Faulty}
+use Rattle.hba_driver.specs.{Slot30.{IsPlan30, Off, On, Stage30, is_faulty}, Steady.IsFine, Tended.{Awaits, Fine, Identifies, IsLiveAt, IsTendedBy}}
+use Rattle.hba_driver.specs.Tended.{Logs, Releases, Spoilt}
 use Rattle.hba_driver.specs.declared.request.Work.TheVariants as work
-use Rattle.hba_driver.specs.Drivers.{Entry, device_at, entry_at, is_issued, waits}
-use Rattle.hba_driver.specs.Events.{IsSoundHost, shared_by}
-use Rattle.hba_driver.specs.HostTurns.{Host, sight_in}
-use Rattle.hba_driver.specs.Orders.{is_flush, is_queued}
-use Rattle.hba_driver.specs.Seeing.{Sight}
-use Rattle.hba_driver.specs.Served.{IsIssueOf, IsRequest}
-use Rattle.hba_driver.specs.Sights.{px_ci, px_sact, shown, sight_of}
-use Rattle.hba_driver.specs.Slot30.{Faulty, IsPlan30, Off, On, Stage30, is_faulty}
-use Rattle.hba_driver.specs.Steady.{IsFine}
-use Rattle.hba_driver.specs.Tended.{Awaits, Fine, Identifies, IsLiveAt, IsTendedBy, Logs, Releases, Spoilt}
 use Rattle.hba_driver.proofs.Door.{issued_live, sight_is, told_of}
 use Rattle.disk_recovery.specs.Ends.{Apart, AreEnds, IsRunning, IsSetAside, IsTogether, Together}
 use Rattle.disk_recovery.proofs.Door.{request_kind}
-use Rattle.world_rests.specs.Left.{IsOccupied, NoneIsOut, NoneIsLeft}
-use Rattle.world_rests.specs.Sent.{HasOther, HasQueued, Holds, InReset, IsBusy, PortWaits, WantsData}
+use Rattle.world_rests.specs.{Left.{IsOccupied, NoneIsOut, NoneIsLeft}, Sent.{HasOther, HasQueued, Holds, InReset, IsBusy, PortWaits, WantsData}}
 use Rattle.world_rests.specs.Waits.{DriverWaits}
 use Rattle.world_rests.proofs.Open.{WasIssued, was_issued}
 

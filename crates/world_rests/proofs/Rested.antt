@@ -1,50 +1,32 @@
 -- For `rested_have_done`. Where frames stand in a world at rest, and for what its host waits.
-use Rattle.std.proofs.Common.{◌≡◌, ◌≢◌, ◌⊎◌, ℕ, zero, suc, ◌+◌, ◌-◌, ◌<◌, ◌≤◌, ◌==◌, cond, Bool, true, false, IsTrue, List, [], ◌++◌, length, Option, Some, None, refl, sym, ap, subst, ◌∙◌, inl, inr, arith}
-use Rattle.std.specs.Prelude.{slice_get, ◌||◌, nat_lt, is_some, if◌then◌else◌, Ok, Err, MatchBool, MatchOption}
-use Rattle.std.specs.List.{find, range_with_len}
+use Rattle.std.proofs.Common.{◌≡◌, ◌≢◌, ◌⊎◌, ℕ, zero, suc, ◌+◌, ◌-◌, ◌<◌, ◌≤◌, ◌==◌, cond, Bool, true, false, IsTrue, List, [], ◌++◌, length, Option}
+use Rattle.std.proofs.{Common.{Some, None, refl, sym, ap, subst, ◌∙◌, inl, inr, arith}, lemmas.Bool.{and_parts, cases_eq, eq-eqb, false≢true}}
+use Rattle.std.proofs.lemmas.{Bool.{true≢false, ltb-true, ne_eqb}, List.Folds.{find-append}}
+use Rattle.std.specs.{Prelude.{slice_get, ◌||◌, nat_lt, is_some, if◌then◌else◌, Ok, Err, MatchBool, MatchOption}, List.{find, range_with_len}}
 use Rattle.std.specs.Option.{option_or}
-use Rattle.std.proofs.lemmas.Bool.{and_parts, cases_eq, eq-eqb, false≢true, true≢false, ltb-true, ne_eqb}
-use Rattle.std.proofs.lemmas.List.Folds.{find-append}
 use Rattle.fis_view.specs.Frames.{Stamped}
 use Rattle.pm_registers.specs.Port.{passes}
 use Rattle.pm_registers.specs.RegisterMap as map
-use Rattle.multiplier.specs.Arbiter.{control_port, next_served}
-use Rattle.multiplier.specs.Rules.{FromHostRule, ToControl, ToDevice, ToNobody, ToPort}
-use Rattle.multiplier.specs.State.{PmState, held, next_place, passes_to, pm_port, port_at, ready}
+use Rattle.multiplier.specs.{Arbiter.{control_port, next_served}, Rules.{FromHostRule, ToControl, ToDevice, ToNobody, ToPort}, State.{PmState, held}}
+use Rattle.multiplier.specs.State.{next_place, passes_to, pm_port, port_at, ready}
 use Rattle.multiplier.specs.declared.multiplier.PmRefusal.TheVariants as refusal
 use Rattle.slots.specs.Slots.{own_issue, owned_by}
 use Rattle.slots.proofs.Door.{own_at}
-use Rattle.hba_fbs.specs.Sending.{MayRest}
-use Rattle.hba_fbs.specs.Views.{view_of}
-use Rattle.hba_driver.specs.declared.mode.Mode.TheVariants.{Switching}
-use Rattle.hba_driver.specs.HostTurns.{Host, sight_in}
-use Rattle.hba_driver.specs.Ticks.{acts}
+use Rattle.hba_fbs.specs.{Sending.MayRest, Views.view_of}
+use Rattle.hba_driver.specs.{declared.mode.Mode.TheVariants.Switching, HostTurns.{Host, sight_in}, Ticks.acts}
 use Rattle.pm_ports.specs.Port.{rises as rises_from}
 use Rattle.disk_model.specs.Laws.{AfterEachRun, SilentRight}
-use Rattle.pm_world.specs.Attached.{IsSilentAttached}
-use Rattle.pm_world.specs.DevicePaths.{ReachedAreOrderly}
-use Rattle.pm_world.specs.Line.{OneOrderAtATime}
-use Rattle.pm_world.specs.PortsGoOn.{PortGoesOn, PortsGoOn}
-use Rattle.pm_world.specs.Runs.{IsReached}
-use Rattle.pm_world.specs.declared.link.Change.{Change}
-use Rattle.pm_world.specs.Places.{IsFull, Place, Places, Queue, with_device, with_multiplier}
-use Rattle.pm_world.specs.Rules.{DiskSendRule, DiskTakeRule, HostPushRule, HostTakeRule, OnDevice, OnDeviceAndMultiplier, Outcome, PmDownRule, PmFromDeviceRule, PmFromHostRule, PmPresenceRule, PmUpRule, TickRule}
-use Rattle.pm_world.specs.declared.step.Answer.{Answer}
+use Rattle.pm_world.specs.{Attached.IsSilentAttached, DevicePaths.ReachedAreOrderly, Line.OneOrderAtATime, PortsGoOn.{PortGoesOn, PortsGoOn}}
+use Rattle.pm_world.specs.{Runs.IsReached, declared.link.Change.Change, Places.{IsFull, Place, Places, Queue, with_device, with_multiplier}}
+use Rattle.pm_world.specs.Rules.{DiskSendRule, DiskTakeRule, HostPushRule, HostTakeRule, OnDevice, OnDeviceAndMultiplier, Outcome, PmDownRule}
+use Rattle.pm_world.specs.{Rules.{PmFromDeviceRule, PmFromHostRule, PmPresenceRule, PmUpRule, TickRule}, declared.step.Answer.Answer}
 use Rattle.pm_world.specs.declared.step.Answer.TheVariants as answer
 use Rattle.pm_world.specs.declared.step.Step.TheVariants as step
 use Rattle.pm_world.specs.declared.step.StepError.TheVariants as error
-use Rattle.world_rests.specs.Laws.{RestedHaveDone}
-use Rattle.world_rests.specs.Rests.{IsAtRest, NothingMoves, PortRests, is_still}
-use Rattle.world_rests.specs.Sent.{ControlHasAnswered, PortWaits}
+use Rattle.world_rests.specs.{Laws.RestedHaveDone, Rests.{IsAtRest, NothingMoves, PortRests, is_still}, Sent.{ControlHasAnswered, PortWaits}}
 use Rattle.world_rests.specs.Waits.{DriverWaits, HostWaits}
-use Rattle.world_rests.proofs.Comings.{IsKnown, Of, all, known, known_reached}
-use Rattle.world_rests.proofs.Idle.{driver_waits}
-use Rattle.world_rests.proofs.Orders.{none_asking}
-use Rattle.world_rests.proofs.Owes.{silent_answers}
-use Rattle.world_rests.proofs.Parts.{get_below, get_there}
-use Rattle.world_rests.proofs.Sending.{port_waits}
-use Rattle.world_rests.proofs.Slot31.{IsAsking}
-use Rattle.world_rests.proofs.Well.{IsWell, well_in}
+use Rattle.world_rests.proofs.{Comings.{IsKnown, Of, all, known, known_reached}, Idle.driver_waits, Orders.none_asking, Owes.silent_answers}
+use Rattle.world_rests.proofs.{Parts.{get_below, get_there}, Sending.port_waits, Slot31.IsAsking, Well.{IsWell, well_in}}
 
 neither : (a b : Bool) → (a || b) ≡ false → (a ≡ false) × (b ≡ false)
 neither true b e = absurd (true≢false e)

@@ -1,35 +1,27 @@
 -- For `each_takes_turns`. Which frames go up and are taken over a run, by their ports.
-use Rattle.std.proofs.Common.{◌≡◌, ℕ, zero, suc, ◌+◌, ◌*◌, ◌≤◌, ◌==◌, Bool, true, false, IsTrue, All, List, [], ◌∷◌, ◌++◌, append_assoc, length, map, Option, Some, None, refl, sym, ap, subst, ◌∙◌, arith, length-append}
+use Rattle.std.proofs.Common.{◌≡◌, ℕ, zero, suc, ◌+◌, ◌*◌, ◌≤◌, ◌==◌, Bool, true, false, IsTrue, All, List, [], ◌∷◌, ◌++◌, append_assoc, length, map}
+use Rattle.std.proofs.{Common.{Option, Some, None, refl, sym, ap, subst, ◌∙◌, arith, length-append}, lemmas.List.{append-nil, length-map, map-append}}
 use Rattle.std.specs.Prelude.{Ok, MatchBool, MatchOption, is_none, if◌then◌else◌}
-use Rattle.std.proofs.lemmas.List.{append-nil, length-map, map-append}
-use Rattle.fis_view.specs.Frames.{Stamped}
-use Rattle.fis_view.specs.declared.frame.Stamp.{Stamp}
+use Rattle.fis_view.specs.{Frames.Stamped, declared.frame.Stamp.Stamp}
 use Rattle.pm_control.specs.Answers.{IsNotice}
 use Rattle.pm_ports.specs.Port.{came_refusal as port_came_refusal, gone_refusal as port_gone_refusal}
-use Rattle.multiplier.specs.Arbiter.{IsServedInTurn, StaysReady, control_port}
-use Rattle.multiplier.specs.Between.{Answer as Answers, FromPort, Gives, Notice}
-use Rattle.multiplier.specs.Rules.{FromHostRule, ToControl, ToDevice, ToNobody, ToPort, with_device as connected, without_device}
-use Rattle.multiplier.specs.State.{PmState, control_stamp, next_place, passes_to, pm_port, port_at, ready}
-use Rattle.multiplier.specs.declared.multiplier.Passed.{Passed}
+use Rattle.multiplier.specs.{Arbiter.{IsServedInTurn, StaysReady, control_port}, Between.{Answer as Answers, FromPort, Gives, Notice}}
+use Rattle.multiplier.specs.{Rules.{FromHostRule, ToControl, ToDevice, ToNobody, ToPort, with_device as connected, without_device}, State.PmState}
+use Rattle.multiplier.specs.{State.{control_stamp, next_place, passes_to, pm_port, port_at, ready}, declared.multiplier.Passed.Passed}
 use Rattle.multiplier.specs.declared.multiplier.Passed.TheVariants as passed
 use Rattle.multiplier.proofs.Door.{gives}
-use Rattle.hba_driver.specs.HostTurns.{Host}
-use Rattle.hba_driver.specs.declared.request.Request.{Request}
-use Rattle.pm_world.specs.DevicePaths.{ReachedAreOrderly}
-use Rattle.pm_world.specs.Links.{rose_by}
-use Rattle.pm_world.specs.Places.{IsOrderly, Place, Places, Queue}
-use Rattle.pm_world.specs.Rules.{CameActs, CameRule, DiskSendActs, DiskSendRule, DiskTakeRule, GoneActs, GoneRule, HostPushRule, HostTakeRule, InjectActs, InjectRule, OnDevice, OnDeviceAndMultiplier, Outcome, PmDownRule, PmFromDeviceRule, PmFromHostRule, PmPresenceRule, PmUpRule, PollRule, PutRule, Rule, Run, SubmitRule, TickRule, recorded}
-use Rattle.pm_world.specs.Runs.{AtEach, IsReached}
-use Rattle.pm_world.specs.declared.link.Change.{Change}
+use Rattle.hba_driver.specs.{HostTurns.Host, declared.request.Request.Request}
+use Rattle.pm_world.specs.{DevicePaths.ReachedAreOrderly, Links.rose_by, Places.{IsOrderly, Place, Places, Queue}, Rules.{CameActs, CameRule}}
+use Rattle.pm_world.specs.Rules.{DiskSendActs, DiskSendRule, DiskTakeRule, GoneActs, GoneRule, HostPushRule, HostTakeRule, InjectActs, InjectRule}
+use Rattle.pm_world.specs.Rules.{OnDevice, OnDeviceAndMultiplier, Outcome, PmDownRule, PmFromDeviceRule, PmFromHostRule, PmPresenceRule, PmUpRule}
+use Rattle.pm_world.specs.{Rules.{PollRule, PutRule, Rule, Run, SubmitRule, TickRule, recorded}, Runs.{AtEach, IsReached}}
+use Rattle.pm_world.specs.declared.{link.Change.Change, step.{Step.Step, Answer.Answer}}
 use Rattle.pm_world.specs.declared.link.Change.TheVariants as change
-use Rattle.pm_world.specs.declared.step.Step.{Step}
 use Rattle.pm_world.specs.declared.step.Step.TheVariants as step
-use Rattle.pm_world.specs.declared.step.Answer.{Answer}
 use Rattle.pm_world.specs.declared.step.Answer.TheVariants as answer
 use Rattle.world_rests.specs.Turns.{EachTakesTurns, HasOne, rose, times_of, took, took_from}
-use Rattle.world_rests.proofs.Parts.{at_both, at_device, reached_after}
-use Rattle.world_rests.proofs.Served.{WaitsFifteen, front_each_sixteenth, served_each_sixteenth, times_both}
-use Rattle.world_rests.proofs.Well.{IsWell, well_reached}
+use Rattle.world_rests.proofs.{Parts.{at_both, at_device, reached_after}, Served.{WaitsFifteen, front_each_sixteenth, served_each_sixteenth}}
+use Rattle.world_rests.proofs.{Served.times_both, Well.{IsWell, well_reached}}
 
 -- no frame went up, and the host took none
 abbrev IsQuiet : Answer → Type 0

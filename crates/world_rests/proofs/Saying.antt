@@ -1,31 +1,21 @@
 -- For `rested_ports_are_open`. The command of slot 31 on its way to the multiplier, and the answer to it on the way back, over each way:
 -- what the answer tells stays, until the driver has looked at it.
-use Rattle.std.proofs.Common.{◌≡◌, ◌≢◌, ◌⊎◌, ℕ, ◌==◌, ◌&&◌, Bool, true, false, List, [], ◌∷◌, ◌++◌, refl, sym, ap, subst, ◌∙◌, inl, inr, Some, None, Ok}
+use Rattle.std.proofs.Common.{◌≡◌, ◌≢◌, ◌⊎◌, ℕ, ◌==◌, ◌&&◌, Bool, true, false, List, [], ◌∷◌, ◌++◌, refl, sym, ap, subst, ◌∙◌, inl, inr, Some, None}
+use Rattle.std.proofs.{Common.Ok, lemmas.{Bool.{cases_Bool, cases_eq, eq-eqb, false≢true, ne_eqb, true≢false}, Option.same_Some}}
 use Rattle.std.specs.Prelude.{is_some}
-use Rattle.std.proofs.lemmas.Bool.{cases_Bool, cases_eq, eq-eqb, false≢true, ne_eqb, true≢false}
-use Rattle.std.proofs.lemmas.Option.{same_Some}
-use Rattle.fis_view.specs.Frames.{Stamped}
-use Rattle.fis_view.specs.Seen.{seen}
+use Rattle.fis_view.specs.{Frames.Stamped, Seen.seen}
 use Rattle.fis_view.specs.declared.view.Fis.TheVariants as view
 use Rattle.slots.specs.Slots.{own_issue}
-use Rattle.multiplier.specs.Arbiter.{control_port}
-use Rattle.multiplier.specs.State.{PmState, pm_port}
-use Rattle.hba_fbs.specs.declared.report.TakeReport.{TakeReport}
-use Rattle.hba_fbs.specs.Taking.{port_of}
-use Rattle.hba_fbs.specs.Views.{DeviceView}
-use Rattle.hba_driver.specs.Drivers.{Driver}
-use Rattle.hba_driver.specs.HostTurns.{Does, Host, HostTurn, Pushed, Took}
-use Rattle.hba_driver.specs.Scans.{Comes, Keeps as TellsOn, Tells, told_in}
-use Rattle.hba_driver.specs.Sights.{answer_in}
-use Rattle.hba_driver.specs.Slot31.{Asks, Control, Fails, Follows31, IsAt31, IsFree31, IsNext31, Signs, Stage31, TakesOn, TicksOn, Turns31, Waits, control_in, control_of, has_failed, is_idle}
+use Rattle.multiplier.specs.{Arbiter.control_port, State.{PmState, pm_port}}
+use Rattle.hba_fbs.specs.{declared.report.TakeReport.TakeReport, Taking.port_of, Views.DeviceView}
+use Rattle.hba_driver.specs.{Drivers.Driver, HostTurns.{Does, Host, HostTurn, Pushed, Took}, Scans.{Comes, Keeps as TellsOn, Tells, told_in}}
+use Rattle.hba_driver.specs.{Sights.answer_in, Slot31.{Asks, Control, Fails, Follows31, IsAt31, IsFree31, IsNext31, Signs, Stage31, TakesOn, TicksOn}}
+use Rattle.hba_driver.specs.Slot31.{Turns31, Waits, control_in, control_of, has_failed, is_idle}
 use Rattle.hba_driver.proofs.Door.{tells_on, turn_addressed}
 use Rattle.pm_world.specs.Line.{NoneDown, NoneUp, OnLine, is_register, is_reply}
-use Rattle.world_rests.proofs.ControlFile.{IsCalm}
-use Rattle.world_rests.proofs.Orders.{Among, among_last, among_more, none_down}
-use Rattle.world_rests.proofs.SetUp.{Came, Falls, Held, IsCommand, IsComing, IsSaid, IsWell, Rises, Unsent, command_of, free_by, is_asking, is_ordered, reply_by, waits_by}
-use Rattle.world_rests.proofs.Slot31.{none_there}
-use Rattle.world_rests.proofs.Turning.{inside_turn, none_reply, pushed_turn}
-use Rattle.world_rests.proofs.Ways.{IsGood, IsInside, Line}
+use Rattle.world_rests.proofs.{ControlFile.IsCalm, Orders.{Among, among_last, among_more, none_down}, SetUp.{Came, Falls, Held, IsCommand, IsComing}}
+use Rattle.world_rests.proofs.SetUp.{IsSaid, IsWell, Rises, Unsent, command_of, free_by, is_asking, is_ordered, reply_by, waits_by}
+use Rattle.world_rests.proofs.{Slot31.none_there, Turning.{inside_turn, none_reply, pushed_turn}, Ways.{IsGood, IsInside, Line}}
 
 -- ---- the multiplier
 

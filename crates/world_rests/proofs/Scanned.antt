@@ -1,49 +1,30 @@
 -- For `rested_ports_are_open`. A tick that orders a scan issues its command: the command waits in slot 31.
-use Rattle.std.proofs.Common.{◌≡◌, ℕ, ◌+◌, ◌*◌, ◌^◌, ◌≤◌, ◌==◌, ◌&&◌, Bool, true, false, cond, not, if◌then◌else◌, List, [], ◌∷◌, ◌++◌, refl, sym, ap, subst, ◌∙◌, inl, inr, Option, Some, None, arith}
-use Rattle.std.specs.Prelude.{is_none, is_some}
-use Rattle.std.specs.Option.{option_or}
-use Rattle.std.proofs.lemmas.Bool.{and_parts, cases_Bool, eq-eqb, false≢true, lt-ltb, true≢false}
-use Rattle.std.proofs.lemmas.Nat.Bits.{bit_at-pow_same}
+use Rattle.std.proofs.Common.{◌≡◌, ℕ, ◌+◌, ◌*◌, ◌^◌, ◌≤◌, ◌==◌, ◌&&◌, Bool, true, false, cond, not, if◌then◌else◌, List, [], ◌∷◌, ◌++◌, refl, sym, ap}
+use Rattle.std.proofs.{Common.{subst, ◌∙◌, inl, inr, Option, Some, None, arith}, lemmas.Bool.{and_parts, cases_Bool, eq-eqb, false≢true, lt-ltb}}
+use Rattle.std.proofs.lemmas.{Bool.{true≢false}, Nat.Bits.{bit_at-pow_same}}
+use Rattle.std.specs.{Prelude.{is_none, is_some}, Option.option_or}
 use Rattle.fis_view.specs.declared.build.H2dFields.{H2dFields}
 use Rattle.host_memory.specs.Memory.{IsHostMemory, Memory}
-use Rattle.slots.specs.Slots.{Issue, has_bit, lowest, new_issue, own_issue, slots_of}
-use Rattle.slots.specs.Table.{IsTable}
+use Rattle.slots.specs.{Slots.{Issue, has_bit, lowest, new_issue, own_issue, slots_of}, Table.IsTable}
 use Rattle.slots.proofs.Door.{none_below}
-use Rattle.hba_commands.specs.Commands.{command_at}
-use Rattle.hba_commands.specs.declared.command.Command.{Command}
-use Rattle.hba_fbs.specs.declared.error.WriteError.{WriteError}
+use Rattle.hba_commands.specs.{Commands.command_at, declared.command.Command.Command}
+use Rattle.hba_fbs.specs.declared.{error.WriteError.WriteError, register.Register.TheVariants.{Ci, Fbs, Sntf}, registers.Registers.Registers}
+use Rattle.hba_fbs.specs.{Issuing.{aimed, any_slot, asked, is_bad, is_busy, issue_with, view_issued}, Offsets.register_at, Registers.own_refusal}
+use Rattle.hba_fbs.specs.{Registers.written, Views.{DeviceView, Port, view_of}, Writing.{Accepts, apart_refusal, is_apart, slots_refusal, view_after}}
+use Rattle.hba_fbs.specs.Writing.{write_refusal}
 use Rattle.hba_fbs.specs.declared.error.WriteError.TheVariants as refusal
-use Rattle.hba_fbs.specs.declared.register.Register.TheVariants.{Ci, Fbs, Sntf}
-use Rattle.hba_fbs.specs.declared.registers.Registers.{Registers}
-use Rattle.hba_fbs.specs.Issuing.{aimed, any_slot, asked, is_bad, is_busy, issue_with, view_issued}
-use Rattle.hba_fbs.specs.Offsets.{register_at}
-use Rattle.hba_fbs.specs.Registers.{own_refusal, written}
-use Rattle.hba_fbs.specs.Views.{DeviceView, Port, view_of}
-use Rattle.hba_fbs.specs.Writing.{Accepts, apart_refusal, is_apart, slots_refusal, view_after, write_refusal}
 use Rattle.hba_fbs.proofs.Door.{aimed_chosen}
 use Rattle.hba_laws.proofs.Door.{is_own, own_issued}
-use Rattle.hba_driver.specs.declared.mode.Mode.{Mode}
-use Rattle.hba_driver.specs.declared.mode.Mode.TheVariants.{Switching}
-use Rattle.hba_driver.specs.declared.order.Order.{Order}
-use Rattle.hba_driver.specs.declared.order.Order.TheVariants.{CountPorts, Detect, Scan}
-use Rattle.hba_driver.specs.declared.plan.Plan.{Plan}
-use Rattle.hba_driver.specs.Accepted.{AreAccepted, TurnAccepts, TurnsAccept}
-use Rattle.hba_driver.specs.Between.{IsGoing, Runs}
-use Rattle.hba_driver.specs.Drivers.{Driver, Entry}
-use Rattle.hba_driver.specs.Effects.{ActsAll, effects_of, order_effects, sending}
-use Rattle.hba_driver.specs.Events.{opening_host}
-use Rattle.hba_driver.specs.HostTurns.{Does, DoesAll, Host, HostTurn, Ticked, sight_in}
-use Rattle.hba_driver.specs.Orders.{control_port, error_ports, order_fields, reads}
-use Rattle.hba_driver.specs.Scans.{is_scan}
-use Rattle.hba_driver.specs.Seeing.{Sight}
-use Rattle.hba_driver.specs.Sights.{file_shown, px_ci}
-use Rattle.hba_driver.specs.Slot31.{Asks, Fails, IsAt31, IsIn, Resets, Rests, Signs, Stage31, Told, Waits, control_of, is_off, is_on}
-use Rattle.hba_driver.specs.Ticks.{acted, after_tick, done_ended, due, effects, effects_due, plan_after, seen}
-use Rattle.hba_driver.specs.Turns.{allowed, control_news, control_seen, control_turn, device_turn, early_due, noted, order_allowed, order_due, plain_turn, turn_of}
+use Rattle.hba_driver.specs.declared.{mode.Mode.{Mode, TheVariants.Switching}, order.Order.{Order, TheVariants.{CountPorts, Detect, Scan}}}
+use Rattle.hba_driver.specs.{declared.plan.Plan.Plan, Accepted.{AreAccepted, TurnAccepts, TurnsAccept}, Between.{IsGoing, Runs}, Drivers.Driver}
+use Rattle.hba_driver.specs.{Drivers.Entry, Effects.{ActsAll, effects_of, order_effects, sending}, Events.opening_host, HostTurns.{Does, DoesAll}}
+use Rattle.hba_driver.specs.{HostTurns.{Host, HostTurn, Ticked, sight_in}, Orders.{control_port, error_ports, order_fields, reads}, Scans.is_scan}
+use Rattle.hba_driver.specs.{Seeing.Sight, Sights.{file_shown, px_ci}, Slot31.{Asks, Fails, IsAt31, IsIn, Resets, Rests, Signs, Stage31, Told, Waits}}
+use Rattle.hba_driver.specs.{Slot31.{control_of, is_off, is_on}, Ticks.{acted, after_tick, done_ended, due, effects, effects_due, plan_after, seen}}
+use Rattle.hba_driver.specs.Turns.{allowed, control_news, control_seen, control_turn, device_turn, early_due, noted, order_allowed, order_due}
+use Rattle.hba_driver.specs.Turns.{plain_turn, turn_of}
 use Rattle.hba_driver.proofs.Door.{not_below, runs_turn, seen_free, seen_out, seen_unasked, writes_are_accepted}
-use Rattle.world_rests.proofs.Notified.{orders_scan}
-use Rattle.world_rests.proofs.SetUp.{IsWell, sent_not}
-use Rattle.world_rests.proofs.Slot31.{none_there}
+use Rattle.world_rests.proofs.{Notified.orders_scan, SetUp.{IsWell, sent_not}, Slot31.none_there}
 
 -- ---- turns from an opening
 

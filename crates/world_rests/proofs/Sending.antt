@@ -1,21 +1,14 @@
 -- For `rested_have_done`. What has not gone out of a host port that may send nothing.
 use Rattle.std.proofs.Common.{◌≡◌, ◌⊎◌, ℕ, ◌<◌, ◌≤◌, Bool, true, false, refl, sym, ap, subst, ◌∙◌, inl, inr, Option, Some, None, arith}
-use Rattle.std.specs.Prelude.{◌&&◌, ◌||◌, not, is_none, is_some, MatchOption}
 use Rattle.std.proofs.lemmas.Bool.{false≢true, true≢false}
+use Rattle.std.specs.Prelude.{◌&&◌, ◌||◌, not, is_none, is_some, MatchOption}
 use Rattle.port_errors.specs.Errors.{cause_of}
-use Rattle.slots.specs.Commands.{has_outstanding, may_begin, may_go}
-use Rattle.slots.specs.Data.{payload}
-use Rattle.slots.specs.Slots.{Issue, context_of, has_bit, holds, is_control, issue_at, slots_of, waiting}
-use Rattle.slots.specs.Table.{IsIssue}
-use Rattle.slots.specs.Work.{is_dma}
+use Rattle.slots.specs.{Commands.{has_outstanding, may_begin, may_go}, Data.payload, Slots.{Issue, context_of, has_bit, holds, is_control, issue_at}}
+use Rattle.slots.specs.{Slots.{slots_of, waiting}, Table.IsIssue, Work.is_dma}
 use Rattle.slots.proofs.Door.{has_bit_below, none_below}
-use Rattle.hba_fbs.specs.Sending.{MayRest, faulty_devices, is_due, is_ready, next_receiver, next_to_send, ready_devices}
-use Rattle.hba_fbs.specs.Status.{is_busy, wants_data}
-use Rattle.hba_fbs.specs.Taking.{is_running}
-use Rattle.hba_fbs.specs.Views.{Port, state_at}
-use Rattle.hba_driver.specs.Events.{IsSoundHost}
-use Rattle.hba_driver.specs.HostTurns.{Host, sight_in}
-use Rattle.hba_driver.specs.Seeing.{Sight}
+use Rattle.hba_fbs.specs.{Sending.{MayRest, faulty_devices, is_due, is_ready, next_receiver, next_to_send, ready_devices}, Status.is_busy}
+use Rattle.hba_fbs.specs.{Status.wants_data, Taking.is_running, Views.{Port, state_at}}
+use Rattle.hba_driver.specs.{Events.IsSoundHost, HostTurns.{Host, sight_in}, Seeing.Sight}
 use Rattle.hba_driver.proofs.Door.{faulty_shown, sight_is}
 use Rattle.world_rests.specs.Sent.{HasOther, HasQueued, Holds, InReset, IsBusy, IsHeldBack, PortWaits, WantsData}
 

@@ -1,9 +1,8 @@
 -- For `each_takes_turns`. Among places that are served in turn, one that stays ready is served at least each sixteenth time.
-use Rattle.std.proofs.Common.{◌≡◌, ◌≢◌, ℕ, zero, suc, ◌+◌, ◌*◌, ◌<◌, ◌≤◌, ◌==◌, Bool, IsTrue, List, [], ◌∷◌, ◌++◌, append_assoc, All, length, refl, sym, ap, subst, ◌∙◌, inl, inr, arith, length-append}
-use Rattle.std.specs.Prelude.{filter, if◌then◌else◌}
-use Rattle.std.proofs.lemmas.Bool.{cases_eq, eq-eqb, ne_eqb}
-use Rattle.std.proofs.lemmas.List.{append-nil}
+use Rattle.std.proofs.Common.{◌≡◌, ◌≢◌, ℕ, zero, suc, ◌+◌, ◌*◌, ◌<◌, ◌≤◌, ◌==◌, Bool, IsTrue, List, [], ◌∷◌, ◌++◌, append_assoc, All, length, refl}
+use Rattle.std.proofs.{Common.{sym, ap, subst, ◌∙◌, inl, inr, arith, length-append}, lemmas.{Bool.{cases_eq, eq-eqb, ne_eqb}, List.{append-nil}}}
 use Rattle.std.proofs.lemmas.List.Elements.{All-append, filter-append}
+use Rattle.std.specs.Prelude.{filter, if◌then◌else◌}
 use Rattle.multiplier.specs.Arbiter.{IsPassedOver, IsServedInTurn, StaysReady, control_port}
 use Rattle.multiplier.proofs.Door.{served_below}
 use Rattle.world_rests.specs.Turns.{times_of}

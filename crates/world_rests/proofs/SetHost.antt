@@ -1,31 +1,26 @@
 -- For `rested_ports_are_open`. Each turn of the host keeps what the driver has set in the multiplier, or the driver goes on.
 use Rattle.std.proofs.Common.{◌≡◌, ◌⊎◌, ℕ, ◌≤◌, ◌&&◌, ◌||◌, Bool, true, false, List, [], ◌∷◌, ◌++◌, refl, sym, ap, subst, ◌∙◌, inl, inr, Some, None}
-use Rattle.std.specs.Prelude.{not}
 use Rattle.std.proofs.lemmas.Bool.{cases_Bool, true≢false}
+use Rattle.std.specs.Prelude.{not}
 use Rattle.fis_view.specs.Frames.{Stamped}
 use Rattle.slots.specs.Slots.{has_bit}
 use Rattle.pm_control.specs.Requests.{request_in}
-use Rattle.multiplier.specs.Arbiter.{control_port}
-use Rattle.multiplier.specs.State.{PmState, pm_port}
+use Rattle.multiplier.specs.{Arbiter.control_port, State.{PmState, pm_port}}
 use Rattle.hba_fbs.specs.declared.report.TakeReport.{TakeReport}
-use Rattle.hba_driver.specs.declared.order.Order.{Order}
-use Rattle.hba_driver.specs.declared.order.Order.TheVariants.{CountPorts}
-use Rattle.hba_driver.specs.Drivers.{Driver}
-use Rattle.hba_driver.specs.HostTurns.{Does, Host, HostTurn, Polled, Pushed, Put, Submitted, Ticked, Took, sight_in}
-use Rattle.hba_driver.specs.Scans.{told_in}
-use Rattle.hba_driver.specs.Seeing.{Sight}
-use Rattle.hba_driver.specs.Slot31.{Anew, Control, Follows31, Goes31, IsAt31, IsFree31, IsIn, Kept, Looked, Ordered, Pushes31, Resets, Signs, Stage31, TicksOn, Turns31, Waits, control_in, control_of, has_failed, is_off, is_on, is_resetting, seen_in}
+use Rattle.hba_driver.specs.{declared.order.Order.{Order, TheVariants.CountPorts}, Drivers.Driver, HostTurns.{Does, Host, HostTurn, Polled, Pushed}}
+use Rattle.hba_driver.specs.{HostTurns.{Put, Submitted, Ticked, Took, sight_in}, Scans.told_in, Seeing.Sight, Slot31.{Anew, Control, Follows31}}
+use Rattle.hba_driver.specs.Slot31.{Goes31, IsAt31, IsFree31, IsIn, Kept, Looked, Ordered, Pushes31, Resets, Signs, Stage31, TicksOn, Turns31, Waits}
+use Rattle.hba_driver.specs.Slot31.{control_in, control_of, has_failed, is_off, is_on, is_resetting, seen_in}
 use Rattle.hba_driver.proofs.Door.{free_seen, poll_plan, told_seen}
-use Rattle.pm_world.specs.Line.{IsEnd, IsReset, OnLine}
-use Rattle.pm_world.specs.Rules.{recorded}
-use Rattle.world_rests.proofs.ControlFile.{IsCalm, among_either, recorded_answer}
-use Rattle.world_rests.proofs.Ordering.{Done, Upto, order_wishes, seen_asked, upto_seen, wish}
-use Rattle.world_rests.proofs.Saying.{never_coming, push_coming, push_port, push_said, push_same, push_turn, pushed_failed, said_now, then31, ticks_waits, took_coming, took_failed, took_said, took_same, turn_coming, turn_said, view_well, well_was}
-use Rattle.world_rests.proofs.Setting.{keeps_same}
-use Rattle.world_rests.proofs.Turning.{ends_last, none_last, resets_last, same_reset, took_turn}
-use Rattle.world_rests.proofs.Ways.{Hears, IsGood, IsInside, Line, Pushes, Records, Rises as GoesUp, Stays, Takes, Turns, Way}
-use Rattle.world_rests.proofs.SetUp.{IsCommand, IsComing, IsOfReset, IsSaid, IsSet, IsSetUp, IsWell, Unsent, asking_of, command_of, count_asks, done_free, is_asking, is_ordered, unasked_by, unsent_by, unsent_none, waits_of}
-use Rattle.world_rests.proofs.SetWays.{heard_by, heard_set, recorded_both, rises_set, setup_pm, shape_as}
+use Rattle.pm_world.specs.{Line.{IsEnd, IsReset, OnLine}, Rules.recorded}
+use Rattle.world_rests.proofs.{ControlFile.{IsCalm, among_either, recorded_answer}, Ordering.{Done, Upto, order_wishes, seen_asked, upto_seen, wish}}
+use Rattle.world_rests.proofs.Saying.{never_coming, push_coming, push_port, push_said, push_same, push_turn, pushed_failed, said_now, then31}
+use Rattle.world_rests.proofs.Saying.{ticks_waits, took_coming, took_failed, took_said, took_same, turn_coming, turn_said, view_well, well_was}
+use Rattle.world_rests.proofs.{Setting.keeps_same, Turning.{ends_last, none_last, resets_last, same_reset, took_turn}, Ways.{Hears, IsGood, IsInside}}
+use Rattle.world_rests.proofs.{Ways.{Line, Pushes, Records, Rises as GoesUp, Stays, Takes, Turns, Way}, SetUp.{IsCommand, IsComing, IsOfReset}}
+use Rattle.world_rests.proofs.SetUp.{IsSaid, IsSet, IsSetUp, IsWell, Unsent, asking_of, command_of, count_asks, done_free, is_asking, is_ordered}
+use Rattle.world_rests.proofs.{SetUp.{unasked_by, unsent_by, unsent_none, waits_of}, SetWays.{heard_by, heard_set, recorded_both, rises_set}}
+use Rattle.world_rests.proofs.SetWays.{setup_pm, shape_as}
 
 -- ---- what a turn leaves
 

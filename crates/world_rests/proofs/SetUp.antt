@@ -1,29 +1,19 @@
 -- For `rested_ports_are_open`. How far the driver is with setting up the multiplier, over each way.
 use Rattle.std.proofs.Common.{◌≡◌, ◌⊎◌, ℕ, ◌&&◌, ◌||◌, Bool, true, false, List, [], ◌∷◌, refl, sym, ap, subst, ◌∙◌, inl, inr, Option, Some, None}
+use Rattle.std.proofs.lemmas.{Bool.{false≢true, true≢false}, Option.same_Some}
 use Rattle.std.specs.Prelude.{is_some, not}
-use Rattle.std.proofs.lemmas.Bool.{false≢true, true≢false}
-use Rattle.std.proofs.lemmas.Option.{same_Some}
-use Rattle.fis_view.specs.Frames.{Stamped}
-use Rattle.fis_view.specs.Seen.{seen}
+use Rattle.fis_view.specs.{Frames.Stamped, Seen.seen}
 use Rattle.slots.specs.Slots.{Issue, own_issue}
 use Rattle.pm_control.specs.Requests.{request_in}
 use Rattle.pm_registers.specs.RegisterMap.{RegisterMap}
-use Rattle.multiplier.specs.Arbiter.{control_port}
-use Rattle.multiplier.specs.State.{pm_port}
+use Rattle.multiplier.specs.{Arbiter.control_port, State.pm_port}
 use Rattle.hba_laws.specs.Parts.{DevicePart}
-use Rattle.hba_driver.specs.declared.order.Order.{Order}
-use Rattle.hba_driver.specs.declared.order.Order.TheVariants.{CountPorts, Enable, Open, SetMask}
-use Rattle.hba_driver.specs.HostTurns.{Host}
-use Rattle.hba_driver.specs.Scans.{told_in}
-use Rattle.hba_driver.specs.Sights.{answer_in}
-use Rattle.hba_driver.specs.Slot31.{Asks, Fails, IsAt31, IsFree31, IsIn, IsUnsent, Resets, Rests, Signs, Stage31, Told, Waits, control_of, has_failed, is_off, is_on}
+use Rattle.hba_driver.specs.{declared.order.Order.{Order, TheVariants.{CountPorts, Enable, Open, SetMask}}, HostTurns.Host, Scans.told_in}
+use Rattle.hba_driver.specs.{Sights.answer_in, Slot31.{Asks, Fails, IsAt31, IsFree31, IsIn, IsUnsent, Resets, Rests, Signs, Stage31, Told, Waits}}
+use Rattle.hba_driver.specs.Slot31.{control_of, has_failed, is_off, is_on}
 use Rattle.pm_world.specs.Line.{EndsIn, IsEnd, IsReset, NoneDown, NoneUp, OnLine, is_reply}
-use Rattle.world_rests.proofs.Ordering.{Done, Upto, wish}
-use Rattle.world_rests.proofs.Orders.{Among, none_down, resets_down}
-use Rattle.world_rests.proofs.Setting.{IsShape}
-use Rattle.world_rests.proofs.Slot31.{none_there}
-use Rattle.world_rests.proofs.Turning.{none_reply}
-use Rattle.world_rests.proofs.Ways.{Line}
+use Rattle.world_rests.proofs.{Ordering.{Done, Upto, wish}, Orders.{Among, none_down, resets_down}, Setting.IsShape, Slot31.none_there}
+use Rattle.world_rests.proofs.{Turning.none_reply, Ways.Line}
 
 -- ---- what is on its way
 

@@ -1,36 +1,24 @@
 -- For `rested_ports_are_open`. Each way keeps what the driver has set in the multiplier.
-use Rattle.std.proofs.Common.{◌≡◌, ◌≢◌, ℕ, ◌≤◌, ◌&&◌, Bool, true, false, List, [], ◌∷◌, ◌++◌, refl, sym, ap, subst, ◌∙◌, inl, inr, Option, Some, None, Ok}
+use Rattle.std.proofs.Common.{◌≡◌, ◌≢◌, ℕ, ◌≤◌, ◌&&◌, Bool, true, false, List, [], ◌∷◌, ◌++◌, refl, sym, ap, subst, ◌∙◌, inl, inr, Option, Some, None}
+use Rattle.std.proofs.{Common.Ok, lemmas.Bool.{cases_Bool, cases_eq, eq-eqb, ne_eqb, true≢false}}
 use Rattle.std.specs.Prelude.{if◌then◌else◌, is_none, MatchBool, MatchOption}
-use Rattle.std.proofs.lemmas.Bool.{cases_Bool, cases_eq, eq-eqb, ne_eqb, true≢false}
-use Rattle.fis_view.specs.Built.{IsBuilt, d2h_given}
-use Rattle.fis_view.specs.Frames.{Stamped}
-use Rattle.fis_view.specs.Seen.{seen}
-use Rattle.fis_view.specs.Table.{D2h}
-use Rattle.fis_view.specs.declared.build.D2hFields.{D2hFields}
-use Rattle.fis_view.specs.declared.frame.Stamp.{Stamp}
-use Rattle.pm_control.specs.Answers.{IsAnswer, answer_to_request, registers_after_request, value_answer}
-use Rattle.pm_control.specs.Requests.{request_in}
+use Rattle.fis_view.specs.{Built.{IsBuilt, d2h_given}, Frames.Stamped, Seen.seen, Table.D2h, declared.{build.D2hFields.D2hFields, frame.Stamp.Stamp}}
+use Rattle.pm_control.specs.{Answers.{IsAnswer, answer_to_request, registers_after_request, value_answer}, Requests.request_in}
 use Rattle.pm_control.specs.declared.request.Request.{Request}
 use Rattle.pm_ports.specs.Port.{came_refusal, gone_refusal}
 use Rattle.pm_registers.specs.RegisterMap.{RegisterMap}
-use Rattle.multiplier.specs.Arbiter.{control_port}
-use Rattle.multiplier.specs.Between.{Answer as Answers, FromPort, Gives, Notice}
-use Rattle.multiplier.specs.Rules.{FromHostRule, ToControl, ToDevice, ToNobody, ToPort, with_device as connected, without_device}
-use Rattle.multiplier.specs.State.{PmState, control_stamp, passes_to, pm_port, port_at}
-use Rattle.multiplier.specs.declared.multiplier.Passed.{Passed}
+use Rattle.multiplier.specs.{Arbiter.control_port, Between.{Answer as Answers, FromPort, Gives, Notice}, Rules.{FromHostRule, ToControl, ToDevice}}
+use Rattle.multiplier.specs.{Rules.{ToNobody, ToPort, with_device as connected, without_device}, State.{PmState, control_stamp, passes_to, pm_port}}
+use Rattle.multiplier.specs.{State.port_at, declared.multiplier.Passed.Passed}
 use Rattle.multiplier.specs.declared.multiplier.Passed.TheVariants as passed
 use Rattle.hba_driver.specs.declared.order.Order.TheVariants.{CountPorts}
-use Rattle.pm_world.specs.Line.{is_register, is_reply}
-use Rattle.pm_world.specs.Rules.{recorded}
-use Rattle.pm_world.specs.declared.link.Change.{Change}
+use Rattle.pm_world.specs.{Line.{is_register, is_reply}, Rules.recorded, declared.link.Change.Change}
 use Rattle.pm_world.specs.declared.link.Change.TheVariants as change
-use Rattle.world_rests.proofs.ControlFile.{among_first}
-use Rattle.world_rests.proofs.Ordering.{Done, Upto, counted, done_keeps, upto_keeps, wish, wish_done, wish_shape}
-use Rattle.world_rests.proofs.Orders.{Among}
-use Rattle.world_rests.proofs.Saying.{coming_other, coming_pm, coming_risen, not_control, notice_none, said_answer, said_beside, said_other, said_pm}
-use Rattle.world_rests.proofs.Setting.{IsShape, Keeps, insert_keeps, insert_shape, keeps_same, notice_keeps, notice_shape, remove_keeps, remove_shape}
-use Rattle.world_rests.proofs.Ways.{Line}
-use Rattle.world_rests.proofs.SetUp.{Held, IsOfReset, IsSaid, IsSet, IsSetUp, IsWell, is_ordered}
+use Rattle.world_rests.proofs.{ControlFile.among_first, Ordering.{Done, Upto, counted, done_keeps, upto_keeps, wish, wish_done, wish_shape}}
+use Rattle.world_rests.proofs.{Orders.Among, Saying.{coming_other, coming_pm, coming_risen, not_control, notice_none, said_answer, said_beside}}
+use Rattle.world_rests.proofs.{Saying.{said_other, said_pm}, Setting.{IsShape, Keeps, insert_keeps, insert_shape, keeps_same, notice_keeps}}
+use Rattle.world_rests.proofs.{Setting.{notice_shape, remove_keeps, remove_shape}, Ways.Line, SetUp.{Held, IsOfReset, IsSaid, IsSet, IsSetUp, IsWell}}
+use Rattle.world_rests.proofs.SetUp.{is_ordered}
 
 -- ---- the multiplier
 

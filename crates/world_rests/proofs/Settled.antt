@@ -1,42 +1,30 @@
 -- For `rested_drivers_watch`. The task file of the control port at the host: DRQ is never set, and BSY only while a command that
 -- went out is unanswered.
-use Rattle.std.proofs.Common.{◌≡◌, ◌≢◌, ◌⊎◌, ℕ, ◌<◌, Bool, true, false, List, [], ◌∷◌, length, refl, sym, ap, subst, ◌∙◌, inl, inr, Option, Some, None, Ok, arith}
-use Rattle.std.specs.Prelude.{bit_and, bit_or, cond, if◌then◌else◌, is_some, max, min, nat_lt, not, ◌==◌, ◌&&◌, ◌||◌}
-use Rattle.std.specs.Int.{bit_at}
-use Rattle.std.specs.Option.{option_or}
-use Rattle.std.proofs.lemmas.Bool.{cases_Bool, cases_eq, eqb-true, true≢false}
-use Rattle.std.proofs.lemmas.Nat.Bits.{bit_at-lt, bit_at-zero, bit_at_and, bit_at_or}
-use Rattle.fis_view.specs.Frames.{Stamped}
-use Rattle.fis_view.specs.Seen.{seen}
-use Rattle.fis_view.specs.Table.{Bits, D2h, Error, N, SActive, Status, field}
+use Rattle.std.proofs.Common.{◌≡◌, ◌≢◌, ◌⊎◌, ℕ, ◌<◌, Bool, true, false, List, [], ◌∷◌, length, refl, sym, ap, subst, ◌∙◌, inl, inr, Option, Some}
+use Rattle.std.proofs.{Common.{None, Ok, arith}, lemmas.{Bool.{cases_Bool, cases_eq, eqb-true, true≢false}, Nat.Bits.{bit_at-lt, bit_at-zero}}}
+use Rattle.std.proofs.lemmas.Nat.Bits.{bit_at_and, bit_at_or}
+use Rattle.std.specs.{Prelude.{bit_and, bit_or, cond, if◌then◌else◌, is_some, max, min, nat_lt, not, ◌==◌, ◌&&◌, ◌||◌}, Int.bit_at, Option.option_or}
+use Rattle.fis_view.specs.{Frames.Stamped, Seen.seen, Table.{Bits, D2h, Error, N, SActive, Status, field}}
 use Rattle.fis_view.specs.declared.view.Fis.TheVariants as view
 use Rattle.host_memory.specs.Memory.{Memory}
 use Rattle.port_errors.specs.declared.cause.DeviceCause.TheVariants as cause
-use Rattle.hba_commands.specs.Commands.{command_at}
-use Rattle.hba_commands.specs.declared.command.Command.{Command}
-use Rattle.slots.specs.Commands.{answer_of, is_done}
-use Rattle.slots.specs.Slots.{DeviceSlots, Issue, freed, has_bit, holds, is_control, is_done_issue, issue_at, lowest, own_issue}
+use Rattle.hba_commands.specs.{Commands.command_at, declared.command.Command.Command}
+use Rattle.slots.specs.{Commands.{answer_of, is_done}, Slots.{DeviceSlots, Issue, freed, has_bit, holds, is_control, is_done_issue, issue_at, lowest}}
+use Rattle.slots.specs.Slots.{own_issue}
 use Rattle.slots.proofs.Door.{none_below}
 use Rattle.hba_fbs.specs.declared.error.WriteError.TheVariants as refusal
 use Rattle.hba_fbs.specs.declared.hearing.Happening.TheVariants as happening
-use Rattle.hba_fbs.specs.declared.register.Register.{Register}
-use Rattle.hba_fbs.specs.declared.register.Register.TheVariants.{Cmd, Ci, Fbs}
-use Rattle.hba_fbs.specs.declared.state.DeviceState.{DeviceState}
-use Rattle.hba_fbs.specs.Hearing.{answered, faulty, heard_bits, heard_register, quietly, signing}
-use Rattle.hba_fbs.specs.Issuing.{aimed, any_slot, asked, is_busy as has_issue, issue_with, issued_slots, view_issued}
-use Rattle.hba_fbs.specs.Registers.{falls, own_refusal}
-use Rattle.hba_fbs.specs.Sending.{Data, Gives, Nothing, Order, Outgoing, Unreadable, outgoing, resets, state_sent}
-use Rattle.hba_fbs.specs.Status.{after_reset, is_busy, is_error, wants_data, with_file}
-use Rattle.hba_fbs.specs.Taking.{view_after_hearing}
-use Rattle.hba_fbs.specs.Views.{DeviceView, Port, flushed_view, stopped_view, view_of}
+use Rattle.hba_fbs.specs.{declared.{register.Register.{Register, TheVariants.{Cmd, Ci, Fbs}}, state.DeviceState.DeviceState}, Hearing.answered}
+use Rattle.hba_fbs.specs.{Hearing.{faulty, heard_bits, heard_register, quietly, signing}, Issuing.{aimed, any_slot, asked, is_busy as has_issue}}
+use Rattle.hba_fbs.specs.{Issuing.{issue_with, issued_slots, view_issued}, Registers.{falls, own_refusal}, Sending.{Data, Gives, Nothing, Order}}
+use Rattle.hba_fbs.specs.{Sending.{Outgoing, Unreadable, outgoing, resets, state_sent}, Status.{after_reset, is_busy, is_error, wants_data}}
+use Rattle.hba_fbs.specs.{Status.with_file, Taking.view_after_hearing, Views.{DeviceView, Port, flushed_view, stopped_view, view_of}}
 use Rattle.hba_fbs.specs.Writing.{cleared_by, is_device, issue_refusal, refusal_of, slots_refusal, view_after}
-use Rattle.hba_laws.specs.History.{unless}
+use Rattle.hba_laws.specs.{History.unless, Hosts.HostEvent}
 use Rattle.hba_laws.specs.Hosts as event
-use Rattle.hba_laws.specs.Hosts.{HostEvent}
 use Rattle.hba_laws.proofs.Door.{own_freed, own_in, own_issued}
-use Rattle.hba_driver.specs.declared.mode.Mode.TheVariants.{Switching}
-use Rattle.hba_driver.specs.Events.{IsSoundHost, events_over, shared_by}
-use Rattle.hba_driver.specs.HostTurns.{Does, DoesAll, Host, Pushed, Ticked, Ticks}
+use Rattle.hba_driver.specs.{declared.mode.Mode.TheVariants.Switching, Events.{IsSoundHost, events_over, shared_by}, HostTurns.{Does, DoesAll, Host}}
+use Rattle.hba_driver.specs.HostTurns.{Pushed, Ticked, Ticks}
 use Rattle.hba_driver.proofs.Door.{each_run_tells, turns_are_events}
 use Rattle.world_rests.proofs.Slot31.{AreQuiet, IsOut, IsQuiet, are_quiet}
 

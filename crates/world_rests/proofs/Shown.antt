@@ -1,36 +1,24 @@
 -- For `rested_have_done`. Each FIS that a disk is to send next is that of some bytes, so a disk that may send none has none to
 -- send.
-use Rattle.std.proofs.Common.{◌≡◌, ℕ, zero, suc, ◌+◌, ◌-◌, ◌*◌, ◌/◌, ◌%◌, ◌^◌, ◌<◌, ◌≤◌, ◌&&◌, Bool, true, false, List, [], ◌∷◌, ◌++◌, bit_and, drop, length, refl, sym, ap, subst, ◌∙◌, arith, Option, Some, None, length-append}
-use Rattle.std.proofs.Math.Nat.{div-add-mod, mul_comm, mul-le-mul_right}
-use Rattle.std.proofs.lemmas.Bool.Decides.{nat_tests}
-use Rattle.std.proofs.lemmas.List.{length-drop, length-replicate, length-take-le}
+use Rattle.std.proofs.Common.{◌≡◌, ℕ, zero, suc, ◌+◌, ◌-◌, ◌*◌, ◌/◌, ◌%◌, ◌^◌, ◌<◌, ◌≤◌, ◌&&◌, Bool, true, false, List, [], ◌∷◌, ◌++◌, bit_and, drop}
+use Rattle.std.proofs.{Common.{length, refl, sym, ap, subst, ◌∙◌, arith, Option, Some, None, length-append}, Math.Nat.{div-add-mod, mul_comm}}
+use Rattle.std.proofs.{Math.Nat.{mul-le-mul_right}, lemmas.{Bool.Decides.nat_tests, List.{length-drop, length-replicate, length-take-le}}}
 use Rattle.std.proofs.lemmas.Option.{same_Some}
-use Rattle.std.specs.Prelude.{if◌then◌else◌, nat_lt, not, option_map, replicate}
-use Rattle.std.specs.Int.{byte_at, from_bool, to_le_bytes, w32, w64}
-use Rattle.fis_view.specs.Between.{AreBytes, IsHead, activate_list, bits_list, d2h_list, setup_list}
-use Rattle.fis_view.specs.Frames.{IsPayload}
-use Rattle.fis_view.specs.declared.build.D2hFields.{D2hFields}
-use Rattle.fis_view.specs.declared.build.DmaActivateFields.{DmaActivateFields}
-use Rattle.fis_view.specs.declared.build.DmaSetupFields.{DmaSetupFields}
+use Rattle.std.specs.{Prelude.{if◌then◌else◌, nat_lt, not, option_map, replicate}, Int.{byte_at, from_bool, to_le_bytes, w32, w64}}
+use Rattle.fis_view.specs.{Between.{AreBytes, IsHead, activate_list, bits_list, d2h_list, setup_list}, Frames.IsPayload}
+use Rattle.fis_view.specs.declared.build.{D2hFields.D2hFields, DmaActivateFields.DmaActivateFields, DmaSetupFields.DmaSetupFields}
 use Rattle.fis_view.specs.declared.build.SetBitsFields.{SetBitsFields}
 use Rattle.fis_view.proofs.Door.{activate_built, are_bytes, bits_built, d2h_built, flag_fits, payload_seen, setup_built}
-use Rattle.disk_model.specs.declared.answer.Answer.{Answer}
-use Rattle.disk_model.specs.declared.answer.Answer.TheVariants.{Signature, Accepted, Finished, Refused, Ended, PageFollows, PageData}
-use Rattle.disk_model.specs.declared.answer.Fault.{Fault}
-use Rattle.disk_model.specs.declared.answer.Fault.TheVariants.{Held, Mixed, Failed}
-use Rattle.disk_model.specs.declared.answer.Page.{Page}
+use Rattle.disk_model.specs.declared.answer.Answer.{Answer, TheVariants.{Signature, Accepted, Finished, Refused, Ended, PageFollows, PageData}}
+use Rattle.disk_model.specs.declared.{answer.{Fault.{Fault, TheVariants.{Held, Mixed, Failed}}, Page.Page}, plan.{DiskPlan.DiskPlan, Profile.Profile}}
+use Rattle.disk_model.specs.{declared.{plan.Profile.TheVariants.{Bare, Stock}, request.Command.Command}, Between.{Asked, Fresh, IsQueue, IsReading}}
+use Rattle.disk_model.specs.{Between.{IsWriting, Moves, SetUp, Stage}, Chunks.{asks_for, chunk_count, chunk_from, chunk_setup, chunks, error_of}}
+use Rattle.disk_model.specs.{Chunks.{fault_of, first_bad, report, sectors_at, sends_left}, Disks.{Moment, Started, Turn, Writing, begun, begun_write}}
+use Rattle.disk_model.specs.{Disks.{pick_turn, picked, read_turn, starts, turn, write_turn}, Ledger.Moving, Pages.{bare_data, checksum, error_head}}
+use Rattle.disk_model.specs.Pages.{error_log, filled_to, capabilities, linked_words, names, page_bytes, profile_data, queuing_words, serial_words}
+use Rattle.disk_model.specs.{Pages.{stock_data, stock_front, stock_names, stock_summed, timings, versions}, Runs.IsTurn, Sendings.Activates}
+use Rattle.disk_model.specs.Sendings.{Carries, Sending, Shows, answer_sent, bits, register, setup}
 use Rattle.disk_model.specs.declared.answer.Page.TheVariants as page
-use Rattle.disk_model.specs.declared.plan.DiskPlan.{DiskPlan}
-use Rattle.disk_model.specs.declared.plan.Profile.{Profile}
-use Rattle.disk_model.specs.declared.plan.Profile.TheVariants.{Bare, Stock}
-use Rattle.disk_model.specs.declared.request.Command.{Command}
-use Rattle.disk_model.specs.Between.{Asked, Fresh, IsQueue, IsReading, IsWriting, Moves, SetUp, Stage}
-use Rattle.disk_model.specs.Chunks.{asks_for, chunk_count, chunk_from, chunk_setup, chunks, error_of, fault_of, first_bad, report, sectors_at, sends_left}
-use Rattle.disk_model.specs.Disks.{Moment, Started, Turn, Writing, begun, begun_write, pick_turn, picked, read_turn, starts, turn, write_turn}
-use Rattle.disk_model.specs.Ledger.{Moving}
-use Rattle.disk_model.specs.Pages.{bare_data, checksum, error_head, error_log, filled_to, capabilities, linked_words, names, page_bytes, profile_data, queuing_words, serial_words, stock_data, stock_front, stock_names, stock_summed, timings, versions}
-use Rattle.disk_model.specs.Runs.{IsTurn}
-use Rattle.disk_model.specs.Sendings.{Activates, Carries, Sending, Shows, answer_sent, bits, register, setup}
 use Rattle.disk_model.proofs.Door.{chunk_part, picked_in, sends_left_next, some_chunks}
 use Rattle.world_rests.proofs.PageBytes.{page_built, page_list}
 

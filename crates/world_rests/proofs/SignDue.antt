@@ -1,18 +1,13 @@
 -- For `rested_disks_have_signed`. What holds of each act that may be due in a tick holds of the one that is due.
 use Rattle.std.proofs.Common.{◌≡◌, ℕ, ◌<◌, Bool, true, false, List, refl, ap, ◌∙◌, inl, inr, Option, Some, None}
-use Rattle.std.specs.Prelude.{if◌then◌else◌, is_some}
-use Rattle.std.specs.Option.{option_map, option_or}
+use Rattle.std.specs.{Prelude.{if◌then◌else◌, is_some}, Option.{option_map, option_or}}
 use Rattle.slots.specs.Slots.{lowest_below, match_some}
 use Rattle.slots.proofs.Door.{lowest_is}
-use Rattle.hba_driver.specs.declared.mode.Mode.{Mode}
-use Rattle.hba_driver.specs.declared.mode.Mode.TheVariants.{CommandBased, Switching}
-use Rattle.hba_driver.specs.declared.path.Path.{Path}
-use Rattle.hba_driver.specs.declared.path.Stage.{Stage}
-use Rattle.hba_driver.specs.declared.plan.Plan.{Plan}
-use Rattle.hba_driver.specs.Between.{MayStep}
-use Rattle.hba_driver.specs.Drivers.{Entry, entry_at}
-use Rattle.hba_driver.specs.Seeing.{Sight}
-use Rattle.hba_driver.specs.Turns.{allowed, control_news, control_seen, control_turn, device_due, device_or_request, device_seen, device_turn, early_due, fault_due, is_due, issue_of, may_issue, opening_due, order_allowed, order_due, path_due, plain_turn, request_due, restart_due, stage_due, stage_for, step_of, turn_of}
+use Rattle.hba_driver.specs.declared.{mode.Mode.{Mode, TheVariants.{CommandBased, Switching}}, path.{Path.Path, Stage.Stage}, plan.Plan.Plan}
+use Rattle.hba_driver.specs.{Between.MayStep, Drivers.{Entry, entry_at}, Seeing.Sight, Turns.{allowed, control_news, control_seen, control_turn}}
+use Rattle.hba_driver.specs.Turns.{device_due, device_or_request, device_seen, device_turn, early_due, fault_due, is_due, issue_of, may_issue}
+use Rattle.hba_driver.specs.Turns.{opening_due, order_allowed, order_due, path_due, plain_turn, request_due, restart_due, stage_due, stage_for}
+use Rattle.hba_driver.specs.Turns.{step_of, turn_of}
 
 abbrev pub TypeOf : {A : Type 0} → A → Type 0
 TypeOf {A} a = A

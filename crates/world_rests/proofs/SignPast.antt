@@ -1,16 +1,13 @@
 -- For `rested_disks_have_signed`. A unit that was unplugged is not there again as the same connection.
 use Rattle.std.proofs.Common.{◌≡◌, ◌≢◌, ℕ, ◌+◌, ◌<◌, ◌≤◌, true, false, refl, sym, ap, subst, ◌∙◌, Option, Some, None, Ok, arith}
-use Rattle.std.specs.Prelude.{slice_get, slice_set, MatchOption}
 use Rattle.std.proofs.lemmas.Bool.{true≢false}
-use Rattle.pm_world.specs.PathEnds.{IsThere}
-use Rattle.pm_world.specs.Places.{Place, Places}
-use Rattle.pm_world.specs.Rules.{CameActs, CameRule, DiskSendRule, DiskTakeRule, GoneActs, GoneRule, InjectRule, PmDownRule, PmFromDeviceRule, PmPresenceRule, Rule}
-use Rattle.pm_world.specs.declared.step.Answer.{Answer}
+use Rattle.std.specs.Prelude.{slice_get, slice_set, MatchOption}
+use Rattle.pm_world.specs.{PathEnds.IsThere, Places.{Place, Places}, Rules.{CameActs, CameRule, DiskSendRule, DiskTakeRule, GoneActs, GoneRule}}
+use Rattle.pm_world.specs.{Rules.{InjectRule, PmDownRule, PmFromDeviceRule, PmPresenceRule, Rule}, declared.step.{Answer.Answer, Step.Step}}
 use Rattle.pm_world.specs.declared.step.Answer.TheVariants as answer
-use Rattle.pm_world.specs.declared.step.Step.{Step}
 use Rattle.pm_world.specs.declared.step.Step.TheVariants as step
-use Rattle.world_rests.proofs.Parts.{AtBoth, AtDevice, at_both, at_device, set_each}
-use Rattle.world_rests.proofs.SignWorld.{KeepsPlace, keeps_down, keeps_from_device, keeps_inject, keeps_presence, keeps_send, keeps_take, same_place}
+use Rattle.world_rests.proofs.{Parts.{AtBoth, AtDevice, at_both, at_device, set_each}, SignWorld.{KeepsPlace, keeps_down, keeps_from_device}}
+use Rattle.world_rests.proofs.SignWorld.{keeps_inject, keeps_presence, keeps_send, keeps_take, same_place}
 
 -- it was plugged in as this connection or a later one, and if it is plugged in, it is as a later one
 abbrev IsPastPlace : ℕ → Place → Type 0

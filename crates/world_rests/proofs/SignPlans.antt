@@ -1,32 +1,19 @@
 -- For `rested_disks_have_signed`. What the driver knows of a device that is new to it: it is taken to be absent, or it starts and slot 30
 -- does not work on it. After a tick that is calm for the device it is new only if it was before.
-use Rattle.std.proofs.Common.{◌≡◌, ◌≢◌, ℕ, zero, suc, ◌+◌, ◌&&◌, Bool, true, false, nat_lt, List, [], ◌∷◌, get_or, set, refl, sym, ◌∙◌, ap, subst, inl, inr, Option, Some, None}
-use Rattle.std.specs.Prelude.{◌⊎◌, not, if◌then◌else◌}
-use Rattle.std.specs.Option.{option_map}
-use Rattle.std.proofs.lemmas.Bool.{cases_eq, eq-eqb, ne_eqb}
-use Rattle.std.proofs.lemmas.List.{get_or-set_other}
+use Rattle.std.proofs.Common.{◌≡◌, ◌≢◌, ℕ, zero, suc, ◌+◌, ◌&&◌, Bool, true, false, nat_lt, List, [], ◌∷◌, get_or, set, refl, sym, ◌∙◌, ap, subst}
+use Rattle.std.proofs.{Common.{inl, inr, Option, Some, None}, lemmas.{Bool.{cases_eq, eq-eqb, ne_eqb}, List.{get_or-set_other}}}
+use Rattle.std.specs.{Prelude.{◌⊎◌, not, if◌then◌else◌}, Option.option_map}
 use Rattle.slots.specs.Slots.{match_some}
-use Rattle.hba_driver.specs.declared.order.Order.{Order}
-use Rattle.hba_driver.specs.declared.order.Order.TheVariants.{Clear, CountPorts, Detect, Scan}
-use Rattle.hba_driver.specs.declared.path.Path.{Path}
-use Rattle.hba_driver.specs.declared.path.Recovery.TheVariants.{Reset}
-use Rattle.hba_driver.specs.declared.path.Stage.{Stage}
-use Rattle.hba_driver.specs.declared.path.Stage.TheVariants.{AssertReset, AwaitReset, Identify, ReadLog, ReleaseReset}
-use Rattle.hba_driver.specs.declared.path.TaskFile.{TaskFile}
-use Rattle.hba_driver.specs.declared.plan.Device.{Device}
-use Rattle.hba_driver.specs.declared.plan.Device.TheVariants.{Absent, Ready, Recovering, Starting, Unusable}
-use Rattle.hba_driver.specs.declared.plan.Plan.{Plan}
-use Rattle.hba_driver.specs.Between.{MayStep, PollFacts}
-use Rattle.hba_driver.specs.Drivers.{Driver, Entry, device_at}
-use Rattle.hba_driver.specs.HostTurns.{Does, Host, HostTurn, Polled, Submitted, Ticked, sight_in}
-use Rattle.hba_driver.specs.Orders.{order_fields}
-use Rattle.hba_driver.specs.Paths.{next_stage, stage_fields}
-use Rattle.hba_driver.specs.Seeing.{Sight}
-use Rattle.hba_driver.specs.Sights.{file_shown}
-use Rattle.hba_driver.specs.Steady.{IsCalmAct, IsSteadyTurn, detects}
-use Rattle.hba_driver.specs.Tended.{IsUnworked}
-use Rattle.hba_driver.specs.Ticks.{after_tick, done_ended, due, from_reset, ordered, plan_after, recovering, seen, unless}
-use Rattle.hba_driver.specs.Turns.{advanced, answered, control_seen, device_or_request, device_seen, early_due, fault_due, found_of, is_back, is_out, issue_of, met_order, met_path, met_stage, noted, opening_due, order_allowed, order_due, path_answered, path_met, path_to, restart_due, step_of, turn_of, with_next}
+use Rattle.hba_driver.specs.declared.{order.Order.{Order, TheVariants.{Clear, CountPorts, Detect, Scan}}, path.Path.Path}
+use Rattle.hba_driver.specs.declared.path.{Recovery.TheVariants.Reset, Stage.{Stage, TheVariants.{AssertReset, AwaitReset, Identify, ReadLog}}}
+use Rattle.hba_driver.specs.declared.{path.{Stage.TheVariants.ReleaseReset, TaskFile.TaskFile}, plan.Device.{Device, TheVariants.{Absent, Ready}}}
+use Rattle.hba_driver.specs.{declared.plan.{Device.TheVariants.{Recovering, Starting, Unusable}, Plan.Plan}, Between.{MayStep, PollFacts}}
+use Rattle.hba_driver.specs.{Drivers.{Driver, Entry, device_at}, HostTurns.{Does, Host, HostTurn, Polled, Submitted, Ticked, sight_in}}
+use Rattle.hba_driver.specs.{Orders.order_fields, Paths.{next_stage, stage_fields}, Seeing.Sight, Sights.file_shown, Steady.{IsCalmAct, IsSteadyTurn}}
+use Rattle.hba_driver.specs.{Steady.detects, Tended.IsUnworked, Ticks.{after_tick, done_ended, due, from_reset, ordered, plan_after, recovering}}
+use Rattle.hba_driver.specs.{Ticks.{seen, unless}, Turns.{advanced, answered, control_seen, device_or_request, device_seen, early_due, fault_due}}
+use Rattle.hba_driver.specs.Turns.{found_of, is_back, is_out, issue_of, met_order, met_path, met_stage, noted, opening_due, order_allowed, order_due}
+use Rattle.hba_driver.specs.Turns.{path_answered, path_met, path_to, restart_due, step_of, turn_of, with_next}
 use Rattle.hba_driver.proofs.Door.{acted_plan, freed, poll_facts, turn_was}
 use Rattle.world_rests.proofs.SignDue.{TypeOf, early_by, else_by, if_by, late_by, map_by, order_by, turn_by, unless_by}
 

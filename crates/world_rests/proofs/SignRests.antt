@@ -1,56 +1,28 @@
 -- For `rested_disks_have_signed`. In a world at rest nothing of a disk is on its way, and it owes nothing. So the host has its signature while
 -- it is new to the driver, and above all while it starts.
-use Rattle.std.proofs.Common.{◌≡◌, ◌≢◌, ℕ, ◌<◌, Bool, true, false, IsTrue, List, [], ◌∷◌, ◌++◌, length, refl, sym, ap, subst, ◌∙◌, Option, Some, None, arith}
-use Rattle.std.specs.Prelude.{if◌then◌else◌, slice_get, slice_index_or, IsSomeAnd, MatchOption}
-use Rattle.std.specs.Option.{option_to_list}
-use Rattle.std.proofs.lemmas.Bool.{true≢false}
-use Rattle.std.proofs.lemmas.List.FromFn.{get_or-map-range_with_len}
-use Rattle.fis_view.specs.Frames.{Stamped}
-use Rattle.fis_view.specs.Seen.{seen}
+use Rattle.std.proofs.Common.{◌≡◌, ◌≢◌, ℕ, ◌<◌, Bool, true, false, IsTrue, List, [], ◌∷◌, ◌++◌, length, refl, sym, ap, subst, ◌∙◌, Option, Some, None}
+use Rattle.std.proofs.{Common.arith, lemmas.{Bool.{true≢false}, List.FromFn.{get_or-map-range_with_len}}}
+use Rattle.std.specs.{Prelude.{if◌then◌else◌, slice_get, slice_index_or, IsSomeAnd, MatchOption}, Option.option_to_list}
+use Rattle.fis_view.specs.{Frames.Stamped, Seen.seen}
 use Rattle.host_memory.specs.Memory.{Memory}
 use Rattle.pm_registers.specs.RegisterMap.{forwards}
 use Rattle.multiplier.specs.State.{port_at}
 use Rattle.hba_fbs.specs.Views.{Port}
-use Rattle.disk_model.specs.declared.plan.DiskPlan.{DiskPlan}
-use Rattle.disk_model.specs.declared.unit.Unit.TheVariants.{Disk, Scripted}
-use Rattle.disk_model.specs.Histories.{DiskOf, Happening, Plan as DevicePlan, Plugged}
-use Rattle.disk_model.specs.Laws.{OwesNothing}
-use Rattle.disk_model.specs.Ledger.{IsSize, Signs, ledger}
+use Rattle.disk_model.specs.{declared.{plan.DiskPlan.DiskPlan, unit.Unit.TheVariants.{Disk, Scripted}}, Histories.{DiskOf, Happening}}
+use Rattle.disk_model.specs.{Histories.{Plan as DevicePlan, Plugged}, Laws.OwesNothing, Ledger.{IsSize, Signs, ledger}}
 use Rattle.disk_model.proofs.Door.{begins_anew}
-use Rattle.hba_driver.specs.declared.mode.Mode.{Mode}
-use Rattle.hba_driver.specs.declared.mode.Mode.TheVariants.{Switching}
-use Rattle.hba_driver.specs.declared.plan.Device.{Device}
-use Rattle.hba_driver.specs.declared.plan.Device.TheVariants.{Starting}
-use Rattle.hba_driver.specs.declared.plan.Plan.{Plan}
-use Rattle.hba_driver.specs.Drivers.{device_at}
-use Rattle.hba_driver.specs.HostTurns.{sight_in}
-use Rattle.hba_driver.specs.Seeing.{Sight}
-use Rattle.hba_driver.specs.Sights.{is_ata, last_d2h, sight_of}
-use Rattle.pm_world.specs.Attached.{Attached, Modelled, Own}
-use Rattle.pm_world.specs.DevicePaths.{ReachedAreOrderly, UnitPathsGoOn}
-use Rattle.pm_world.specs.Disks.{DiskRun, HasDisk}
-use Rattle.pm_world.specs.Ends.{EndsMeet, HaveMet, IsDiskWith}
-use Rattle.pm_world.specs.PathEnds.{IsThere}
-use Rattle.pm_world.specs.Places.{Place, Places, is_config, new_world}
-use Rattle.pm_world.specs.Rules.{Run}
-use Rattle.pm_world.specs.Runs.{IsReached}
-use Rattle.pm_world.specs.Traffic.{all_marked, of_conn, on_link, stamped, transit}
-use Rattle.pm_world.specs.declared.link.Change.{Change}
-use Rattle.pm_world.specs.declared.step.Answer.TheVariants as answer
+use Rattle.hba_driver.specs.declared.{mode.Mode.{Mode, TheVariants.Switching}, plan.{Device.{Device, TheVariants.Starting}, Plan.Plan}}
+use Rattle.hba_driver.specs.{Drivers.device_at, HostTurns.sight_in, Seeing.Sight, Sights.{is_ata, last_d2h, sight_of}}
+use Rattle.pm_world.specs.{Attached.{Attached, Modelled, Own}, DevicePaths.{ReachedAreOrderly, UnitPathsGoOn}, Disks.{DiskRun, HasDisk}}
+use Rattle.pm_world.specs.{Ends.{EndsMeet, HaveMet, IsDiskWith}, PathEnds.IsThere, Places.{Place, Places, is_config, new_world}, Rules.Run}
+use Rattle.pm_world.specs.{Runs.IsReached, Traffic.{all_marked, of_conn, on_link, stamped, transit}, declared.link.Change.Change}
 use Rattle.pm_world.specs.declared.step.Config.{Config}
+use Rattle.pm_world.specs.declared.step.Answer.TheVariants as answer
 use Rattle.pm_world.specs.declared.step.Step.TheVariants as step
-use Rattle.world_rests.specs.Laws.{RestedHaveDone}
-use Rattle.world_rests.specs.Opens.{RestedPortsAreOpen}
-use Rattle.world_rests.specs.Out.{DiskIsLeft, RestedDisksAreLeft}
-use Rattle.world_rests.specs.Rests.{HasAnswered, NothingMoves, PortRests}
-use Rattle.world_rests.specs.Signs.{RestedDisksHaveSigned}
-use Rattle.world_rests.specs.Waits.{ForCommand, ForEnd, ForNobody, HostWaits, NeedsNothing, Waits30}
-use Rattle.world_rests.proofs.Comings.{Of, all, known, known_reached}
-use Rattle.world_rests.proofs.SignPast.{past_away}
-use Rattle.world_rests.proofs.SignPlans.{Starts}
-use Rattle.world_rests.proofs.SignRuns.{Followed, Left, Lives, Phase, Waits, followed, history, none_marked, whole}
-use Rattle.world_rests.proofs.SignTurns.{HasIfNew}
-use Rattle.world_rests.proofs.SignWorld.{all_sent}
+use Rattle.world_rests.specs.{Laws.RestedHaveDone, Opens.RestedPortsAreOpen, Out.{DiskIsLeft, RestedDisksAreLeft}, Rests.{HasAnswered, NothingMoves}}
+use Rattle.world_rests.specs.{Rests.PortRests, Signs.RestedDisksHaveSigned, Waits.{ForCommand, ForEnd, ForNobody, HostWaits, NeedsNothing, Waits30}}
+use Rattle.world_rests.proofs.{Comings.{Of, all, known, known_reached}, SignPast.past_away, SignPlans.Starts, SignRuns.{Followed, Left, Lives, Phase}}
+use Rattle.world_rests.proofs.{SignRuns.{Waits, followed, history, none_marked, whole}, SignTurns.HasIfNew, SignWorld.all_sent}
 
 -- ---- what the driver sees
 

@@ -1,54 +1,30 @@
 -- For `rested_disks_have_signed`. A device's posted Register FIS stays in its row of the received area until its next FIS or its flush, and
 -- so does the signature in it. A Register FIS that the port hears is posted there.
-use Rattle.std.proofs.Common.{◌≡◌, ◌≢◌, ℕ, zero, suc, ◌+◌, ◌*◌, ◌-◌, ◌<◌, ◌≤◌, ◌⊎◌, ◌&&◌, Bool, true, false, nat_lt, List, [], ◌∷◌, ◌++◌, length, take, drop, replicate, get_or, refl, sym, ◌∙◌, ap, subst, inl, inr, arith, Option, Some, None, length-append}
-use Rattle.std.specs.Prelude.{if◌then◌else◌, ◌==◌, ◌||◌, not, slice_index, is_none, unwrap_or, Result, Ok, Err}
-use Rattle.std.specs.List.{list_all}
-use Rattle.std.proofs.lemmas.Bool.{and_parts, cases_Bool, cases_lt, false≢true, true≢false}
-use Rattle.std.proofs.lemmas.Bool.Decides.{nat_tests}
-use Rattle.std.proofs.lemmas.List.{ext_get_or, get_or-append_right, get_or-drop, get_or-take, get_or_append_left, length-drop, length-replicate, length-take}
-use Rattle.fis_view.specs.Seen.{kind_of, may_have, seen, view_as}
-use Rattle.fis_view.specs.Table.{Activate, Bits, D2h, Data, H2d, Kind, Other, Pio, Setup}
-use Rattle.fis_view.specs.declared.build.H2dFields.{H2dFields}
-use Rattle.fis_view.specs.declared.view.Fis.{Fis}
+use Rattle.std.proofs.Common.{◌≡◌, ◌≢◌, ℕ, zero, suc, ◌+◌, ◌*◌, ◌-◌, ◌<◌, ◌≤◌, ◌⊎◌, ◌&&◌, Bool, true, false, nat_lt, List, [], ◌∷◌, ◌++◌, length}
+use Rattle.std.proofs.Common.{take, drop, replicate, get_or, refl, sym, ◌∙◌, ap, subst, inl, inr, arith, Option, Some, None, length-append}
+use Rattle.std.proofs.lemmas.{Bool.{and_parts, cases_Bool, cases_lt, false≢true, true≢false, Decides.nat_tests}, List.ext_get_or}
+use Rattle.std.proofs.lemmas.List.{get_or-append_right, get_or-drop, get_or-take, get_or_append_left, length-drop, length-replicate, length-take}
+use Rattle.std.specs.{Prelude.{if◌then◌else◌, ◌==◌, ◌||◌, not, slice_index, is_none, unwrap_or, Result, Ok, Err}, List.list_all}
+use Rattle.fis_view.specs.{Seen.{kind_of, may_have, seen, view_as}, Table.{Activate, Bits, D2h, Data, H2d, Kind, Other, Pio, Setup}}
+use Rattle.fis_view.specs.declared.{build.H2dFields.H2dFields, view.{Fis.Fis, FisFault.{FisFault, TheVariants.WrongLength}}}
 use Rattle.fis_view.specs.declared.view.Fis.TheVariants as view
-use Rattle.fis_view.specs.declared.view.FisFault.{FisFault}
-use Rattle.fis_view.specs.declared.view.FisFault.TheVariants.{WrongLength}
-use Rattle.host_memory.specs.Memory.{Memory, overwritten, zeros}
-use Rattle.host_memory.specs.Reading.{AgreeFrom, LieApart}
-use Rattle.host_memory.specs.Writing.{table_bytes}
-use Rattle.host_memory.specs.declared.table.Prd.{Prd}
+use Rattle.host_memory.specs.{Memory.{Memory, overwritten, zeros}, Reading.{AgreeFrom, LieApart}, Writing.table_bytes, declared.table.Prd.Prd}
 use Rattle.host_memory.proofs.Door.{agree_beside, length-overwritten, length-table_bytes, length-zeros}
-use Rattle.hba_commands.specs.Commands.{cfis_at}
-use Rattle.hba_commands.specs.Headers.{header_place}
-use Rattle.hba_commands.specs.Requests.{request_of}
-use Rattle.hba_commands.specs.Writing.{IsWritten, command_table, header_bytes, header_for}
+use Rattle.hba_commands.specs.{Commands.cfis_at, Headers.header_place, Requests.request_of, Writing.{IsWritten, command_table, header_bytes}}
+use Rattle.hba_commands.specs.Writing.{header_for}
 use Rattle.hba_commands.proofs.Door.{length-header_bytes}
 use Rattle.slots.specs.Slots.{match_some}
 use Rattle.slots.proofs.Door.{lowest_is}
-use Rattle.hba_fbs.specs.declared.report.TakeReport.{TakeReport}
-use Rattle.hba_fbs.specs.Posting.{Posts, area_at, is_ata_signature}
-use Rattle.hba_fbs.specs.Taking.{PostsIn, PostsOf, admitted, ignores, is_running, port_of, row_for}
-use Rattle.hba_fbs.specs.Views.{Port}
-use Rattle.hba_driver.specs.declared.mode.Mode.{Mode}
-use Rattle.hba_driver.specs.declared.mode.Mode.TheVariants.{Switching}
-use Rattle.hba_driver.specs.declared.order.Order.{Order}
-use Rattle.hba_driver.specs.declared.order.Order.TheVariants.{Clear, Scan}
-use Rattle.hba_driver.specs.declared.path.Stage.{Stage}
-use Rattle.hba_driver.specs.declared.plan.Plan.{Plan}
-use Rattle.hba_driver.specs.declared.request.Request.{Request}
-use Rattle.hba_driver.specs.Drivers.{Driver, Entry, entry_at}
-use Rattle.hba_driver.specs.Effects.{ActsAll, clearing, effects_of, emptied, is_effect, issuing, opening_write, order_effects, prds_with, restart_write, sending, table_of}
-use Rattle.hba_driver.specs.Events.{IsSoundHost}
-use Rattle.hba_driver.specs.HostTurns.{Does, Host, HostTurn, Polled, Pushed, Put, Submitted, Ticked, Took, sight_in}
-use Rattle.hba_driver.specs.Orders.{control_port, order_fields}
-use Rattle.hba_driver.specs.Paths.{reads_page, stage_fields}
-use Rattle.hba_driver.specs.Requests.{is_free, lowest_free}
-use Rattle.hba_driver.specs.Seeing.{Sight}
-use Rattle.hba_driver.specs.Sights.{is_ata, last_d2h}
-use Rattle.hba_driver.specs.Steady.{HasSignature, IsCalmAct, IsCalmTick}
-use Rattle.hba_driver.specs.Submits.{next_slot, submit_refusal}
-use Rattle.hba_driver.specs.Ticks.{done_ended, due, effects_due}
-use Rattle.hba_driver.specs.Turns.{control_seen, device_or_request, device_seen, early_due, fault_due, issue_of, opening_due, order_allowed, order_due, restart_due, step_of}
+use Rattle.hba_fbs.specs.{declared.report.TakeReport.TakeReport, Posting.{Posts, area_at, is_ata_signature}, Taking.{PostsIn, PostsOf, admitted}}
+use Rattle.hba_fbs.specs.{Taking.{ignores, is_running, port_of, row_for}, Views.Port}
+use Rattle.hba_driver.specs.declared.{mode.Mode.{Mode, TheVariants.Switching}, order.Order.{Order, TheVariants.{Clear, Scan}}, path.Stage.Stage}
+use Rattle.hba_driver.specs.{declared.{plan.Plan.Plan, request.Request.Request}, Drivers.{Driver, Entry, entry_at}, Effects.{ActsAll, clearing}}
+use Rattle.hba_driver.specs.Effects.{effects_of, emptied, is_effect, issuing, opening_write, order_effects, prds_with, restart_write, sending}
+use Rattle.hba_driver.specs.{Effects.table_of, Events.IsSoundHost, HostTurns.{Does, Host, HostTurn, Polled, Pushed, Put, Submitted, Ticked, Took}}
+use Rattle.hba_driver.specs.{HostTurns.sight_in, Orders.{control_port, order_fields}, Paths.{reads_page, stage_fields}, Requests.is_free}
+use Rattle.hba_driver.specs.{Requests.lowest_free, Seeing.Sight, Sights.{is_ata, last_d2h}, Steady.{HasSignature, IsCalmAct, IsCalmTick}}
+use Rattle.hba_driver.specs.{Submits.{next_slot, submit_refusal}, Ticks.{done_ended, due, effects_due}, Turns.{control_seen, device_or_request}}
+use Rattle.hba_driver.specs.Turns.{device_seen, early_due, fault_due, issue_of, opening_due, order_allowed, order_due, restart_due, step_of}
 use Rattle.hba_driver.proofs.Door.{heard_as, is_taken, sound_turn, tick_acts}
 use Rattle.world_rests.proofs.SignDue.{TypeOf, early_by, else_by, if_by, late_by, map_by, order_by, turn_by, unless_by}
 

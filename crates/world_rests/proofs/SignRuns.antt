@@ -1,55 +1,37 @@
 -- For `rested_disks_have_signed`. A disk from its plugging on, over a run: nothing of it passes its port, until the port is cleared. From then
 -- on, where nothing of it is on its way up and it owes nothing, the host has its signature while it is new to the driver.
-use Rattle.std.proofs.Common.{◌≡◌, ◌≢◌, ℕ, ◌+◌, ◌<◌, ◌==◌, ◌&&◌, Bool, true, false, List, [], ◌∷◌, ◌++◌, append_assoc, drop, length, refl, sym, ap, subst, ◌∙◌, inl, inr, Option, Some, None, Ok, Result, arith}
-use Rattle.std.specs.Prelude.{◌||◌, ◌*◌, if◌then◌else◌}
-use Rattle.std.specs.List.{list_any}
-use Rattle.std.proofs.lemmas.Bool.{cases_Bool, eq-eqb, or_parts, true≢false}
-use Rattle.std.proofs.lemmas.List.{append-nil}
-use Rattle.std.proofs.lemmas.Option.{slice_get_within}
-use Rattle.fis_view.specs.Frames.{marked}
-use Rattle.fis_view.specs.Seen.{seen}
-use Rattle.fis_view.specs.declared.view.Fis.{Fis}
+use Rattle.std.proofs.Common.{◌≡◌, ◌≢◌, ℕ, ◌+◌, ◌<◌, ◌==◌, ◌&&◌, Bool, true, false, List, [], ◌∷◌, ◌++◌, append_assoc, drop, length, refl, sym, ap}
+use Rattle.std.proofs.{Common.{subst, ◌∙◌, inl, inr, Option, Some, None, Ok, Result, arith}, lemmas.Bool.{cases_Bool, eq-eqb, or_parts, true≢false}}
+use Rattle.std.proofs.lemmas.{List.{append-nil}, Option.slice_get_within}
+use Rattle.std.specs.{Prelude.{◌||◌, ◌*◌, if◌then◌else◌}, List.list_any}
+use Rattle.fis_view.specs.{Frames.marked, Seen.seen, declared.view.{Fis.Fis, FisFault.FisFault}}
 use Rattle.fis_view.specs.declared.view.Fis.TheVariants as view
-use Rattle.fis_view.specs.declared.view.FisFault.{FisFault}
 use Rattle.hba_fbs.specs.declared.report.TakeReport.{TakeReport}
-use Rattle.multiplier.specs.Arbiter.{control_port}
-use Rattle.multiplier.specs.State.{port_at}
+use Rattle.multiplier.specs.{Arbiter.control_port, State.port_at}
 use Rattle.pm_registers.specs.RegisterMap as registers
 use Rattle.pm_registers.specs.RegisterMap.{forwards}
-use Rattle.disk_model.specs.declared.plan.DiskPlan.{DiskPlan}
-use Rattle.disk_model.specs.declared.request.Command.{Command}
-use Rattle.disk_model.specs.declared.request.Request.{Request}
+use Rattle.disk_model.specs.{declared.{plan.DiskPlan.DiskPlan, request.{Command.Command, Request.Request}, unit.Unit.TheVariants.Disk}, Chunks.put}
+use Rattle.disk_model.specs.{Histories.{Happening, Plugged, Received}, Ledger.{Accepts, Finishes, Ledger, Moving, Reply, Refuses, ShowsPage, Signs}}
+use Rattle.disk_model.specs.Ledger.{IdentifyData, asks, awaits, awaits_page, ends as finishes, goes_on, ledger, listens_down, mixes, moves, opens}
+use Rattle.disk_model.specs.{Ledger.{refuses, takes_data}, Requests.request_of}
 use Rattle.disk_model.specs.declared.request.Request.TheVariants as asked
-use Rattle.disk_model.specs.declared.unit.Unit.TheVariants.{Disk}
-use Rattle.disk_model.specs.Chunks.{put}
-use Rattle.disk_model.specs.Histories.{Happening, Plugged, Received}
-use Rattle.disk_model.specs.Ledger.{Accepts, Finishes, Ledger, Moving, Reply, Refuses, ShowsPage, Signs, IdentifyData, asks, awaits, awaits_page, ends as finishes, goes_on, ledger, listens_down, mixes, moves, opens, refuses, takes_data}
-use Rattle.disk_model.specs.Requests.{request_of}
 use Rattle.disk_model.proofs.Door.{begins_anew, ledger_push}
 use Rattle.disk_simulation.specs.Watched.{ArePlain, IsPlain, IsPlainRequest}
 use Rattle.hba_driver.specs.HostTurns.{Does, DoesAll, Host, HostTurn, Polled, Pushed, Put, Submitted, Ticked, Took}
 use Rattle.disk_recovery.specs.Ends.{Apart, AreEnds, IsBesideTurn, Together}
-use Rattle.pm_world.specs.Attached.{Attached, Modelled}
-use Rattle.pm_world.specs.Cleared.{is_cleared}
-use Rattle.pm_world.specs.DevicePaths.{Comes, GoesOnPath, Gives, PathMoves, Sends, Still, Takes, UnitPathsGoOn}
-use Rattle.pm_world.specs.Disks.{DiskRun, HasDisk, disk_history}
-use Rattle.pm_world.specs.Ends.{EndsMeet, HaveMet}
-use Rattle.pm_world.specs.PathEnds.{IsAtHost, IsThere, injects, unplugs}
-use Rattle.pm_world.specs.Places.{Places, is_config, new_world}
-use Rattle.pm_world.specs.Rules.{Rule, Run}
-use Rattle.pm_world.specs.Runs.{over}
-use Rattle.pm_world.specs.Stale.{unsent_after}
-use Rattle.pm_world.specs.Traffic.{all_marked, transit}
-use Rattle.pm_world.specs.Turns.{IsOfItsPort, turn_of}
-use Rattle.pm_world.specs.Units.{happens}
-use Rattle.pm_world.specs.declared.step.Answer.{Answer}
-use Rattle.pm_world.specs.declared.step.Answer.TheVariants as answer
-use Rattle.pm_world.specs.declared.step.Config.{Config}
+use Rattle.pm_world.specs.{Attached.{Attached, Modelled}, Cleared.is_cleared, DevicePaths.{Comes, GoesOnPath, Gives, PathMoves, Sends, Still, Takes}}
+use Rattle.pm_world.specs.{DevicePaths.UnitPathsGoOn, Disks.{DiskRun, HasDisk, disk_history}, Ends.{EndsMeet, HaveMet}, PathEnds.{IsAtHost, IsThere}}
+use Rattle.pm_world.specs.{PathEnds.{injects, unplugs}, Places.{Places, is_config, new_world}, Rules.{Rule, Run}, Runs.over, Stale.unsent_after}
+use Rattle.pm_world.specs.{Traffic.{all_marked, transit}, Turns.{IsOfItsPort, turn_of}, Units.happens, declared.step.{Answer.Answer, Config.Config}}
 use Rattle.pm_world.specs.declared.step.Step.{Step}
+use Rattle.pm_world.specs.declared.step.Answer.TheVariants as answer
 use Rattle.pm_world.specs.declared.step.Step.TheVariants as step
-use Rattle.world_rests.proofs.SignPast.{IsPast, gone_past, past_after}
-use Rattle.world_rests.proofs.SignTurns.{HasIfNew, IsAsideTurn, aside_turn, never_apart, taking_turn}
-use Rattle.world_rests.proofs.SignWorld.{ComesShut, Goes, HasGiven, IsFirm, IsLive, IsNoTurn, IsNow, IsUnflushed, IsWaiting, Knows, StaysPresent, Stuck, Unplugs, WaitsFor, all_sent, aside, came_waiting, comes_risen, comes_shut, firm_at, host_gives, host_takes, is_there, live_after, met_at, now_at, open_forwards, open_or_waits, opening_knows, opening_marks, order_step, plain_frame, rule_does, run_append, run_marks, same_host, stays_present, unflushed, unplugs_or_not, waits_after, waits_on}
+use Rattle.world_rests.proofs.{SignPast.{IsPast, gone_past, past_after}, SignTurns.{HasIfNew, IsAsideTurn, aside_turn, never_apart, taking_turn}}
+use Rattle.world_rests.proofs.SignWorld.{ComesShut, Goes, HasGiven, IsFirm, IsLive, IsNoTurn, IsNow, IsUnflushed, IsWaiting, Knows, StaysPresent}
+use Rattle.world_rests.proofs.SignWorld.{Stuck, Unplugs, WaitsFor, all_sent, aside, came_waiting, comes_risen, comes_shut, firm_at, host_gives}
+use Rattle.world_rests.proofs.SignWorld.{host_takes, is_there, live_after, met_at, now_at, open_forwards, open_or_waits, opening_knows, opening_marks}
+use Rattle.world_rests.proofs.SignWorld.{order_step, plain_frame, rule_does, run_append, run_marks, same_host, stays_present, unflushed}
+use Rattle.world_rests.proofs.SignWorld.{unplugs_or_not, waits_after, waits_on}
 
 -- ---- what a plain FIS leaves of what the disk owes
 

@@ -1,50 +1,27 @@
 -- For `rested_disks_have_signed`. While a disk and its host are together, and the disk is new to the driver, nothing of it is issued. So it
 -- owes its signature or nothing, and what the host takes of it is its signature, which is posted in its row.
-use Rattle.std.proofs.Common.{◌≡◌, ◌≢◌, ℕ, ◌<◌, ◌==◌, ◌&&◌, ◌||◌, Bool, true, false, List, [], ◌∷◌, ◌++◌, refl, sym, ap, subst, ◌∙◌, inl, inr, Option, Some, None, Ok, Result, arith}
-use Rattle.std.specs.Prelude.{◌⊎◌, is_some, is_none, not, find}
-use Rattle.std.specs.List.{list_any}
-use Rattle.std.proofs.lemmas.Bool.{and_from, eq-eqb, false≢true, true≢false}
-use Rattle.fis_view.specs.Frames.{IsFrame, marked}
-use Rattle.fis_view.specs.Seen.{seen}
-use Rattle.fis_view.specs.Table.{Bits, BufferId, D2h, SActive, Setup, field}
-use Rattle.fis_view.specs.declared.view.Fis.{Fis}
-use Rattle.fis_view.specs.declared.view.Fis.TheVariants as view
+use Rattle.std.proofs.Common.{◌≡◌, ◌≢◌, ℕ, ◌<◌, ◌==◌, ◌&&◌, ◌||◌, Bool, true, false, List, [], ◌∷◌, ◌++◌, refl, sym, ap, subst, ◌∙◌, inl, inr, Option}
+use Rattle.std.proofs.{Common.{Some, None, Ok, Result, arith}, lemmas.Bool.{and_from, eq-eqb, false≢true, true≢false}}
+use Rattle.std.specs.{Prelude.{◌⊎◌, is_some, is_none, not, find}, List.list_any}
+use Rattle.fis_view.specs.{Frames.{IsFrame, marked}, Seen.seen, Table.{Bits, BufferId, D2h, SActive, Setup, field}, declared.view.Fis.Fis}
 use Rattle.fis_view.specs.declared.view.FisFault.{FisFault}
-use Rattle.hba_fbs.specs.declared.report.TakeReport.{TakeReport}
-use Rattle.hba_fbs.specs.Posting.{is_ata_signature, signs}
-use Rattle.hba_fbs.specs.Taking.{Hears, heard_report, ignores, is_running, port_of}
-use Rattle.hba_fbs.specs.Views.{DeviceView, view_of}
-use Rattle.disk_model.specs.declared.plan.DiskPlan.{DiskPlan}
-use Rattle.disk_model.specs.declared.request.Command.{Command}
-use Rattle.disk_model.specs.Anew.{IsCarefulSince}
-use Rattle.disk_model.specs.Ends.{IsRight, MovesOther, PageAsked, has}
-use Rattle.disk_model.specs.Histories.{Happening}
-use Rattle.disk_model.specs.Laws.{ActivatesRight, AnswersFirst, IsRegister, SetsUpRight, ShowsFirst, StartsOne}
+use Rattle.fis_view.specs.declared.view.Fis.TheVariants as view
+use Rattle.hba_fbs.specs.{declared.report.TakeReport.TakeReport, Posting.{is_ata_signature, signs}, Taking.{Hears, heard_report, ignores, is_running}}
+use Rattle.hba_fbs.specs.{Taking.port_of, Views.{DeviceView, view_of}}
+use Rattle.disk_model.specs.{declared.{plan.DiskPlan.DiskPlan, request.Command.Command}, Anew.IsCarefulSince, Ends.{IsRight, MovesOther, PageAsked}}
+use Rattle.disk_model.specs.{Ends.has, Histories.Happening, Laws.{ActivatesRight, AnswersFirst, IsRegister, SetsUpRight, ShowsFirst, StartsOne}}
 use Rattle.disk_model.specs.Ledger.{Accepts, Finishes, Ledger, Moving, Names, Refuses, Reply, ShowsPage, Signs, ledger}
-use Rattle.hba_laws.specs.Client.{Touches, own}
-use Rattle.hba_laws.specs.History.{History, Transfer, issued}
+use Rattle.hba_laws.specs.{Client.{Touches, own}, History.{History, Transfer, issued}}
 use Rattle.hba_laws.specs.Hosts as event
-use Rattle.disk_simulation.specs.Anew.{IsKeptOn}
-use Rattle.disk_simulation.specs.Files.{IsOfDisk}
-use Rattle.disk_simulation.specs.Line.{IsWatchedWell}
-use Rattle.disk_simulation.specs.Same.{SlotCommand}
-use Rattle.disk_simulation.specs.Together.{InTalk, IsOwnReply, IsWaited, NoneQueued, Pages, Queues, Replies, Same, Shows}
-use Rattle.disk_simulation.specs.Watched.{IsWatched}
+use Rattle.disk_simulation.specs.{Anew.IsKeptOn, Files.IsOfDisk, Line.IsWatchedWell, Same.SlotCommand, Together.{InTalk, IsOwnReply, IsWaited}}
+use Rattle.disk_simulation.specs.{Together.{NoneQueued, Pages, Queues, Replies, Same, Shows}, Watched.IsWatched}
 use Rattle.disk_simulation.proofs.Door.{disk_marked, error_faults, hosted_on_is_kept, marks_tell_nothing, next_of_disk, next_or_fails, watches_on}
-use Rattle.hba_driver.specs.declared.path.Recovery.{Recovery}
-use Rattle.hba_driver.specs.declared.plan.Device.{Device}
-use Rattle.hba_driver.specs.declared.plan.Device.TheVariants.{Absent, Ready, Recovering, Starting}
-use Rattle.hba_driver.specs.declared.plan.Plan.{Plan}
-use Rattle.hba_driver.specs.Drivers.{device_at, is_issued, waits}
-use Rattle.hba_driver.specs.Events.{shared_by}
-use Rattle.hba_driver.specs.HostTurns.{Does, Host, Took}
-use Rattle.hba_driver.specs.Steady.{HasSignature}
-use Rattle.hba_driver.proofs.Door.{ignores_as}
+use Rattle.hba_driver.specs.declared.{path.Recovery.Recovery, plan.{Device.{Device, TheVariants.{Absent, Ready, Recovering, Starting}}, Plan.Plan}}
+use Rattle.hba_driver.specs.{Drivers.{device_at, is_issued, waits}, Events.shared_by, HostTurns.{Does, Host, Took}, Steady.HasSignature}
 use Rattle.hba_driver.specs.Tended.{Awaits, Fine, Identifies, IsTendedBy, IsUnworked, Logs, Releases, Spoilt}
-use Rattle.disk_recovery.specs.Ends.{IsOnTime, IsRunning, IsTogether, Resetting, Steady}
-use Rattle.disk_recovery.specs.Together.{IsServedOn}
-use Rattle.world_rests.proofs.SignPlans.{IsAbsent, IsNew, Starts}
-use Rattle.world_rests.proofs.SignRows.{register_posted}
+use Rattle.hba_driver.proofs.Door.{ignores_as}
+use Rattle.disk_recovery.specs.{Ends.{IsOnTime, IsRunning, IsTogether, Resetting, Steady}, Together.IsServedOn}
+use Rattle.world_rests.proofs.{SignPlans.{IsAbsent, IsNew, Starts}, SignRows.register_posted}
 
 -- ---- the driver
 

@@ -1,27 +1,19 @@
 -- For `rested_disks_have_signed`. The host has the signature of a disk that is new to the driver, and keeps it over each turn that does not
 -- flush the disk; and it has it once it took a FIS of the disk.
 use Rattle.std.proofs.Common.{◌≡◌, ◌≢◌, ℕ, ◌<◌, Bool, true, false, List, ◌∷◌, refl, sym, ap, subst, ◌∙◌, inl, inr, Option, None, arith}
-use Rattle.std.specs.Prelude.{is_some}
 use Rattle.std.proofs.lemmas.Bool.{eq-eqb, true≢false}
+use Rattle.std.specs.Prelude.{is_some}
 use Rattle.fis_view.specs.Frames.{IsFrame, marked}
-use Rattle.hba_fbs.specs.declared.report.TakeReport.{TakeReport}
-use Rattle.hba_fbs.specs.Taking.{port_of}
-use Rattle.hba_fbs.specs.Views.{view_of}
-use Rattle.disk_model.specs.declared.plan.DiskPlan.{DiskPlan}
-use Rattle.disk_model.specs.Histories.{Happening}
+use Rattle.hba_fbs.specs.{declared.report.TakeReport.TakeReport, Taking.port_of, Views.view_of}
+use Rattle.disk_model.specs.{declared.plan.DiskPlan.DiskPlan, Histories.Happening}
 use Rattle.hba_laws.specs.Client.{Touches}
-use Rattle.hba_driver.specs.declared.order.Order.{Order}
-use Rattle.hba_driver.specs.declared.plan.Plan.{Plan}
-use Rattle.hba_driver.specs.Drivers.{Driver}
-use Rattle.hba_driver.specs.HostTurns.{Does, Host, HostTurn, Polled, Pushed, Put, Submitted, Ticked, Took}
-use Rattle.hba_driver.specs.Slot30.{Asks, Cleared, Clears, Faulty, FindsNone, IsAt30, IsPlan30, LogSent, MayCome30, Off, On, Sets, Stage30, Turns30, is_faulty}
-use Rattle.hba_driver.specs.Steady.{HasSignature, IsCalmTick, IsFlushTick, detects}
+use Rattle.hba_driver.specs.{declared.{order.Order.Order, plan.Plan.Plan}, Drivers.Driver, HostTurns.{Does, Host, HostTurn, Polled, Pushed, Put}}
+use Rattle.hba_driver.specs.{HostTurns.{Submitted, Ticked, Took}, Slot30.{Asks, Cleared, Clears, Faulty, FindsNone, IsAt30, IsPlan30, LogSent}}
+use Rattle.hba_driver.specs.{Slot30.{MayCome30, Off, On, Sets, Stage30, Turns30, is_faulty}, Steady.{HasSignature, IsCalmTick, IsFlushTick, detects}}
 use Rattle.hba_driver.proofs.Door.{calm_or_flush, pushes_on, stays_on, takes_lead, ticks_lead}
 use Rattle.disk_recovery.specs.Ends.{Apart, AreEnds, IsRunning, IsSetAside, IsTogether, Together}
 use Rattle.disk_recovery.proofs.Door.{never_cleared}
-use Rattle.world_rests.proofs.SignPlans.{IsNew, new_was}
-use Rattle.world_rests.proofs.SignRows.{signature_stays}
-use Rattle.world_rests.proofs.SignTakes.{new_recovering, takes_signature}
+use Rattle.world_rests.proofs.{SignPlans.{IsNew, new_was}, SignRows.signature_stays, SignTakes.{new_recovering, takes_signature}}
 
 -- if the device is new to the driver, and no fault of it stands, its signature is in its row
 abbrev pub HasIfNew : ℕ → Host → Type 0

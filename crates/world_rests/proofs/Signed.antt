@@ -1,43 +1,29 @@
 -- For `rested_drivers_watch`. The signature of the control port comes: the second FIS of its software reset finds that the first one
 -- came, and is answered.
-use Rattle.std.proofs.Common.{◌≡◌, ◌≢◌, ℕ, ◌==◌, Bool, true, false, List, [], ◌∷◌, ◌++◌, append_assoc, refl, sym, ap, subst, ◌∙◌, inl, inr, Option, Some, None, Ok}
+use Rattle.std.proofs.Common.{◌≡◌, ◌≢◌, ℕ, ◌==◌, Bool, true, false, List, [], ◌∷◌, ◌++◌, append_assoc, refl, sym, ap, subst, ◌∙◌, inl, inr, Option}
+use Rattle.std.proofs.{Common.{Some, None, Ok}, lemmas.{Bool.{cases_eq, eq-eqb, false≢true, ne_eqb}, Option.same_Some}}
 use Rattle.std.specs.Prelude.{if◌then◌else◌, is_none, MatchBool, MatchOption}
-use Rattle.std.proofs.lemmas.Bool.{cases_eq, eq-eqb, false≢true, ne_eqb}
-use Rattle.std.proofs.lemmas.Option.{same_Some}
-use Rattle.fis_view.specs.Built.{IsBuilt, cut, d2h_given}
-use Rattle.fis_view.specs.Frames.{Stamped}
-use Rattle.fis_view.specs.Table.{Count, D2h, Error, Lba, PmPort, Status, places}
+use Rattle.fis_view.specs.{Built.{IsBuilt, cut, d2h_given}, Frames.Stamped, Table.{Count, D2h, Error, Lba, PmPort, Status, places}}
 use Rattle.fis_view.specs.declared.frame.Stamp.{Stamp}
 use Rattle.fis_view.proofs.Door.{port_bits, port_field}
-use Rattle.pm_control.specs.Answers.{IsAnswer, answer_to_request, mark_after_request, mark_left, signature}
-use Rattle.pm_control.specs.Requests.{request_in}
+use Rattle.pm_control.specs.{Answers.{IsAnswer, answer_to_request, mark_after_request, mark_left, signature}, Requests.request_in}
 use Rattle.pm_control.specs.declared.request.Request.{Request}
 use Rattle.pm_ports.specs.Port.{came_refusal, gone_refusal}
-use Rattle.multiplier.specs.Arbiter.{control_port}
-use Rattle.multiplier.specs.Between.{Answer as Answers, FromPort, Gives, Notice}
-use Rattle.multiplier.specs.Rules.{FromHostRule, ToControl, ToDevice, ToNobody, ToPort, with_device as connected, without_device}
-use Rattle.multiplier.specs.State.{PmState, control_stamp, passes_to, pm_port, port_at}
-use Rattle.multiplier.specs.declared.multiplier.Passed.{Passed}
+use Rattle.multiplier.specs.{Arbiter.control_port, Between.{Answer as Answers, FromPort, Gives, Notice}, Rules.{FromHostRule, ToControl, ToDevice}}
+use Rattle.multiplier.specs.{Rules.{ToNobody, ToPort, with_device as connected, without_device}, State.{PmState, control_stamp, passes_to, pm_port}}
+use Rattle.multiplier.specs.{State.port_at, declared.multiplier.Passed.Passed}
 use Rattle.multiplier.specs.declared.multiplier.Passed.TheVariants as passed
-use Rattle.hba_fbs.specs.declared.report.TakeReport.{TakeReport}
-use Rattle.hba_fbs.specs.Posting.{is_signature}
-use Rattle.hba_fbs.specs.Taking.{port_of}
-use Rattle.hba_fbs.specs.Views.{view_of}
-use Rattle.hba_driver.specs.declared.order.Order.TheVariants.{AwaitSignature, ResetOff, ResetOn}
-use Rattle.hba_driver.specs.HostTurns.{Does, Host, Pushed, Took}
-use Rattle.hba_driver.specs.Slot31.{Asks, Follows31, IsAt31, IsIn, IsSignature31, Pushes31, Resets, Signs, Stage31, TakesOn, Turns31, control_of, is_resetting}
+use Rattle.hba_fbs.specs.{declared.report.TakeReport.TakeReport, Posting.is_signature, Taking.port_of, Views.view_of}
+use Rattle.hba_driver.specs.{declared.order.Order.TheVariants.{AwaitSignature, ResetOff, ResetOn}, HostTurns.{Does, Host, Pushed, Took}, Slot31.Asks}
+use Rattle.hba_driver.specs.Slot31.{Follows31, IsAt31, IsIn, IsSignature31, Pushes31, Resets, Signs, Stage31, TakesOn, Turns31, control_of}
+use Rattle.hba_driver.specs.Slot31.{is_resetting}
 use Rattle.hba_driver.proofs.Door.{turn_addressed}
-use Rattle.pm_world.specs.Attached.{Attached}
-use Rattle.pm_world.specs.Line.{IsEnd, IsReset, OnLine, is_register}
-use Rattle.pm_world.specs.Places.{new_world}
-use Rattle.pm_world.specs.Rules.{recorded}
-use Rattle.pm_world.specs.declared.link.Change.{Change}
+use Rattle.pm_world.specs.{Attached.Attached, Line.{IsEnd, IsReset, OnLine, is_register}, Places.new_world, Rules.recorded}
+use Rattle.pm_world.specs.declared.{link.Change.Change, step.Config.Config}
 use Rattle.pm_world.specs.declared.link.Change.TheVariants as change
-use Rattle.pm_world.specs.declared.step.Config.{Config}
-use Rattle.world_rests.proofs.ControlFile.{IsCalm, recorded_answer}
-use Rattle.world_rests.proofs.Orders.{Among, among_last, among_more}
-use Rattle.world_rests.proofs.Turning.{ends_last, inside_reset, inside_turn, none_last, not_quiet, pushed_turn, resets_last, same_reset, took_turn}
-use Rattle.world_rests.proofs.Ways.{Hears, IsGood, Line, Pushes, Records, Rises as GoesUp, Stays, Takes, Turns, Way, line_of}
+use Rattle.world_rests.proofs.{ControlFile.{IsCalm, recorded_answer}, Orders.{Among, among_last, among_more}, Turning.{ends_last, inside_reset}}
+use Rattle.world_rests.proofs.{Turning.{inside_turn, none_last, not_quiet, pushed_turn, resets_last, same_reset, took_turn}, Ways.{Hears, IsGood}}
+use Rattle.world_rests.proofs.Ways.{Line, Pushes, Records, Rises as GoesUp, Stays, Takes, Turns, Way, line_of}
 
 -- ---- whether the first FIS came
 

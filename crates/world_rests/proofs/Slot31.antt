@@ -1,52 +1,34 @@
 -- For `rested_have_done`. The command in slot 31 that went out, over the turns of a host: it stays until its answer comes, which
 -- frees the slot.
-use Rattle.std.proofs.Common.{◌≡◌, ◌≢◌, ◌⊎◌, ℕ, zero, suc, ◌<◌, ◌≤◌, ◌==◌, Bool, true, false, List, [], ◌∷◌, length, map, refl, sym, ap, subst, ◌∙◌, inl, inr, Option, Some, None, arith}
-use Rattle.std.specs.Prelude.{◌&&◌, ◌||◌, not, if◌then◌else◌, slice_index_or, slice_set}
-use Rattle.std.specs.List.{flat_map, range_with_len}
-use Rattle.std.specs.Int.{from_bool}
+use Rattle.std.proofs.Common.{◌≡◌, ◌≢◌, ◌⊎◌, ℕ, zero, suc, ◌<◌, ◌≤◌, ◌==◌, Bool, true, false, List, [], ◌∷◌, length, map, refl, sym, ap, subst, ◌∙◌}
+use Rattle.std.proofs.{Common.{inl, inr, Option, Some, None, arith}, lemmas.Bool.{cases_Bool, cases_eq, cases_lt, false≢true, true≢false}}
+use Rattle.std.proofs.lemmas.{List.{get_or_past, length-map, FromFn.{get_or-map-range_with_len, length-range_with_len}}, Option.same_Some}
+use Rattle.std.specs.{Prelude.{◌&&◌, ◌||◌, not, if◌then◌else◌, slice_index_or, slice_set}, List.{flat_map, range_with_len}, Int.from_bool}
 use Rattle.std.specs.Option.{option_map}
-use Rattle.std.proofs.lemmas.Bool.{cases_Bool, cases_eq, cases_lt, false≢true, true≢false}
-use Rattle.std.proofs.lemmas.List.{get_or_past, length-map}
-use Rattle.std.proofs.lemmas.List.FromFn.{get_or-map-range_with_len, length-range_with_len}
-use Rattle.std.proofs.lemmas.Option.{same_Some}
-use Rattle.fis_view.specs.Built.{IsBuilt, cut, h2d_given}
-use Rattle.fis_view.specs.Frames.{Stamped}
-use Rattle.fis_view.specs.Table.{C, H2d, places}
-use Rattle.fis_view.specs.declared.build.H2dFields.{H2dFields}
+use Rattle.fis_view.specs.{Built.{IsBuilt, cut, h2d_given}, Frames.Stamped, Table.{C, H2d, places}, declared.build.H2dFields.H2dFields}
 use Rattle.host_memory.specs.Memory.{Memory}
 use Rattle.port_errors.specs.declared.cause.DeviceCause.TheVariants as cause
 use Rattle.pm_control.specs.Requests.{IsCommand}
 use Rattle.hba_commands.specs.declared.command.Command.{Command}
-use Rattle.slots.specs.Commands.{answer_for, answer_of, answered_as, answered_issue, completed, is_done, is_slot}
-use Rattle.slots.specs.Slots.{DeviceSlots, Issue, Slots, freed, holds, is_waiting, is_whole_issue, match_some, new_issue, no_own_slots, own_issue, slots_of, waiting}
-use Rattle.slots.specs.Table.{IsIssue, IsTable, waits_for}
-use Rattle.slots.specs.Work.{is_queued, needs_all}
-use Rattle.slots.specs.declared.answer.Answered.{Answered}
+use Rattle.slots.specs.{Commands.{answer_for, answer_of, answered_as, answered_issue, completed, is_done, is_slot}, Slots.{DeviceSlots, Issue, Slots}}
+use Rattle.slots.specs.Slots.{freed, holds, is_waiting, is_whole_issue, match_some, new_issue, no_own_slots, own_issue, slots_of, waiting}
+use Rattle.slots.specs.{Table.{IsIssue, IsTable, waits_for}, Work.{is_queued, needs_all}, declared.answer.Answered.Answered}
 use Rattle.slots.specs.declared.answer.Answered.TheVariants as answer
 use Rattle.slots.proofs.Door.{lowest_found, own_at}
-use Rattle.hba_fbs.specs.declared.hearing.Heard.{Heard}
+use Rattle.hba_fbs.specs.{declared.{hearing.Heard.Heard, register.Register.{Register, TheVariants.{Cmd, Ci, Fbs}}}, Hearing.{answered, faulty}}
+use Rattle.hba_fbs.specs.{Hearing.{heard_bits, heard_d2h, heard_register, named, quietly}, Issuing.{aimed, asked, issue_with, issues_with}}
+use Rattle.hba_fbs.specs.{Issuing.view_issued, Registers.falls, Sending.{Data, Gives, Nothing, Order, Outgoing, Unreadable, outgoing}}
+use Rattle.hba_fbs.specs.{Status.{after_reset, is_busy, is_error, with_bits, with_file}, Taking.view_after_hearing, Views.{DeviceView, Port}}
+use Rattle.hba_fbs.specs.{Views.{stopped_view, view_of}, Writing.{cleared_by, is_device, view_after}}
 use Rattle.hba_fbs.specs.declared.hearing.Happening.TheVariants as happening
-use Rattle.hba_fbs.specs.declared.register.Register.{Register}
-use Rattle.hba_fbs.specs.declared.register.Register.TheVariants.{Cmd, Ci, Fbs}
-use Rattle.hba_fbs.specs.Hearing.{answered, faulty, heard_bits, heard_d2h, heard_register, named, quietly}
-use Rattle.hba_fbs.specs.Issuing.{aimed, asked, issue_with, issues_with, view_issued}
-use Rattle.hba_fbs.specs.Registers.{falls}
-use Rattle.hba_fbs.specs.Sending.{Data, Gives, Nothing, Order, Outgoing, Unreadable, outgoing}
-use Rattle.hba_fbs.specs.Status.{after_reset, is_busy, is_error, with_bits, with_file}
-use Rattle.hba_fbs.specs.Taking.{view_after_hearing}
-use Rattle.hba_fbs.specs.Views.{DeviceView, Port, stopped_view, view_of}
-use Rattle.hba_fbs.specs.Writing.{cleared_by, is_device, view_after}
 use Rattle.hba_laws.proofs.Door.{is_own, own_freed}
 use Rattle.hba_laws.specs.Hosts as event
 use Rattle.hba_laws.specs.Hosts.{HostEvent}
-use Rattle.hba_driver.specs.declared.mode.Mode.TheVariants.{Switching}
+use Rattle.hba_driver.specs.declared.{mode.Mode.TheVariants.Switching, order.Order.{Order as Asked, TheVariants.{ResetOn, ResetOff, AwaitSignature}}}
+use Rattle.hba_driver.specs.{declared.order.Order.TheVariants.Watch, Events.{IsSoundHost, events_over, gave, shared_by, took}, HostTurns.Does}
+use Rattle.hba_driver.specs.{HostTurns.{DoesAll, Host, Pushed, Ticked, Ticks}, Orders.order_fields, Slot31.{Follows31, IsAt31, IsFree31, IsIn}}
+use Rattle.hba_driver.specs.Slot31.{Pushes31, Resets, Signs, Stage31, Turns31, control_of, is_off, is_on}
 use Rattle.hba_driver.proofs.Door.{each_run_tells, turns_are_events}
-use Rattle.hba_driver.specs.declared.order.Order.{Order as Asked}
-use Rattle.hba_driver.specs.declared.order.Order.TheVariants.{ResetOn, ResetOff, AwaitSignature, Watch}
-use Rattle.hba_driver.specs.Events.{IsSoundHost, events_over, gave, shared_by, took}
-use Rattle.hba_driver.specs.HostTurns.{Does, DoesAll, Host, Pushed, Ticked, Ticks}
-use Rattle.hba_driver.specs.Orders.{order_fields}
-use Rattle.hba_driver.specs.Slot31.{Follows31, IsAt31, IsFree31, IsIn, Pushes31, Resets, Signs, Stage31, Turns31, control_of, is_off, is_on}
 
 -- a command of the control port in slot 31 went out, and the control port has no fault
 pub record IsAsking (v : DeviceView) : Type 0 where

@@ -1,36 +1,21 @@
 -- For `rested_plans_match`. What a tick makes of slot 31, and of what the driver takes a device to be.
-use Rattle.std.proofs.Common.{◌≡◌, ◌≢◌, ℕ, zero, suc, ◌+◌, ◌<◌, ◌==◌, ◌&&◌, Bool, true, false, nat_lt, not, if◌then◌else◌, List, [], ◌∷◌, get_or, length, set, refl, sym, ap, subst, ◌∙◌, inl, inr, Option, Some, None}
-use Rattle.std.specs.Prelude.{is_some, nat_le}
-use Rattle.std.specs.List.{list_any}
-use Rattle.std.specs.Option.{option_map, option_or}
-use Rattle.std.proofs.lemmas.List.{get_or-set_same}
-use Rattle.std.proofs.lemmas.Bool.{and_parts, cases_Bool, cases_eq, eq-eqb, eqb-true, false≢true, lt-ltb, or_left, true≢false}
+use Rattle.std.proofs.Common.{◌≡◌, ◌≢◌, ℕ, zero, suc, ◌+◌, ◌<◌, ◌==◌, ◌&&◌, Bool, true, false, nat_lt, not, if◌then◌else◌, List, [], ◌∷◌, get_or}
+use Rattle.std.proofs.{Common.{length, set, refl, sym, ap, subst, ◌∙◌, inl, inr, Option, Some, None}, lemmas.{List.{get_or-set_same}, Bool.and_parts}}
+use Rattle.std.proofs.lemmas.Bool.{cases_Bool, cases_eq, eq-eqb, eqb-true, false≢true, lt-ltb, or_left, true≢false}
+use Rattle.std.specs.{Prelude.{is_some, nat_le}, List.list_any, Option.{option_map, option_or}}
 use Rattle.hba_fbs.specs.Views.{Port}
 use Rattle.slots.specs.Slots.{has_bit, lowest_below, match_some}
-use Rattle.hba_driver.specs.declared.mode.Mode.{Mode}
-use Rattle.hba_driver.specs.declared.mode.Mode.TheVariants.{CommandBased, Switching}
-use Rattle.hba_driver.specs.declared.order.Order.{Order}
-use Rattle.hba_driver.specs.declared.order.Order.TheVariants.{AwaitSignature, Clear, CountPorts, Detect, Enable, Open, ResetOn, Scan, Watch}
-use Rattle.hba_driver.specs.declared.path.Path.{Path}
-use Rattle.hba_driver.specs.declared.path.Recovery.TheVariants.{Reset}
-use Rattle.hba_driver.specs.declared.path.Stage.{Stage}
-use Rattle.hba_driver.specs.declared.path.Stage.TheVariants.{Identify, ReadLog}
-use Rattle.hba_driver.specs.declared.path.TaskFile.{TaskFile}
-use Rattle.hba_driver.specs.declared.plan.Device.{Device}
-use Rattle.hba_driver.specs.declared.plan.Device.TheVariants.{Absent, Ready, Recovering, Unusable}
-use Rattle.hba_driver.specs.declared.plan.Plan.{Plan}
-use Rattle.hba_driver.specs.Between.{MayClear, MayEnd}
-use Rattle.hba_driver.specs.Drivers.{Driver, Entry, device_at, entry_at, with_device}
-use Rattle.hba_driver.specs.Effects.{effects_of, order_effects}
-use Rattle.hba_driver.specs.Going.{leaves_port}
-use Rattle.hba_driver.specs.Laws.{flushes}
-use Rattle.hba_driver.specs.Seeing.{Sight}
-use Rattle.hba_driver.specs.Steady.{IsCalmAct, detects}
-use Rattle.hba_driver.specs.Orders.{next_order, open_from, order_fields, scan_from}
-use Rattle.hba_driver.specs.Paths.{recovery, stage_fields}
-use Rattle.hba_driver.specs.Tended.{IsUnworked}
-use Rattle.hba_driver.specs.Ticks.{after_tick, done_ended, due, effects_due, from_reset, ordered, plan_after, recovering, seen, turn}
-use Rattle.hba_driver.specs.Turns.{advanced, allowed, control_news, control_seen, control_turn, detected, device_due, device_or_request, device_seen, device_turn, early_due, fault_due, found_of, is_back, is_due, issue_of, may_issue, met_order, noted, opening_due, order_allowed, order_due, path_answered, path_due, plain_turn, request_due, restart_due, signed_order, stage_due, stage_for, step_of, turn_of, with_next}
+use Rattle.hba_driver.specs.declared.{mode.Mode.{Mode, TheVariants.{CommandBased, Switching}}, order.Order.{Order, TheVariants.AwaitSignature}}
+use Rattle.hba_driver.specs.declared.{order.Order.TheVariants.{Clear, CountPorts, Detect, Enable, Open, ResetOn, Scan, Watch}, path.Path.Path}
+use Rattle.hba_driver.specs.declared.path.{Recovery.TheVariants.Reset, Stage.{Stage, TheVariants.{Identify, ReadLog}}, TaskFile.TaskFile}
+use Rattle.hba_driver.specs.{declared.plan.{Device.{Device, TheVariants.{Absent, Ready, Recovering, Unusable}}, Plan.Plan}, Between.MayClear}
+use Rattle.hba_driver.specs.{Between.MayEnd, Drivers.{Driver, Entry, device_at, entry_at, with_device}, Effects.{effects_of, order_effects}}
+use Rattle.hba_driver.specs.{Going.leaves_port, Laws.flushes, Seeing.Sight, Steady.{IsCalmAct, detects}, Orders.{next_order, open_from, order_fields}}
+use Rattle.hba_driver.specs.{Orders.scan_from, Paths.{recovery, stage_fields}, Tended.IsUnworked, Ticks.{after_tick, done_ended, due, effects_due}}
+use Rattle.hba_driver.specs.{Ticks.{from_reset, ordered, plan_after, recovering, seen, turn}, Turns.{advanced, allowed, control_news, control_seen}}
+use Rattle.hba_driver.specs.Turns.{control_turn, detected, device_due, device_or_request, device_seen, device_turn, early_due, fault_due, found_of}
+use Rattle.hba_driver.specs.Turns.{is_back, is_due, issue_of, may_issue, met_order, noted, opening_due, order_allowed, order_due, path_answered}
+use Rattle.hba_driver.specs.Turns.{path_due, plain_turn, request_due, restart_due, signed_order, stage_due, stage_for, step_of, turn_of, with_next}
 use Rattle.hba_driver.proofs.Door.{acted_plan, seen_free, seen_out, seen_unasked, set_other}
 
 -- ---- lists of devices

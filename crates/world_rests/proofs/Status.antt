@@ -1,54 +1,34 @@
 -- For `rested_disks_have_done`. Of a disk, the port shows BSY only while an answer of the disk is to come, and DRQ only while a page is.
-use Rattle.std.proofs.Common.{◌≡◌, ◌≢◌, ◌⊎◌, ◌==◌, ◌+◌, ◌-◌, ◌*◌, ◌/◌, ◌%◌, eqb, max, min, bit_or, bit_and, nat_lt, ℕ, ◌<◌, ◌≤◌, Bool, true, false, List, [], ◌∷◌, ◌++◌, drop, length, length-drop, refl, sym, ap, subst, ◌∙◌, inl, inr, Option, Some, None, Ok, Err, Result, arith}
-use Rattle.std.specs.Prelude.{MatchOption, if◌then◌else◌, find, is_some, not}
-use Rattle.std.specs.Int.{bit_at}
-use Rattle.std.specs.Option.{option_map}
-use Rattle.std.proofs.lemmas.Bool.{eq-eqb, eqb-true, false≢true, ltb-false, true≢false}
-use Rattle.std.proofs.lemmas.Nat.Bits.{bit_at-lt, bit_at_and, bit_at_or}
-use Rattle.fis_view.specs.Bits.{bits}
-use Rattle.fis_view.specs.Table.{Bits, BufferId, D2h, EStatus, Offset, Pio, SActive, Setup, Status, field, places, spelled}
+use Rattle.std.proofs.Common.{◌≡◌, ◌≢◌, ◌⊎◌, ◌==◌, ◌+◌, ◌-◌, ◌*◌, ◌/◌, ◌%◌, eqb, max, min, bit_or, bit_and, nat_lt, ℕ, ◌<◌, ◌≤◌, Bool, true, false}
+use Rattle.std.proofs.Common.{List, [], ◌∷◌, ◌++◌, drop, length, length-drop, refl, sym, ap, subst, ◌∙◌, inl, inr, Option, Some, None, Ok, Err}
+use Rattle.std.proofs.{Common.{Result, arith}, lemmas.{Bool.{eq-eqb, eqb-true, false≢true, ltb-false, true≢false}, Nat.Bits.{bit_at-lt, bit_at_and}}}
+use Rattle.std.proofs.lemmas.Nat.Bits.{bit_at_or}
+use Rattle.std.specs.{Prelude.{MatchOption, if◌then◌else◌, find, is_some, not}, Int.bit_at, Option.option_map}
+use Rattle.fis_view.specs.{Bits.bits, Table.{Bits, BufferId, D2h, EStatus, Offset, Pio, SActive, Setup, Status, field, places, spelled}}
+use Rattle.fis_view.specs.declared.view.{Fis.Fis, FisFault.FisFault}
 use Rattle.fis_view.specs.Table as table
-use Rattle.fis_view.specs.declared.view.Fis.{Fis}
 use Rattle.fis_view.specs.declared.view.Fis.TheVariants as view
-use Rattle.fis_view.specs.declared.view.FisFault.{FisFault}
 use Rattle.fis_view.proofs.Door.{bits-lt}
 use Rattle.port_errors.specs.declared.cause.DeviceCause.TheVariants as cause
-use Rattle.slots.specs.Commands.{answer_of, completed}
-use Rattle.slots.specs.Data.{after_arrive, may_activate}
-use Rattle.slots.specs.Setup.{dma_context, out_setup, pio_fault, pio_issue, setup_fault}
-use Rattle.slots.specs.Slots.{DeviceSlots, Issue, holds, is_pio, match_some, own_issue, sent_pio}
-use Rattle.slots.specs.Work.{is_queued}
-use Rattle.slots.specs.declared.answer.SetupError.{SetupError}
-use Rattle.slots.specs.declared.table.Context.{Context}
-use Rattle.slots.specs.declared.work.Work.{Work}
-use Rattle.hba_fbs.specs.declared.hearing.Happening.{Happening}
+use Rattle.slots.specs.{Commands.{answer_of, completed}, Data.{after_arrive, may_activate}, Setup.{dma_context, out_setup, pio_fault, pio_issue}}
+use Rattle.slots.specs.{Setup.setup_fault, Slots.{DeviceSlots, Issue, holds, is_pio, match_some, own_issue, sent_pio}, Work.is_queued}
+use Rattle.slots.specs.declared.{answer.SetupError.SetupError, table.Context.Context, work.Work.Work}
+use Rattle.hba_fbs.specs.declared.{hearing.{Happening.Happening, Heard.Heard}, report.Wrote.Wrote, state.DeviceState.DeviceState, status.Block.Block}
+use Rattle.hba_fbs.specs.{Hearing.{faulty, heard_fis, is_admitted, named, quietly, set_up, tag_of}, Status.{after_reset, is_busy, is_error}}
+use Rattle.hba_fbs.specs.{Status.{wants_data, with_bits, with_file}, Taking.{admitted, heard}, Views.DeviceView}
 use Rattle.hba_fbs.specs.declared.hearing.Happening.TheVariants as happening
-use Rattle.hba_fbs.specs.declared.hearing.Heard.{Heard}
-use Rattle.hba_fbs.specs.declared.report.Wrote.{Wrote}
-use Rattle.hba_fbs.specs.declared.state.DeviceState.{DeviceState}
-use Rattle.hba_fbs.specs.declared.status.Block.{Block}
 use Rattle.hba_fbs.specs.Hearing as hear
-use Rattle.hba_fbs.specs.Hearing.{faulty, heard_fis, is_admitted, named, quietly, set_up, tag_of}
-use Rattle.hba_fbs.specs.Status.{after_reset, is_busy, is_error, wants_data, with_bits, with_file}
-use Rattle.hba_fbs.specs.Taking.{admitted, heard}
-use Rattle.hba_fbs.specs.Views.{DeviceView}
-use Rattle.disk_model.specs.declared.request.Command.{Command}
-use Rattle.disk_model.specs.Anew.{IsClear}
-use Rattle.disk_model.specs.Ends.{IsRight, MovesOther, PageAsked}
-use Rattle.disk_model.specs.Laws.{ActivatesRight, AnswersFirst, SetsUpRight, ShowsFirst, StartsOne}
-use Rattle.disk_model.specs.Ledger.{Ledger, Moving, Names, Reply, ShowsPage, answered, listens_up, sends_data}
+use Rattle.disk_model.specs.{declared.request.Command.Command, Anew.IsClear, Ends.{IsRight, MovesOther, PageAsked}, Laws.ActivatesRight}
+use Rattle.disk_model.specs.{Laws.{AnswersFirst, SetsUpRight, ShowsFirst, StartsOne}, Ledger.{Ledger, Moving, Names, Reply, ShowsPage, answered}}
+use Rattle.disk_model.specs.Ledger.{listens_up, sends_data}
 use Rattle.hba_laws.specs.Agreement.{ContextAgrees, IssueAgrees, IsTold, SetupAgrees, end_of, is_for, is_pio_issue, work_of_issue, work_of_transfer}
-use Rattle.hba_laws.specs.History as event
 use Rattle.hba_laws.specs.History.{History, Setup as LastSetup, Transfer, carried, is_set_up, issued, last_setup}
-use Rattle.disk_simulation.specs.Answers.{IsIdle}
-use Rattle.disk_simulation.specs.Between.{IsThere}
-use Rattle.disk_simulation.specs.Files.{IsOfDisk}
-use Rattle.disk_simulation.specs.Same.{InLife, Moves, Open, ReadEnded, SlotCommand, Unsent, WriteEnded}
-use Rattle.disk_simulation.specs.Together.{InTalk, NoneQueued, Same, told}
+use Rattle.hba_laws.specs.History as event
+use Rattle.disk_simulation.specs.{Answers.IsIdle, Between.IsThere, Files.IsOfDisk, Same.{InLife, Moves, Open, ReadEnded, SlotCommand, Unsent}}
+use Rattle.disk_simulation.specs.{Same.WriteEnded, Together.{InTalk, NoneQueued, Same, told}}
 use Rattle.disk_simulation.proofs.Door.{not_pio, there_by}
-use Rattle.world_rests.proofs.Long.{IsLong}
-use Rattle.world_rests.proofs.Open.{WasIssued, was_issued}
-use Rattle.world_rests.proofs.Paged.{IsPageDue, IsPaged, asked_activate_fis, asked_bits, asked_moves, asked_setup_fis, page_due, paged_idle}
+use Rattle.world_rests.proofs.{Long.IsLong, Open.{WasIssued, was_issued}, Paged.{IsPageDue, IsPaged, asked_activate_fis, asked_bits, asked_moves}}
+use Rattle.world_rests.proofs.Paged.{asked_setup_fis, page_due, paged_idle}
 
 -- with this Status of the disk, by what happened and what FISes tell
 pub record IsCalm (status : ℕ) (past : History) (k : Ledger) : Type 0 where

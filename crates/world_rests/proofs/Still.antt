@@ -1,29 +1,21 @@
 -- For `still_rounds_rest`. A step that is answered as doing nothing leaves the world.
-use Rattle.std.proofs.Common.{◌≡◌, ℕ, zero, suc, true, false, List, [], ◌∷◌, length, Some, None, ap, subst, ◌∙◌}
-use Rattle.std.specs.Prelude.{slice_get, Ok}
-use Rattle.std.specs.List.{list_all}
-use Rattle.std.proofs.lemmas.Bool.{and_parts, false≢true, true≢false}
-use Rattle.std.proofs.lemmas.Option.{same_Some}
+use Rattle.std.proofs.{Common.{◌≡◌, ℕ, zero, suc, true, false, List, [], ◌∷◌, length, Some, None, ap, subst, ◌∙◌}, lemmas.Bool.and_parts}
+use Rattle.std.proofs.lemmas.{Bool.{false≢true, true≢false}, Option.same_Some}
+use Rattle.std.specs.{Prelude.{slice_get, Ok}, List.list_all}
 use Rattle.host_memory.specs.Memory.{Memory}
 use Rattle.multiplier.specs.State.{PmState}
-use Rattle.hba_fbs.specs.Sending.{Gives, Nothing, Outgoing, Unreadable, outgoing}
-use Rattle.hba_fbs.specs.Views.{Port}
+use Rattle.hba_fbs.specs.{Sending.{Gives, Nothing, Outgoing, Unreadable, outgoing}, Views.Port}
 use Rattle.hba_laws.specs.Isolation.{fails_by_bus}
-use Rattle.hba_driver.specs.declared.mode.Mode.TheVariants.{Switching}
-use Rattle.hba_driver.specs.Drivers.{Driver}
-use Rattle.hba_driver.specs.HostTurns.{Host}
-use Rattle.hba_driver.specs.declared.request.Request.{Request}
-use Rattle.pm_world.specs.Places.{Place, Places, Queue, with_device, with_downward, with_host, with_multiplier, with_upward}
-use Rattle.pm_world.specs.PortsGoOn.{PortsGoOn}
-use Rattle.pm_world.specs.Rules.{CameActs, CameRule, DiskSendActs, DiskSendRule, DiskTakeActs, DiskTakeRule, GoneActs, GoneRule, HostPushRule, HostTakeRule, InjectActs, InjectRule, OnDevice, OnDeviceAndMultiplier, Outcome, PmDownRule, PmFromDeviceRule, PmFromHostRule, PmPresenceRule, PmUpRule, PollRule, PutRule, Rule, Run, SubmitRule, TickRule}
-use Rattle.pm_world.specs.declared.step.Step.{Step}
+use Rattle.hba_driver.specs.{declared.{mode.Mode.TheVariants.Switching, request.Request.Request}, Drivers.Driver, HostTurns.Host}
+use Rattle.pm_world.specs.{Places.{Place, Places, Queue, with_device, with_downward, with_host, with_multiplier, with_upward}, PortsGoOn.PortsGoOn}
+use Rattle.pm_world.specs.Rules.{CameActs, CameRule, DiskSendActs, DiskSendRule, DiskTakeActs, DiskTakeRule, GoneActs, GoneRule, HostPushRule}
+use Rattle.pm_world.specs.Rules.{HostTakeRule, InjectActs, InjectRule, OnDevice, OnDeviceAndMultiplier, Outcome, PmDownRule, PmFromDeviceRule}
+use Rattle.pm_world.specs.Rules.{PmFromHostRule, PmPresenceRule, PmUpRule, PollRule, PutRule, Rule, Run, SubmitRule, TickRule}
+use Rattle.pm_world.specs.declared.step.{Step.Step, Answer.Answer}
 use Rattle.pm_world.specs.declared.step.Step.TheVariants as step
-use Rattle.pm_world.specs.declared.step.Answer.{Answer}
 use Rattle.pm_world.specs.declared.step.Answer.TheVariants as answer
-use Rattle.world_rests.specs.Rests.{DoesNothing, IsOfRound, is_still}
-use Rattle.world_rests.specs.Laws.{StillRoundsRest}
-use Rattle.world_rests.proofs.Well.{size_in}
-use Rattle.world_rests.proofs.Parts.{AtBoth, AtDevice, at_both, at_device, set_same}
+use Rattle.world_rests.specs.{Rests.{DoesNothing, IsOfRound, is_still}, Laws.StillRoundsRest}
+use Rattle.world_rests.proofs.{Well.size_in, Parts.{AtBoth, AtDevice, at_both, at_device, set_same}}
 
 -- ---- a device
 

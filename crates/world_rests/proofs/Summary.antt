@@ -1,17 +1,14 @@
 -- For `rested_ports_are_open`. Which ports ask for attention, as GSCR[32] tells it, and when a notification becomes due.
-use Rattle.std.proofs.Common.{◌≡◌, ◌≢◌, ◌⊎◌, ℕ, zero, suc, ◌+◌, ◌-◌, ◌*◌, ◌%◌, ◌^◌, ◌<◌, ◌≤◌, ◌==◌, ◌&&◌, min, Bool, true, false, not, bit_and, if◌then◌else◌, length, refl, sym, ap, subst, ◌∙◌, inl, inr, Option, None, arith, get_or-set_same, get_or-set_other}
-use Rattle.std.specs.Prelude.{is_some, nat_lt}
-use Rattle.std.specs.Int.{bit_at}
-use Rattle.std.specs.Int.Bits.{and_zero_l}
-use Rattle.std.proofs.Math.Pow.{pow_mono}
-use Rattle.std.proofs.lemmas.Bool.{and_from, cases_Bool, cases_eq, cases_lt, eqb-true, le-ltb, lt-ltb, ne_eqb, not-false, or_left, or_right, true≢false}
-use Rattle.std.proofs.lemmas.Nat.{and_assoc}
-use Rattle.std.proofs.lemmas.Nat.Bits.{bit_at_and, bit_at_cat_high, bit_at_cat_low, bit_at_lowest, bit_at-lt, bit_at_xor, bit_at-zero, same_from_bits}
+use Rattle.std.proofs.Common.{◌≡◌, ◌≢◌, ◌⊎◌, ℕ, zero, suc, ◌+◌, ◌-◌, ◌*◌, ◌%◌, ◌^◌, ◌<◌, ◌≤◌, ◌==◌, ◌&&◌, min, Bool, true, false, not, bit_and}
+use Rattle.std.proofs.Common.{if◌then◌else◌, length, refl, sym, ap, subst, ◌∙◌, inl, inr, Option, None, arith, get_or-set_same, get_or-set_other}
+use Rattle.std.proofs.{Math.Pow.pow_mono, lemmas.Bool.{and_from, cases_Bool, cases_eq, cases_lt, eqb-true, le-ltb, lt-ltb, ne_eqb, not-false}}
+use Rattle.std.proofs.lemmas.{Bool.{or_left, or_right, true≢false}, Nat.{and_assoc, Bits.{bit_at_and, bit_at_cat_high, bit_at_cat_low}}}
+use Rattle.std.proofs.lemmas.Nat.Bits.{bit_at_lowest, bit_at-lt, bit_at_xor, bit_at-zero, same_from_bits}
+use Rattle.std.specs.{Prelude.{is_some, nat_lt}, Int.{bit_at, Bits.and_zero_l}}
 use Rattle.slots.specs.Slots.{has_bit}
-use Rattle.pm_registers.specs.Bits.{bits_where, rises, shares, without}
-use Rattle.pm_registers.specs.Port.{bit_n, bit_x, inserted, opening_port, port_written, pscr, removed}
-use Rattle.pm_registers.specs.RegisterMap.{RegisterMap, after_insert, after_remove, after_write, asks, control_written, gscr, notifies, port_at, register_at, settled, summary, with_port, written}
-use Rattle.pm_registers.specs.declared.port.PortRegisters.{PortRegisters}
+use Rattle.pm_registers.specs.{Bits.{bits_where, rises, shares, without}, Port.{bit_n, bit_x, inserted, opening_port, port_written, pscr, removed}}
+use Rattle.pm_registers.specs.RegisterMap.{RegisterMap, after_insert, after_remove, after_write, asks, control_written, gscr, notifies, port_at}
+use Rattle.pm_registers.specs.{RegisterMap.{register_at, settled, summary, with_port, written}, declared.port.PortRegisters.PortRegisters}
 use Rattle.pm_registers.proofs.Door.{bits_where_fits}
 use Rattle.hba_driver.specs.Orders.{changes}
 

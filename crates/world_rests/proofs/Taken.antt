@@ -1,25 +1,18 @@
 -- For `rested_disks_have_done`. The tag of a queued command that was sent is not free as long as the command is issued.
-use Rattle.std.proofs.Common.{◌≡◌, ◌==◌, ◌&&◌, ◌+◌, ◌^◌, eqb, ℕ, Bool, true, false, List, [], ◌∷◌, ◌++◌, drop, length, refl, sym, ap, subst, ◌∙◌, inl, inr, Option, Some, None, Ok, Result}
-use Rattle.std.specs.Prelude.{◌*◌, ◌||◌, not, filter, if◌then◌else◌, find}
-use Rattle.std.specs.List.{list_any}
-use Rattle.std.proofs.lemmas.Bool.{cases_Bool, eq-eqb, eqb-true, or_parts, true≢false}
-use Rattle.std.proofs.lemmas.List.Folds.{list_any-append}
-use Rattle.std.proofs.lemmas.Nat.Bits.{bit_at-pow_same}
-use Rattle.fis_view.specs.Table.{Bits, BufferId, EStatus, Offset, Pio, SActive, Setup, field}
+use Rattle.std.proofs.Common.{◌≡◌, ◌==◌, ◌&&◌, ◌+◌, ◌^◌, eqb, ℕ, Bool, true, false, List, [], ◌∷◌, ◌++◌, drop, length, refl, sym, ap, subst, ◌∙◌, inl}
+use Rattle.std.proofs.{Common.{inr, Option, Some, None, Ok, Result}, lemmas.Bool.{cases_Bool, eq-eqb, eqb-true, or_parts, true≢false}}
+use Rattle.std.proofs.lemmas.{List.Folds.{list_any-append}, Nat.Bits.{bit_at-pow_same}}
+use Rattle.std.specs.{Prelude.{◌*◌, ◌||◌, not, filter, if◌then◌else◌, find}, List.list_any}
+use Rattle.fis_view.specs.{Table.{Bits, BufferId, EStatus, Offset, Pio, SActive, Setup, field}, declared.view.{Fis.Fis, FisFault.FisFault}}
 use Rattle.fis_view.specs.Table as table
-use Rattle.fis_view.specs.declared.view.Fis.{Fis}
 use Rattle.fis_view.specs.declared.view.Fis.TheVariants as view
-use Rattle.fis_view.specs.declared.view.FisFault.{FisFault}
-use Rattle.slots.specs.Slots.{has_bit, match_some}
-use Rattle.slots.specs.Work.{is_queued}
-use Rattle.disk_model.specs.declared.request.Command.{Command}
-use Rattle.disk_model.specs.Ends.{IsFree, IsRight, MovesOther, has}
-use Rattle.disk_model.specs.Ledger.{Ledger, Moving, Names, activates, answered, ends, is_auto, listens_up, moves, sends_data, sets_up, starts_moving, takes_data, with_auto}
+use Rattle.slots.specs.{Slots.{has_bit, match_some}, Work.is_queued}
+use Rattle.disk_model.specs.{declared.request.Command.Command, Ends.{IsFree, IsRight, MovesOther, has}, Ledger.{Ledger, Moving, Names, activates}}
+use Rattle.disk_model.specs.Ledger.{answered, ends, is_auto, listens_up, moves, sends_data, sets_up, starts_moving, takes_data, with_auto}
 use Rattle.disk_model.specs.Between.{opened}
 use Rattle.disk_model.proofs.Door.{bits_up}
-use Rattle.hba_laws.specs.Between.{NotIssue}
+use Rattle.hba_laws.specs.{Between.NotIssue, History.{Event, History, Transfer, completes, issued, unless}}
 use Rattle.hba_laws.specs.History as event
-use Rattle.hba_laws.specs.History.{Event, History, Transfer, completes, issued, unless}
 use Rattle.hba_laws.proofs.Door.{issued_before}
 use Rattle.disk_simulation.specs.Together.{IsHeard, is_sent, told}
 

@@ -1,24 +1,17 @@
 -- For `rested_drivers_watch`. The stage of slot 31 over each way: what may come at it, and the turn that follows.
-use Rattle.std.proofs.Common.{◌≡◌, Bool, true, List, [], ◌∷◌, ◌++◌, refl, sym, ap, subst, ◌∙◌, inl, inr, Option, Some, None}
-use Rattle.std.proofs.lemmas.Bool.{cases_Bool, false≢true, true≢false}
+use Rattle.std.proofs.{Common.{◌≡◌, Bool, true, List, [], ◌∷◌, ◌++◌, refl, sym, ap, subst, ◌∙◌, inl, inr, Option, Some, None}, lemmas.Bool.cases_Bool}
+use Rattle.std.proofs.lemmas.Bool.{false≢true, true≢false}
 use Rattle.fis_view.specs.Frames.{Stamped}
-use Rattle.multiplier.specs.Arbiter.{control_port}
-use Rattle.multiplier.specs.State.{pm_port}
+use Rattle.multiplier.specs.{Arbiter.control_port, State.pm_port}
 use Rattle.slots.specs.Slots.{own_issue}
-use Rattle.hba_fbs.specs.declared.report.TakeReport.{TakeReport}
-use Rattle.hba_fbs.specs.Taking.{port_of}
+use Rattle.hba_fbs.specs.{declared.report.TakeReport.TakeReport, Taking.port_of}
 use Rattle.hba_laws.specs.Parts.{DevicePart}
-use Rattle.hba_driver.specs.declared.order.Order.{Order}
-use Rattle.hba_driver.specs.declared.order.Order.TheVariants.{AwaitSignature, ResetOff, ResetOn}
-use Rattle.hba_driver.specs.Going.{IsOfControl}
-use Rattle.hba_driver.specs.HostTurns.{Does, Host, HostTurn, Polled, Pushed, Put, Submitted, Ticked, Took}
-use Rattle.hba_driver.specs.Slot31.{Asks, IsAt31, IsIn, IsNext31, IsNotice31, MayCome31, Resets, Signs, Stage31, TicksOn, Turns31, control_of, is_quiet, is_resetting}
+use Rattle.hba_driver.specs.{declared.order.Order.{Order, TheVariants.{AwaitSignature, ResetOff, ResetOn}}, Going.IsOfControl, HostTurns.{Does, Host}}
+use Rattle.hba_driver.specs.{HostTurns.{HostTurn, Polled, Pushed, Put, Submitted, Ticked, Took}, Slot31.{Asks, IsAt31, IsIn, IsNext31, IsNotice31}}
+use Rattle.hba_driver.specs.Slot31.{MayCome31, Resets, Signs, Stage31, TicksOn, Turns31, control_of, is_quiet, is_resetting}
 use Rattle.hba_driver.proofs.Door.{going_turn, turn31}
 use Rattle.pm_world.specs.Line.{AreNotices, AreResets, EndsIn, IsOwed, IsReset, NoneDown, NoneUp, OnLine, is_reply}
-use Rattle.world_rests.proofs.ControlFile.{IsCalm}
-use Rattle.world_rests.proofs.Orders.{Among}
-use Rattle.world_rests.proofs.Slot31.{none_there}
-use Rattle.world_rests.proofs.Ways.{IsGood, IsInside, Line}
+use Rattle.world_rests.proofs.{ControlFile.IsCalm, Orders.Among, Slot31.none_there, Ways.{IsGood, IsInside, Line}}
 
 -- ---- what may come
 

@@ -1,18 +1,9 @@
 -- For `rested_drivers_watch`. What holds over a run between driver and control port, put together at rest.
 use Rattle.std.proofs.Common.{List, refl}
-use Rattle.pm_world.specs.Attached.{Attached}
-use Rattle.pm_world.specs.Line.{OneOrderAtATime}
-use Rattle.pm_world.specs.Places.{new_world}
-use Rattle.pm_world.specs.PortsGoOn.{PortsGoOn}
-use Rattle.pm_world.specs.declared.step.Config.{Config}
-use Rattle.world_rests.specs.Laws.{RestedHaveDone}
-use Rattle.world_rests.specs.Watches.{RestedDriversWatch}
-use Rattle.world_rests.proofs.ControlFile.{IsCalm, keeps_calm}
-use Rattle.world_rests.proofs.Noticed.{waits_for_notice}
-use Rattle.world_rests.proofs.Orders.{none_asking}
-use Rattle.world_rests.proofs.Settled.{free_settled}
-use Rattle.world_rests.proofs.Signed.{IsSigned, keeps_signed, opens_signed}
-use Rattle.world_rests.proofs.Ways.{IsGood, Line, Way, good, kept_by, line_of}
+use Rattle.pm_world.specs.{Attached.Attached, Line.OneOrderAtATime, Places.new_world, PortsGoOn.PortsGoOn, declared.step.Config.Config}
+use Rattle.world_rests.specs.{Laws.RestedHaveDone, Watches.RestedDriversWatch}
+use Rattle.world_rests.proofs.{ControlFile.{IsCalm, keeps_calm}, Noticed.waits_for_notice, Orders.none_asking, Settled.free_settled, Signed.IsSigned}
+use Rattle.world_rests.proofs.{Signed.{keeps_signed, opens_signed}, Ways.{IsGood, Line, Way, good, kept_by, line_of}}
 
 -- what each way keeps
 record IsKept (l : Line) : Type 0 where

@@ -1,33 +1,20 @@
 -- For `rested_drivers_watch`. What each step does on the way between the driver and the control port of the multiplier.
 use Rattle.std.proofs.Common.{◌≡◌, ◌≤◌, ℕ, true, false, List, [], ◌∷◌, ◌++◌, length, refl, sym, ap, subst, ◌∙◌, Some, None, Ok}
 use Rattle.fis_view.specs.Frames.{Stamped}
-use Rattle.multiplier.specs.Between.{Gives}
-use Rattle.multiplier.specs.Rules.{FromHostRule}
-use Rattle.multiplier.specs.State.{PmState}
-use Rattle.multiplier.specs.declared.multiplier.Passed.{Passed}
+use Rattle.multiplier.specs.{Between.Gives, Rules.FromHostRule, State.PmState, declared.multiplier.Passed.Passed}
 use Rattle.multiplier.proofs.Door.{gives}
-use Rattle.hba_fbs.specs.declared.report.TakeReport.{TakeReport}
-use Rattle.hba_fbs.specs.Views.{view_of}
-use Rattle.hba_driver.specs.declared.mode.Mode.TheVariants.{Switching}
-use Rattle.hba_driver.specs.declared.request.Request.{Request as Wanted}
-use Rattle.hba_driver.specs.Between.{AreOfTheir, IsGoing}
-use Rattle.hba_driver.specs.Going.{IsOfControl}
-use Rattle.hba_driver.specs.HostTurns.{Does, Host, HostTurn, Polled, Pushed, Put, Submitted, Ticked, Took}
-use Rattle.hba_driver.specs.Slot31.{IsAt31, Stage31}
-use Rattle.pm_world.specs.Attached.{Attached}
-use Rattle.pm_world.specs.Line.{AreNotices, HasLine, OnLine, OneOrderAtATime}
-use Rattle.pm_world.specs.Places.{Place, Places, Queue, is_config, new_world, with_host}
-use Rattle.pm_world.specs.PortsGoOn.{PortGoesOn, PortsGoOn}
-use Rattle.pm_world.specs.Rules.{CameRule, DiskSendRule, DiskTakeRule, GoneRule, HostPushRule, HostTakeRule, InjectRule, OnDevice, OnDeviceAndMultiplier, Outcome, PmDownRule, PmFromDeviceRule, PmFromHostRule, PmPresenceRule, PmUpRule, PollRule, PutRule, Rule, Run, SubmitRule, TickRule, recorded}
-use Rattle.pm_world.specs.declared.link.Change.{Change}
-use Rattle.pm_world.specs.declared.step.Answer.{Answer}
+use Rattle.hba_fbs.specs.{declared.report.TakeReport.TakeReport, Views.view_of}
+use Rattle.hba_driver.specs.{declared.{mode.Mode.TheVariants.Switching, request.Request.Request as Wanted}, Between.{AreOfTheir, IsGoing}}
+use Rattle.hba_driver.specs.{Going.IsOfControl, HostTurns.{Does, Host, HostTurn, Polled, Pushed, Put, Submitted, Ticked, Took}, Slot31.IsAt31}
+use Rattle.hba_driver.specs.Slot31.{Stage31}
+use Rattle.pm_world.specs.{Attached.Attached, Line.{AreNotices, HasLine, OnLine, OneOrderAtATime}, Places.{Place, Places, Queue, is_config}}
+use Rattle.pm_world.specs.{Places.{new_world, with_host}, PortsGoOn.{PortGoesOn, PortsGoOn}, Rules.{CameRule, DiskSendRule, DiskTakeRule, GoneRule}}
+use Rattle.pm_world.specs.Rules.{HostPushRule, HostTakeRule, InjectRule, OnDevice, OnDeviceAndMultiplier, Outcome, PmDownRule, PmFromDeviceRule}
+use Rattle.pm_world.specs.Rules.{PmFromHostRule, PmPresenceRule, PmUpRule, PollRule, PutRule, Rule, Run, SubmitRule, TickRule, recorded}
+use Rattle.pm_world.specs.declared.{link.Change.Change, step.{Answer.Answer, Config.Config, Step.Step}}
 use Rattle.pm_world.specs.declared.step.Answer.TheVariants as answer
-use Rattle.pm_world.specs.declared.step.Config.{Config}
-use Rattle.pm_world.specs.declared.step.Step.{Step}
 use Rattle.pm_world.specs.declared.step.Step.TheVariants as step
-use Rattle.world_rests.proofs.Parts.{AtBoth, AtDevice, at_both, at_device, run_more}
-use Rattle.world_rests.proofs.Orders.{IsOwed, IsOwing, owing_in}
-use Rattle.world_rests.proofs.Slot31.{IsAsking}
+use Rattle.world_rests.proofs.{Parts.{AtBoth, AtDevice, at_both, at_device, run_more}, Orders.{IsOwed, IsOwing, owing_in}, Slot31.IsAsking}
 use Rattle.world_rests.proofs.Well.{well_in}
 
 -- the host, the multiplier, and the frames between them, on their way down and up

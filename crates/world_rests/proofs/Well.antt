@@ -1,41 +1,29 @@
 -- For `rested_have_done`. What holds of every world that a run from a new one leads to: each link has room for a frame, the
 -- multiplier has as many ports as there are devices, and the host is sound.
-use Rattle.std.proofs.Common.{◌≡◌, ℕ, zero, suc, ◌<◌, ◌≤◌, ◌==◌, Bool, true, false, List, [], ◌∷◌, length, map, Option, Some, None, refl, sym, ap, subst, ◌∙◌, arith, rules}
+use Rattle.std.proofs.Common.{◌≡◌, ℕ, zero, suc, ◌<◌, ◌≤◌, ◌==◌, Bool, true, false, List, [], ◌∷◌, length, map, Option, Some, None, refl, sym, ap}
+use Rattle.std.proofs.{Common.{subst, ◌∙◌, arith, rules}, lemmas.{Bool.{eqb-true, leb-true}, Option.same_Some, List.{length-set, length-map}}}
 use Rattle.std.specs.Prelude.{slice_get, is_none, is_some, nat_le, if◌then◌else◌, Ok, MatchOption, MatchBool, ◌&&◌, ◌%◌, bit_and}
-use Rattle.std.proofs.lemmas.Bool.{eqb-true, leb-true}
-use Rattle.std.proofs.lemmas.Option.{same_Some}
-use Rattle.std.proofs.lemmas.List.{length-set, length-map}
 use Rattle.fis_view.specs.Frames.{Stamped}
 use Rattle.host_memory.specs.Memory.{is_memory_size, zeroed}
 use Rattle.pm_registers.specs.RegisterMap.{RegisterMap, control_written, port_at as registers_at, register_at, settled, summary, with_port, written}
 use Rattle.pm_registers.specs.Port.{port_written}
-use Rattle.pm_control.specs.Answers.{registers_after_request}
-use Rattle.pm_control.specs.Requests.{request_in}
-use Rattle.pm_control.specs.declared.request.Request.{Request}
-use Rattle.pm_control.specs.declared.request.Request.TheVariants.{Write}
+use Rattle.pm_control.specs.{Answers.registers_after_request, Requests.request_in, declared.request.Request.{Request, TheVariants.Write}}
 use Rattle.pm_ports.specs.Port.{came_refusal as port_came_refusal, gone_refusal as port_gone_refusal}
-use Rattle.multiplier.specs.Arbiter.{control_port}
-use Rattle.multiplier.specs.Between.{Answer as Answers, FromPort, Gives, Notice}
-use Rattle.multiplier.specs.State.{PmState, next_place, passes_to, pm_port, port_at, ready}
-use Rattle.multiplier.specs.Rules.{FromHostRule, ToControl, ToDevice, ToNobody, ToPort, with_device as connected, without_device}
-use Rattle.multiplier.specs.declared.multiplier.Passed.{Passed}
+use Rattle.multiplier.specs.{Arbiter.control_port, Between.{Answer as Answers, FromPort, Gives, Notice}, State.{PmState, next_place, passes_to}}
+use Rattle.multiplier.specs.{State.{pm_port, port_at, ready}, Rules.{FromHostRule, ToControl, ToDevice, ToNobody, ToPort, with_device as connected}}
+use Rattle.multiplier.specs.{Rules.without_device, declared.multiplier.Passed.Passed}
 use Rattle.multiplier.specs.declared.multiplier.Passed.TheVariants as passed
 use Rattle.multiplier.proofs.Door.{gives, served_below}
-use Rattle.hba_driver.specs.declared.mode.Mode.{Mode}
-use Rattle.hba_driver.specs.Events.{IsSoundHostIn}
-use Rattle.hba_driver.specs.HostTurns.{Does, Host, HostTurn, Polled, Pushed, Put, Submitted, Ticked, Took}
-use Rattle.hba_driver.specs.declared.request.Request.{Request as Asked}
+use Rattle.hba_driver.specs.{declared.mode.Mode.Mode, Events.IsSoundHostIn, HostTurns.{Does, Host, HostTurn, Polled, Pushed, Put, Submitted, Ticked}}
+use Rattle.hba_driver.specs.{HostTurns.Took, declared.request.Request.Request as Asked}
 use Rattle.hba_driver.proofs.Door.{hosts_stay_sound, sound_turn, zeroed_right}
-use Rattle.pm_world.specs.Attached.{Attached}
-use Rattle.pm_world.specs.Places.{Place, Places, Queue, is_config, new_world_in, opening, with_device, with_downward, with_host, with_multiplier, with_upward}
-use Rattle.pm_world.specs.Rules.{CameActs, CameRule, DiskSendActs, DiskSendRule, DiskTakeActs, DiskTakeRule, GoneActs, GoneRule, HostPushRule, HostTakeRule, InjectActs, InjectRule, OnDevice, OnDeviceAndMultiplier, Outcome, PmDownRule, PmFromDeviceRule, PmFromHostRule, PmPresenceRule, PmUpRule, PollRule, PutRule, Rule, Run, SubmitRule, TickRule, recorded}
-use Rattle.pm_world.specs.Runs.{IsReached}
-use Rattle.pm_world.specs.declared.link.Change.{Change}
+use Rattle.pm_world.specs.{Attached.Attached, Places.{Place, Places, Queue, is_config, new_world_in, opening, with_device, with_downward, with_host}}
+use Rattle.pm_world.specs.{Places.{with_multiplier, with_upward}, Rules.{CameActs, CameRule, DiskSendActs, DiskSendRule, DiskTakeActs, DiskTakeRule}}
+use Rattle.pm_world.specs.Rules.{GoneActs, GoneRule, HostPushRule, HostTakeRule, InjectActs, InjectRule, OnDevice, OnDeviceAndMultiplier, Outcome}
+use Rattle.pm_world.specs.Rules.{PmDownRule, PmFromDeviceRule, PmFromHostRule, PmPresenceRule, PmUpRule, PollRule, PutRule, Rule, Run, SubmitRule}
+use Rattle.pm_world.specs.{Rules.{TickRule, recorded}, Runs.IsReached, declared.{link.Change.Change, step.{Config.Config, Step.Step, Answer.Answer}}}
 use Rattle.pm_world.specs.declared.link.Change.TheVariants as change
-use Rattle.pm_world.specs.declared.step.Config.{Config}
-use Rattle.pm_world.specs.declared.step.Step.{Step}
 use Rattle.pm_world.specs.declared.step.Step.TheVariants as step
-use Rattle.pm_world.specs.declared.step.Answer.{Answer}
 use Rattle.pm_world.specs.declared.step.Answer.TheVariants as answer
 use Rattle.world_rests.proofs.Parts.{AtBoth, AtDevice, at_both, at_device, set_keeps}
 

@@ -1,15 +1,9 @@
 -- What became of a request that the driver set aside: its device recovers (AHCI 1.3.1, 6.2.2, error recovery; ACS-3, READ LOG EXT; Serial
 -- ATA 3.x, software reset).
 use Rattle.std.specs.Prelude.{ℕ, ◌≡◌, ◌<◌, true, List, length, Some}
-use Rattle.hba_driver.specs.declared.plan.Device.{Device}
-use Rattle.hba_driver.specs.declared.plan.Device.TheVariants.{Absent, Ready, Recovering, Starting, Unusable}
-use Rattle.hba_driver.specs.Drivers.{Entry, device_at, entry_at, has_ended, is_aside}
-use Rattle.hba_driver.specs.HostTurns.{Host}
-use Rattle.pm_world.specs.Attached.{Attached}
-use Rattle.pm_world.specs.Places.{Places, is_config, new_world}
-use Rattle.pm_world.specs.Rules.{Run}
-use Rattle.pm_world.specs.declared.step.Answer.{Answer}
-use Rattle.pm_world.specs.declared.step.Config.{Config}
+use Rattle.hba_driver.specs.{declared.plan.Device.{Device, TheVariants.{Absent, Ready, Recovering, Starting, Unusable}}, Drivers.{Entry, device_at}}
+use Rattle.hba_driver.specs.{Drivers.{entry_at, has_ended, is_aside}, HostTurns.Host}
+use Rattle.pm_world.specs.{Attached.Attached, Places.{Places, is_config, new_world}, Rules.Run, declared.step.{Answer.Answer, Config.Config}}
 use Rattle.pm_world.specs.declared.step.Step.{Step}
 
 -- the device recovers, or a search found none at its port, which is to be cleared again

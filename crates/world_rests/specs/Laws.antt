@@ -1,18 +1,9 @@
 -- The laws of a world at rest. A new world has FIS-based switching here. Nothing is asked of the devices.
-use Rattle.std.specs.Prelude.{ℕ, ◌≡◌, Bool, false, true, List, length}
-use Rattle.std.specs.List.{list_all}
-use Rattle.hba_driver.specs.declared.mode.Mode.TheVariants.{Switching}
-use Rattle.hba_driver.specs.HostTurns.{Host, sight_in}
-use Rattle.hba_driver.specs.Ticks.{acts}
-use Rattle.pm_world.specs.Attached.{Attached}
-use Rattle.pm_world.specs.Places.{Places, is_config, new_world}
-use Rattle.pm_world.specs.Rules.{Run, Stops}
-use Rattle.pm_world.specs.declared.step.Answer.{Answer}
-use Rattle.pm_world.specs.declared.step.Config.{Config}
-use Rattle.pm_world.specs.declared.step.Step.{Step}
-use Rattle.pm_world.specs.declared.step.StepError.{StepError}
-use Rattle.world_rests.specs.Rests.{HasRound, IsAtRest, NothingMoves, is_still}
-use Rattle.world_rests.specs.Waits.{DriverWaits, HostWaits}
+use Rattle.std.specs.{Prelude.{ℕ, ◌≡◌, Bool, false, true, List, length}, List.list_all}
+use Rattle.hba_driver.specs.{declared.mode.Mode.TheVariants.Switching, HostTurns.{Host, sight_in}, Ticks.acts}
+use Rattle.pm_world.specs.{Attached.Attached, Places.{Places, is_config, new_world}, Rules.{Run, Stops}, declared.step.{Answer.Answer, Config.Config}}
+use Rattle.pm_world.specs.declared.step.{Step.Step, StepError.StepError}
+use Rattle.world_rests.specs.{Rests.{HasRound, IsAtRest, NothingMoves, is_still}, Waits.{DriverWaits, HostWaits}}
 
 -- a driver with FIS-based switching that has nothing to do waits
 abbrev pub IdleDriversWait : Type 0

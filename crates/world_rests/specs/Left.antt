@@ -3,22 +3,12 @@
 --
 -- Cited: a disk that was left alone since its plugging, and its run (`pm_world`, specs/Disks.antt).
 use Rattle.std.specs.Prelude.{ℕ, ◌≡◌, ◌<◌, ◌⊎◌, ◌||◌, true, false, List, length, Some}
-use Rattle.slots.specs.Slots.{Issue, issue_at}
-use Rattle.slots.specs.Work.{is_queued}
-use Rattle.hba_fbs.specs.Status.{is_busy, wants_data}
-use Rattle.hba_fbs.specs.Views.{Port, state_at}
-use Rattle.disk_model.specs.declared.plan.DiskPlan.{DiskPlan}
-use Rattle.disk_model.specs.Histories.{Happening}
-use Rattle.hba_driver.specs.declared.plan.Device.TheVariants.{Ready}
-use Rattle.hba_driver.specs.Drivers.{Entry, device_at, entry_at, is_issued, waits}
-use Rattle.hba_driver.specs.HostTurns.{Host}
-use Rattle.hba_driver.specs.Steady.{IsFine}
-use Rattle.hba_driver.specs.Orders.{is_queued as is_queued_work}
-use Rattle.pm_world.specs.Attached.{Attached}
-use Rattle.pm_world.specs.Disks.{DiskRun, HasDisk}
-use Rattle.pm_world.specs.PathEnds.{IsThere}
-use Rattle.pm_world.specs.Places.{Places, is_config}
-use Rattle.pm_world.specs.declared.step.Config.{Config}
+use Rattle.slots.specs.{Slots.{Issue, issue_at}, Work.is_queued}
+use Rattle.hba_fbs.specs.{Status.{is_busy, wants_data}, Views.{Port, state_at}}
+use Rattle.disk_model.specs.{declared.plan.DiskPlan.DiskPlan, Histories.Happening}
+use Rattle.hba_driver.specs.{declared.plan.Device.TheVariants.Ready, Drivers.{Entry, device_at, entry_at, is_issued, waits}, HostTurns.Host}
+use Rattle.hba_driver.specs.{Steady.IsFine, Orders.is_queued as is_queued_work}
+use Rattle.pm_world.specs.{Attached.Attached, Disks.{DiskRun, HasDisk}, PathEnds.IsThere, Places.{Places, is_config}, declared.step.Config.Config}
 use Rattle.world_rests.specs.Rests.{IsAtRest}
 
 -- no read or write is with the device: what is issued for it and is a queued command did not go out

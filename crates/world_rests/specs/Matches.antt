@@ -1,14 +1,8 @@
 -- What the driver takes each device to be, against what is plugged in, in a world at rest (Serial ATA 3.x, 16.3, port multiplier: presence
 -- of a device on a port; 16.4.2, SStatus and SError of a port).
 use Rattle.std.specs.Prelude.{ℕ, ◌≡◌, ◌≢◌, ◌<◌, false, true, IsTrue, List, length, slice_get, Some}
-use Rattle.hba_driver.specs.declared.path.Path.{Path}
-use Rattle.hba_driver.specs.declared.plan.Device.TheVariants.{Absent}
-use Rattle.hba_driver.specs.Drivers.{Entry, device_at, entry_at, has_ended}
-use Rattle.pm_world.specs.Attached.{Attached}
-use Rattle.pm_world.specs.Places.{Place, Places, is_config, new_world}
-use Rattle.pm_world.specs.Rules.{Run}
-use Rattle.pm_world.specs.declared.step.Answer.{Answer}
-use Rattle.pm_world.specs.declared.step.Config.{Config}
+use Rattle.hba_driver.specs.{declared.{path.Path.Path, plan.Device.TheVariants.Absent}, Drivers.{Entry, device_at, entry_at, has_ended}}
+use Rattle.pm_world.specs.{Attached.Attached, Places.{Place, Places, is_config, new_world}, Rules.Run, declared.step.{Answer.Answer, Config.Config}}
 use Rattle.pm_world.specs.declared.step.Step.{Step}
 use Rattle.world_rests.specs.Rests.{IsAtRest}
 

@@ -1,14 +1,9 @@
 -- What the driver has set in the multiplier, in a world at rest (Serial ATA 3.x, 16.3, port multiplier: enabling of the device ports,
 -- asynchronous notification; 16.4.1, GSCR[2], GSCR[33] and GSCR[96]; 16.4.2, SStatus, SError and SControl of a port).
 use Rattle.std.specs.Prelude.{ℕ, ◌≡◌, ◌<◌, true, false, IsTrue, List, length, bit_and, slice_get, Some}
-use Rattle.pm_registers.specs.Port.{bit_n, bit_x, det, is_open}
-use Rattle.pm_registers.specs.RegisterMap.{RegisterMap, asks, forwards, notifies, port_at}
+use Rattle.pm_registers.specs.{Port.{bit_n, bit_x, det, is_open}, RegisterMap.{RegisterMap, asks, forwards, notifies, port_at}}
 use Rattle.hba_driver.specs.Orders.{changes}
-use Rattle.pm_world.specs.Attached.{Attached}
-use Rattle.pm_world.specs.Places.{Place, Places, is_config, new_world}
-use Rattle.pm_world.specs.Rules.{Run}
-use Rattle.pm_world.specs.declared.step.Answer.{Answer}
-use Rattle.pm_world.specs.declared.step.Config.{Config}
+use Rattle.pm_world.specs.{Attached.Attached, Places.{Place, Places, is_config, new_world}, Rules.Run, declared.step.{Answer.Answer, Config.Config}}
 use Rattle.pm_world.specs.declared.step.Step.{Step}
 use Rattle.world_rests.specs.Rests.{IsAtRest}
 

@@ -6,23 +6,11 @@
 use Rattle.std.specs.Prelude.{ℕ, ◌≡◌, ◌≢◌, ◌<◌, ◌||◌, true, false, List, length, Some}
 use Rattle.slots.specs.Slots.{Issue, issue_at}
 use Rattle.hba_fbs.specs.Views.{Port}
-use Rattle.disk_model.specs.declared.plan.DiskPlan.{DiskPlan}
-use Rattle.disk_model.specs.Histories.{Happening}
-use Rattle.hba_driver.specs.declared.path.Path.{Path}
-use Rattle.hba_driver.specs.declared.path.Recovery.{Recovery}
-use Rattle.hba_driver.specs.declared.plan.Device.TheVariants.{Recovering}
-use Rattle.hba_driver.specs.declared.plan.Plan.{Plan}
-use Rattle.hba_driver.specs.Drivers.{Entry, device_at, entry_at, is_issued, waits}
-use Rattle.hba_driver.specs.HostTurns.{Host}
-use Rattle.hba_driver.specs.Tended.{IsUnworked}
-use Rattle.pm_world.specs.Attached.{Attached}
-use Rattle.pm_world.specs.Disks.{DiskRun, HasDisk}
-use Rattle.pm_world.specs.PathEnds.{IsThere}
-use Rattle.pm_world.specs.Places.{Places, is_config}
-use Rattle.pm_world.specs.declared.step.Config.{Config}
-use Rattle.world_rests.specs.Ended.{EachHasEnded, IsKnown}
-use Rattle.world_rests.specs.Left.{IsOccupied}
-use Rattle.world_rests.specs.Rests.{IsAtRest}
+use Rattle.disk_model.specs.{declared.plan.DiskPlan.DiskPlan, Histories.Happening}
+use Rattle.hba_driver.specs.{declared.{path.{Path.Path, Recovery.Recovery}, plan.{Device.TheVariants.Recovering, Plan.Plan}}, Drivers.Entry}
+use Rattle.hba_driver.specs.{Drivers.{device_at, entry_at, is_issued, waits}, HostTurns.Host, Tended.IsUnworked}
+use Rattle.pm_world.specs.{Attached.Attached, Disks.{DiskRun, HasDisk}, PathEnds.IsThere, Places.{Places, is_config}, declared.step.Config.Config}
+use Rattle.world_rests.specs.{Ended.{EachHasEnded, IsKnown}, Left.IsOccupied, Rests.IsAtRest}
 
 -- no command is with the device: what is issued for it did not go out
 abbrev pub NothingIsOut : ℕ → Port → Type 0

@@ -2,21 +2,11 @@
 --
 -- Cited: a disk that was left alone since its plugging (`pm_world`, specs/Disks.antt), and what is plugged in (specs/Matches.antt).
 use Rattle.std.specs.Prelude.{ℕ, ◌≡◌, ◌<◌, true, List, length, None, Some}
-use Rattle.disk_model.specs.declared.plan.DiskPlan.{DiskPlan}
-use Rattle.disk_model.specs.Histories.{Happening}
-use Rattle.hba_driver.specs.declared.plan.Device.{Device}
-use Rattle.hba_driver.specs.declared.plan.Device.TheVariants.{Absent, Ready, Unusable}
-use Rattle.hba_driver.specs.Drivers.{Entry, device_at, entry_at, has_ended}
-use Rattle.pm_world.specs.Attached.{Attached}
-use Rattle.pm_world.specs.Disks.{DiskRun, HasDisk}
-use Rattle.pm_world.specs.PathEnds.{IsThere}
-use Rattle.pm_world.specs.Places.{Places, is_config, new_world}
-use Rattle.pm_world.specs.Rules.{Run}
-use Rattle.pm_world.specs.declared.step.Answer.{Answer}
-use Rattle.pm_world.specs.declared.step.Config.{Config}
-use Rattle.pm_world.specs.declared.step.Step.{Step}
-use Rattle.world_rests.specs.Matches.{IsPlugged}
-use Rattle.world_rests.specs.Rests.{IsAtRest}
+use Rattle.disk_model.specs.{declared.plan.DiskPlan.DiskPlan, Histories.Happening}
+use Rattle.hba_driver.specs.{declared.plan.Device.{Device, TheVariants.{Absent, Ready, Unusable}}, Drivers.{Entry, device_at, entry_at, has_ended}}
+use Rattle.pm_world.specs.{Attached.Attached, Disks.{DiskRun, HasDisk}, PathEnds.IsThere, Places.{Places, is_config, new_world}, Rules.Run}
+use Rattle.pm_world.specs.declared.step.{Answer.Answer, Config.Config, Step.Step}
+use Rattle.world_rests.specs.{Matches.IsPlugged, Rests.IsAtRest}
 
 -- a disk that is plugged in, and was left alone since then
 pub record IsLeftAlone (config : Config) (units : List Attached) (n : ℕ) (now : Places) : Type 0 where

@@ -1,20 +1,12 @@
 -- When a world is at rest, and where frames stand in it then (Serial ATA 3.x, 16.3, port multiplier: frame
 -- transmission, presence of a device on a port; AHCI 1.3.1, 5.3, the port's states).
-use Rattle.std.specs.Prelude.{ℕ, ◌≡◌, ◌<◌, ◌⊎◌, Bool, IsTrue, true, false, List, [], length, None, Some, Ok}
-use Rattle.std.specs.Prelude.{slice_get}
+use Rattle.std.specs.Prelude.{ℕ, ◌≡◌, ◌<◌, ◌⊎◌, Bool, IsTrue, true, false, List, [], length, None, Some, Ok, slice_get}
 use Rattle.pm_registers.specs.RegisterMap.{forwards}
 use Rattle.multiplier.specs.State.{PmState, held, port_at}
-use Rattle.disk_model.specs.declared.unit.Unit.TheVariants.{Disk}
-use Rattle.disk_model.specs.Histories.{Happening}
-use Rattle.disk_model.specs.Laws.{OwesNothing}
-use Rattle.disk_model.specs.Ledger.{IsSize, ledger}
-use Rattle.disk_model.specs.Runs.{DiskStandsFor}
-use Rattle.pm_world.specs.Attached.{Attached, IsSilentAttached, Modelled}
-use Rattle.pm_world.specs.Places.{IsFull, Place, Places}
-use Rattle.pm_world.specs.Rules.{Rule}
-use Rattle.pm_world.specs.declared.step.Answer.{Answer}
-use Rattle.pm_world.specs.declared.step.Answer.TheVariants as answer
+use Rattle.disk_model.specs.{declared.unit.Unit.TheVariants.Disk, Histories.Happening, Laws.OwesNothing, Ledger.{IsSize, ledger}, Runs.DiskStandsFor}
+use Rattle.pm_world.specs.{Attached.{Attached, IsSilentAttached, Modelled}, Places.{IsFull, Place, Places}, Rules.Rule, declared.step.Answer.Answer}
 use Rattle.pm_world.specs.declared.step.Step.{Step}
+use Rattle.pm_world.specs.declared.step.Answer.TheVariants as answer
 use Rattle.pm_world.specs.declared.step.Step.TheVariants as step
 
 -- ---- a round

@@ -2,14 +2,8 @@
 -- FISes, and chapter 9, FIS-based Switching; ACS-3, 6.2, Status field; Serial ATA 3.x, 13.6, native command queuing).
 use Rattle.std.specs.Prelude.{ℕ, ◌≡◌, ◌<◌, ◌⊎◌, true, false, Some, None}
 use Rattle.port_errors.specs.Errors.{cause_of}
-use Rattle.slots.specs.Commands.{has_outstanding}
-use Rattle.slots.specs.Data.{payload}
-use Rattle.slots.specs.Slots.{Issue, context_of, is_control, issue_at, slots_of, waiting}
-use Rattle.slots.specs.Work.{is_dma}
-use Rattle.hba_fbs.specs.Sending.{MayRest}
-use Rattle.hba_fbs.specs.Status.{is_busy, wants_data}
-use Rattle.hba_fbs.specs.Taking.{is_running}
-use Rattle.hba_fbs.specs.Views.{Port, state_at}
+use Rattle.slots.specs.{Commands.has_outstanding, Data.payload, Slots.{Issue, context_of, is_control, issue_at, slots_of, waiting}, Work.is_dma}
+use Rattle.hba_fbs.specs.{Sending.MayRest, Status.{is_busy, wants_data}, Taking.is_running, Views.{Port, state_at}}
 
 -- What holds back a command: its device is in software reset, or shows BSY or DRQ; the device has yet to answer the command in
 -- another slot; or the device has queued commands, beside which a command without a setup does not begin.

@@ -4,16 +4,9 @@
 -- Cited: a disk that was left alone since its plugging (`pm_world`, specs/Disks.antt), and what is due for a device by slot 30
 -- (specs/Waits.antt).
 use Rattle.std.specs.Prelude.{ℕ, ◌≡◌, ◌≢◌, ◌<◌, true, false, List, length, slice_index_or, None}
-use Rattle.disk_model.specs.declared.plan.DiskPlan.{DiskPlan}
-use Rattle.disk_model.specs.Histories.{Happening}
-use Rattle.hba_driver.specs.declared.plan.Device.TheVariants.{Starting}
-use Rattle.hba_driver.specs.Drivers.{device_at}
-use Rattle.hba_driver.specs.HostTurns.{Host, sight_in}
-use Rattle.pm_world.specs.Attached.{Attached}
-use Rattle.pm_world.specs.Disks.{DiskRun, HasDisk}
-use Rattle.pm_world.specs.PathEnds.{IsThere}
-use Rattle.pm_world.specs.Places.{Places, is_config}
-use Rattle.pm_world.specs.declared.step.Config.{Config}
+use Rattle.disk_model.specs.{declared.plan.DiskPlan.DiskPlan, Histories.Happening}
+use Rattle.hba_driver.specs.{declared.plan.Device.TheVariants.Starting, Drivers.device_at, HostTurns.{Host, sight_in}}
+use Rattle.pm_world.specs.{Attached.Attached, Disks.{DiskRun, HasDisk}, PathEnds.IsThere, Places.{Places, is_config}, declared.step.Config.Config}
 use Rattle.world_rests.specs.Rests.{IsAtRest}
 
 -- While the driver takes the disk to start, its signature stands in its row of the received area. So slot 30 is not free then: it

@@ -1,16 +1,9 @@
 -- How long a frame waits on its way up (Serial ATA 3.x, 16.3, port multiplier: frame transmission; the policy for frames to the
 -- host must be fair). What is counted are frames, not time.
-use Rattle.std.specs.Prelude.{ℕ, ◌≡◌, ◌+◌, ◌*◌, ◌≤◌, ◌==◌, true, List, [], ◌∷◌, length, map, filter}
-use Rattle.std.specs.List.{flat_map}
-use Rattle.multiplier.specs.Arbiter.{control_port}
-use Rattle.multiplier.specs.State.{ready}
-use Rattle.pm_world.specs.Links.{rose_by}
-use Rattle.pm_world.specs.Places.{Places}
-use Rattle.pm_world.specs.Rules.{Run}
-use Rattle.pm_world.specs.Runs.{AtEach, IsReached}
-use Rattle.pm_world.specs.declared.step.Answer.{Answer}
+use Rattle.std.specs.{Prelude.{ℕ, ◌≡◌, ◌+◌, ◌*◌, ◌≤◌, ◌==◌, true, List, [], ◌∷◌, length, map, filter}, List.flat_map}
+use Rattle.multiplier.specs.{Arbiter.control_port, State.ready}
+use Rattle.pm_world.specs.{Links.rose_by, Places.Places, Rules.Run, Runs.{AtEach, IsReached}, declared.step.{Answer.Answer, Step.Step}}
 use Rattle.pm_world.specs.declared.step.Answer.TheVariants as answer
-use Rattle.pm_world.specs.declared.step.Step.{Step}
 
 -- the port of the frame that the host took, if it took one
 abbrev pub took_from : Answer → List ℕ

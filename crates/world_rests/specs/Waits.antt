@@ -3,16 +3,9 @@
 -- command that is issued, for the end of a software reset, for a notification or a signature, or for a client.
 use Rattle.std.specs.Prelude.{ℕ, ◌≡◌, ◌≢◌, ◌<◌, ◌≤◌, Bool, true, false, List, Option, Some, None, slice_index_or}
 use Rattle.slots.specs.Slots.{has_bit}
-use Rattle.hba_driver.specs.declared.order.Order.TheVariants.{AwaitSignature, Watch}
-use Rattle.hba_driver.specs.declared.path.Path.{Path}
-use Rattle.hba_driver.specs.declared.path.Stage.TheVariants.{AwaitReset}
-use Rattle.hba_driver.specs.declared.plan.Device.{Device}
-use Rattle.hba_driver.specs.declared.plan.Device.TheVariants.{Ready, Recovering, Starting}
-use Rattle.hba_driver.specs.declared.plan.Plan.{Plan}
-use Rattle.hba_driver.specs.Drivers.{Driver, Entry, device_at, entry_at, is_issued, waits}
-use Rattle.hba_driver.specs.HostTurns.{Host, sight_in}
-use Rattle.hba_driver.specs.Seeing.{Sight}
-use Rattle.hba_driver.specs.Turns.{is_in_reset}
+use Rattle.hba_driver.specs.declared.{order.Order.TheVariants.{AwaitSignature, Watch}, path.{Path.Path, Stage.TheVariants.AwaitReset}}
+use Rattle.hba_driver.specs.{declared.plan.{Device.{Device, TheVariants.{Ready, Recovering, Starting}}, Plan.Plan}, Drivers.{Driver, Entry}}
+use Rattle.hba_driver.specs.{Drivers.{device_at, entry_at, is_issued, waits}, HostTurns.{Host, sight_in}, Seeing.Sight, Turns.is_in_reset}
 use Rattle.world_rests.specs.Sent.{ControlHasAnswered, PortWaits}
 
 -- ---- slot 31

@@ -1,15 +1,8 @@
 -- What a driver watches that has nothing to do, in a world at rest (Serial ATA 3.x, 16.2 and 16.3, port multiplier: commands to the
 -- control port, software reset of it, asynchronous notification; 16.4.2, SStatus, SError and SControl of a port).
 use Rattle.std.specs.Prelude.{◌≡◌, true, false, List, length}
-use Rattle.hba_driver.specs.declared.order.Order.TheVariants.{Watch}
-use Rattle.hba_driver.specs.declared.plan.Plan.{Plan}
-use Rattle.hba_driver.specs.HostTurns.{sight_in}
-use Rattle.hba_driver.specs.Seeing.{Sight}
-use Rattle.pm_world.specs.Attached.{Attached}
-use Rattle.pm_world.specs.Places.{Places, is_config, new_world}
-use Rattle.pm_world.specs.Rules.{Run}
-use Rattle.pm_world.specs.declared.step.Answer.{Answer}
-use Rattle.pm_world.specs.declared.step.Config.{Config}
+use Rattle.hba_driver.specs.{declared.{order.Order.TheVariants.Watch, plan.Plan.Plan}, HostTurns.sight_in, Seeing.Sight}
+use Rattle.pm_world.specs.{Attached.Attached, Places.{Places, is_config, new_world}, Rules.Run, declared.step.{Answer.Answer, Config.Config}}
 use Rattle.pm_world.specs.declared.step.Step.{Step}
 use Rattle.world_rests.specs.Rests.{IsAtRest}
 

@@ -1,10 +1,8 @@
 -- Bits of masks of slots.
-use Rattle.std.proofs.Common.{◌≡◌, ◌≢◌, ℕ, zero, suc, ◌-◌, ◌+◌, ◌*◌, ◌<◌, ◌≤◌, ◌^◌, min, max, Bool, true, false, refl, sym, ap, subst, ◌∙◌, inl, inr, arith, w32, bit_or}
-use Rattle.std.specs.Prelude.{◌==◌}
-use Rattle.std.specs.Int.{bit_at}
-use Rattle.std.proofs.lemmas.Bool.{cases_Bool, cases_eq, eq-eqb, eqb-true, true≢false, false≢true}
-use Rattle.std.proofs.lemmas.Nat.{pow_below}
+use Rattle.std.proofs.Common.{◌≡◌, ◌≢◌, ℕ, zero, suc, ◌-◌, ◌+◌, ◌*◌, ◌<◌, ◌≤◌, ◌^◌, min, max, Bool, true, false, refl, sym, ap, subst, ◌∙◌, inl, inr}
+use Rattle.std.proofs.{Common.{arith, w32, bit_or}, lemmas.{Bool.{cases_Bool, cases_eq, eq-eqb, eqb-true, true≢false, false≢true}, Nat.pow_below}}
 use Rattle.std.proofs.lemmas.Nat.Bits.{bit_at-lt, bit_at-pow_other, bit_at-pow_same, bit_at-zero, bit_at_and, bit_at_not, bit_at_or}
+use Rattle.std.specs.{Prelude.{◌==◌}, Int.bit_at}
 use Rattle.slots.specs.Slots.{has_bit}
 use Rattle.hba_fbs.specs.Bits.{without}
 

@@ -1,39 +1,24 @@
 -- The rules of a controller stay true over each call.
-use Rattle.std.proofs.Common.{◌≡◌, ◌≢◌, ℕ, ◌<◌, ◌≤◌, ◌^◌, ◌&&◌, Bool, true, false, List, get_or, set, length, map, replicate, refl, sym, ap, subst, ◌∙◌, inl, inr, Option, Some, None, arith, get_or-set_same, get_or-set_other}
-use Rattle.std.specs.Prelude.{IfSome, MatchOption, is_some, nat_lt, ◌==◌, if◌then◌else◌}
-use Rattle.std.specs.List.{range_with_len}
-use Rattle.std.specs.Option.{option_map, option_or}
-use Rattle.std.proofs.lemmas.Bool.{and_parts, cases_Bool, cases_eq, cases_lt, false≢true, ltb-true, true≢false}
-use Rattle.std.proofs.lemmas.List.{get_or_past}
-use Rattle.std.proofs.lemmas.List.FromFn.{get_or-map-range_with_len, length-map-range_with_len}
-use Rattle.slots.specs.Slots.{DeviceSlots, Issue, KeepsFree, Slots, has_bit, issue_at, mask_of, match_some, own_issue, slots_of}
-use Rattle.slots.specs.Table.{IsTable}
+use Rattle.std.proofs.Common.{◌≡◌, ◌≢◌, ℕ, ◌<◌, ◌≤◌, ◌^◌, ◌&&◌, Bool, true, false, List, get_or, set, length, map, replicate, refl, sym, ap, subst}
+use Rattle.std.proofs.{Common.{◌∙◌, inl, inr, Option, Some, None, arith, get_or-set_same, get_or-set_other}, lemmas.Bool.{and_parts, cases_Bool}}
+use Rattle.std.proofs.lemmas.{Bool.{cases_eq, cases_lt, false≢true, ltb-true, true≢false}, List.{get_or_past, FromFn.{get_or-map-range_with_len}}}
+use Rattle.std.proofs.lemmas.List.FromFn.{length-map-range_with_len}
+use Rattle.std.specs.{Prelude.{IfSome, MatchOption, is_some, nat_lt, ◌==◌, if◌then◌else◌}, List.range_with_len, Option.{option_map, option_or}}
+use Rattle.slots.specs.{Slots.{DeviceSlots, Issue, KeepsFree, Slots, has_bit, issue_at, mask_of, match_some, own_issue, slots_of}, Table.IsTable}
 use Rattle.slots.proofs.Door.{has_bit_mask, mask_fits}
-use Rattle.guest_fetch.specs.Commands.{Fetched}
-use Rattle.guest_fetch.specs.Fetch.{Fetching}
-use Rattle.guest_fetch.specs.declared.fetch.Supplied.{Supplied}
+use Rattle.guest_fetch.specs.{Commands.Fetched, Fetch.Fetching, declared.fetch.Supplied.Supplied}
 use Rattle.guest_fetch.specs.declared.fetch.Supplied.TheVariants as supplied
 use Rattle.hba_commands.specs.declared.command.Command.{Command}
-use Rattle.hba_fbs.specs.Bits.{without}
-use Rattle.hba_fbs.specs.Greeting.{Hangs}
-use Rattle.hba_fbs.specs.Issuing.{commands_with, is_busy, issue_with, issued_slots, issues_with, view_with}
-use Rattle.hba_fbs.specs.declared.registers.Registers.{Registers}
-use Rattle.hba_fbs.specs.Offering.{AcceptsBy, Offer, asked_by, commands_by}
-use Rattle.hba_fbs.specs.Placing.{Places}
-use Rattle.hba_fbs.specs.Resets.{link_reset, whole_reset}
-use Rattle.hba_fbs.specs.Views.{DeviceView, HaveCommands, IsCorePort, Port, last_command, opening_port, view_of}
+use Rattle.hba_fbs.specs.{Bits.without, Greeting.Hangs, Issuing.{commands_with, is_busy, issue_with, issued_slots, issues_with, view_with}}
+use Rattle.hba_fbs.specs.{declared.registers.Registers.Registers, Offering.{AcceptsBy, Offer, asked_by, commands_by}, Placing.Places}
+use Rattle.hba_fbs.specs.{Resets.{link_reset, whole_reset}, Views.{DeviceView, HaveCommands, IsCorePort, Port, last_command, opening_port, view_of}}
+use Rattle.hba_fbs.specs.declared.error.WriteError.{WriteError}
 use Rattle.hba_fbs.specs.declared.register.Register as port_register
 use Rattle.hba_fbs.specs.declared.register.Register.TheVariants as on_port
-use Rattle.hba_fbs.specs.declared.error.WriteError.{WriteError}
 use Rattle.ahci_controller.specs.Fetching.{AnswersTo, GoesOn, Misses, MissesIf, SuppliesIf, answered, fits, is_asked, without_fetch}
-use Rattle.ahci_controller.specs.Issuing.{IssuesSlot, PlacesSlot, RefusesSlot, device_of, not_issued, offered_command}
-use Rattle.ahci_controller.specs.Offers.{offer_in, offers_nothing}
-use Rattle.ahci_controller.specs.Rules.{AreCounted, AreParts, IsCarried, IsOffered, IsRuled, IsUnread}
-use Rattle.ahci_controller.specs.States.{ControllerState}
-use Rattle.ahci_controller.specs.declared.issuing.NotTaken.{NotTaken}
-use Rattle.ahci_controller.specs.declared.issuing.Supply.{Supply}
-use Rattle.ahci_controller.specs.declared.wants.Carried.{Carried}
-use Rattle.ahci_controller.specs.declared.wants.Wants.{Wants}
+use Rattle.ahci_controller.specs.{Issuing.{IssuesSlot, PlacesSlot, RefusesSlot, device_of, not_issued, offered_command}, Offers.offer_in}
+use Rattle.ahci_controller.specs.{Offers.offers_nothing, Rules.{AreCounted, AreParts, IsCarried, IsOffered, IsRuled, IsUnread}}
+use Rattle.ahci_controller.specs.{States.ControllerState, declared.{issuing.{NotTaken.NotTaken, Supply.Supply}, wants.{Carried.Carried, Wants.Wants}}}
 use Rattle.ahci_controller.proofs.rules.BitLemmas as bits
 use Rattle.ahci_controller.proofs.rules.FreeLemmas.{free_at}
 use Rattle.ahci_controller.proofs.rules.PartLemmas as parts

@@ -1,28 +1,17 @@
 -- No call of the core but an issue fills a slot.
-use Rattle.std.proofs.Common.{◌≡◌, ◌≢◌, ℕ, ◌<◌, Bool, true, false, cond, List, get_or, set, length, replicate, refl, sym, ◌∙◌, ap, subst, inl, inr, Option, Some, None, arith, get_or-set_same, get_or-set_other, length-set}
-use Rattle.std.specs.Prelude.{MatchOption, if◌then◌else◌}
-use Rattle.std.specs.Option.{option_map}
-use Rattle.std.proofs.lemmas.Bool.{cases_eq, cases_lt, eq-eqb}
+use Rattle.std.proofs.Common.{◌≡◌, ◌≢◌, ℕ, ◌<◌, Bool, true, false, cond, List, get_or, set, length, replicate, refl, sym, ◌∙◌, ap, subst, inl, inr}
+use Rattle.std.proofs.{Common.{Option, Some, None, arith, get_or-set_same, get_or-set_other, length-set}, lemmas.Bool.{cases_eq, cases_lt, eq-eqb}}
 use Rattle.std.proofs.lemmas.List.{get_or-replicate, get_or_past, length-replicate}
-use Rattle.slots.specs.Commands.{after_sent, is_slot, sent_issue, with_sent}
-use Rattle.slots.specs.Data.{after_payload, gone_over, moved_over, payload_len}
-use Rattle.slots.specs.Setup.{begun, whole_context, with_own_context}
-use Rattle.slots.specs.Slots.{DeviceSlots, Issue, KeepsFree, Slots, freed, holds, is_control, issue_at, issues_unless, match_some, no_own_slots, own_issue, owned_by, slots_of, with_own_issue}
-use Rattle.slots.specs.Table.{IsIssue, IsTable}
-use Rattle.slots.specs.Work.{is_dma}
-use Rattle.slots.specs.declared.table.Context.{Context}
+use Rattle.std.specs.{Prelude.{MatchOption, if◌then◌else◌}, Option.option_map}
+use Rattle.slots.specs.{Commands.{after_sent, is_slot, sent_issue, with_sent}, Data.{after_payload, gone_over, moved_over, payload_len}, Setup.begun}
+use Rattle.slots.specs.{Setup.{whole_context, with_own_context}, Slots.{DeviceSlots, Issue, KeepsFree, Slots, freed, holds, is_control, issue_at}}
+use Rattle.slots.specs.{Slots.{issues_unless, match_some, no_own_slots, own_issue, owned_by, slots_of, with_own_issue}, Table.{IsIssue, IsTable}}
+use Rattle.slots.specs.{Work.is_dma, declared.table.Context.Context}
 use Rattle.slots.proofs.Door.{get-unless, length-unless}
 use Rattle.hba_commands.specs.declared.command.Command.{Command}
-use Rattle.hba_fbs.specs.Choosing.{Chooses, GoesTo}
-use Rattle.hba_fbs.specs.Offering.{AcceptsBy, Offer, view_by}
-use Rattle.hba_fbs.specs.Registers.{falls}
-use Rattle.hba_fbs.specs.Sending.{view_fed, view_sent}
-use Rattle.hba_fbs.specs.Stopping.{SetsCmd, fallen_view}
-use Rattle.hba_fbs.specs.Views.{DeviceView, LeavesOtherViews, Port, stopped_view, view_of}
-use Rattle.hba_fbs.specs.Writing.{cleared_by, is_device}
-use Rattle.hba_fbs.specs.declared.register.Register.{Register}
-use Rattle.hba_fbs.specs.declared.register.Register.TheVariants.{Fbs, Is, Sact, Serr, Sntf}
-use Rattle.hba_fbs.specs.declared.turn.Turn.{Turn}
+use Rattle.hba_fbs.specs.{Choosing.{Chooses, GoesTo}, Offering.{AcceptsBy, Offer, view_by}, Registers.falls, Sending.{view_fed, view_sent}}
+use Rattle.hba_fbs.specs.{Stopping.{SetsCmd, fallen_view}, Views.{DeviceView, LeavesOtherViews, Port, stopped_view, view_of}, Writing.cleared_by}
+use Rattle.hba_fbs.specs.{Writing.is_device, declared.{register.Register.{Register, TheVariants.{Fbs, Is, Sact, Serr, Sntf}}, turn.Turn.Turn}}
 use Rattle.hba_fbs.specs.declared.turn.Turn.TheVariants.{Feeds, Orders, Rests}
 use Rattle.hba_fbs.proofs.Door.{own_at}
 

@@ -1,19 +1,12 @@
 -- A controller that opens keeps the rules.
-use Rattle.std.proofs.Common.{◌≡◌, ℕ, ◌<◌, ◌≤◌, Bool, true, false, List, get_or, length, replicate, refl, sym, ap, subst, ◌∙◌, inl, inr, Option, Some, None, arith}
+use Rattle.std.proofs.Common.{◌≡◌, ℕ, ◌<◌, ◌≤◌, Bool, true, false, List, get_or, length, replicate, refl, sym, ap, subst, ◌∙◌, inl, inr, Option, Some}
+use Rattle.std.proofs.{Common.{None, arith}, lemmas.{Bool.{cases_lt, false≢true}, List.{get_or-replicate, get_or_past, length-replicate}}}
 use Rattle.std.specs.Prelude.{IfSome}
-use Rattle.std.proofs.lemmas.Bool.{cases_lt, false≢true}
-use Rattle.std.proofs.lemmas.List.{get_or-replicate, get_or_past, length-replicate}
-use Rattle.guest_fetch.specs.Commands.{Fetched}
-use Rattle.guest_fetch.specs.Fetch.{Fetching}
+use Rattle.guest_fetch.specs.{Commands.Fetched, Fetch.Fetching}
 use Rattle.hba_commands.specs.declared.command.Command.{Command}
 use Rattle.hba_fbs.specs.Views.{Port, last_command}
-use Rattle.ahci_controller.specs.Opening.{IsOpening}
-use Rattle.ahci_controller.specs.Outbox.{opening_wants}
-use Rattle.ahci_controller.specs.Rules.{AreParts, IsCarried, IsOffered, IsRuled}
-use Rattle.ahci_controller.specs.States.{ControllerState}
-use Rattle.ahci_controller.specs.declared.wants.Carried.{Carried}
-use Rattle.ahci_controller.specs.declared.wants.Wants.{Wants}
-use Rattle.ahci_controller.specs.declared.wants.Writes.{Writes}
+use Rattle.ahci_controller.specs.{Opening.IsOpening, Outbox.opening_wants, Rules.{AreParts, IsCarried, IsOffered, IsRuled}, States.ControllerState}
+use Rattle.ahci_controller.specs.declared.wants.{Carried.Carried, Wants.Wants, Writes.Writes}
 use Rattle.ahci_controller.proofs.rules.BitLemmas as bits
 
 -- a list of equal elements has that element at each place

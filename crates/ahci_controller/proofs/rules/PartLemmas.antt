@@ -1,22 +1,15 @@
 -- The rules of a controller's parts stay true as one of these changes.
-use Rattle.std.proofs.Common.{◌≡◌, ◌≢◌, ℕ, ◌+◌, ◌-◌, ◌<◌, ◌≤◌, ◌^◌, min, Bool, true, false, List, get_or, set, length, map, replicate, refl, sym, ap, subst, ◌∙◌, inl, inr, Option, Some, None, arith, bit_or, get_or-set_same, get_or-set_other, length-set}
-use Rattle.std.specs.Prelude.{IfSome, MatchOption, is_some, if◌then◌else◌}
-use Rattle.std.specs.List.{range_with_len}
-use Rattle.std.specs.Option.{option_or}
-use Rattle.std.proofs.lemmas.Bool.{cases_Bool, cases_eq, cases_lt, false≢true, true≢false}
-use Rattle.std.proofs.lemmas.List.{get_or-map, get_or-replicate, get_or_past, length-replicate, length-map}
+use Rattle.std.proofs.Common.{◌≡◌, ◌≢◌, ℕ, ◌+◌, ◌-◌, ◌<◌, ◌≤◌, ◌^◌, min, Bool, true, false, List, get_or, set, length, map, replicate, refl, sym, ap}
+use Rattle.std.proofs.Common.{subst, ◌∙◌, inl, inr, Option, Some, None, arith, bit_or, get_or-set_same, get_or-set_other, length-set}
+use Rattle.std.proofs.lemmas.{Bool.{cases_Bool, cases_eq, cases_lt, false≢true, true≢false}, List.{get_or-map, get_or-replicate, get_or_past}}
+use Rattle.std.proofs.lemmas.List.{length-replicate, length-map}
+use Rattle.std.specs.{Prelude.{IfSome, MatchOption, is_some, if◌then◌else◌}, List.range_with_len, Option.option_or}
 use Rattle.slots.specs.Slots.{KeepsFree, has_bit, issue_at}
-use Rattle.guest_fetch.specs.Commands.{Fetched}
-use Rattle.guest_fetch.specs.Fetch.{Fetching}
+use Rattle.guest_fetch.specs.{Commands.Fetched, Fetch.Fetching}
 use Rattle.hba_commands.specs.declared.command.Command.{Command}
-use Rattle.hba_fbs.specs.Bits.{without}
-use Rattle.hba_fbs.specs.Views.{Port, last_command}
-use Rattle.ahci_controller.specs.Fetching.{asked, next_number}
-use Rattle.ahci_controller.specs.Next.{fed}
-use Rattle.ahci_controller.specs.Outbox.{without_wants}
-use Rattle.ahci_controller.specs.Rules.{AreCounted, AreParts, IsCarried, IsOffered, IsUnread}
-use Rattle.ahci_controller.specs.declared.wants.Carried.{Carried}
-use Rattle.ahci_controller.specs.declared.wants.Wants.{Wants}
+use Rattle.hba_fbs.specs.{Bits.without, Views.{Port, last_command}}
+use Rattle.ahci_controller.specs.{Fetching.{asked, next_number}, Next.fed, Outbox.without_wants, Rules.{AreCounted, AreParts, IsCarried, IsOffered}}
+use Rattle.ahci_controller.specs.{Rules.IsUnread, declared.wants.{Carried.Carried, Wants.Wants}}
 use Rattle.ahci_controller.proofs.rules.BitLemmas as bits
 
 abbrev no_fetch : Option Fetching

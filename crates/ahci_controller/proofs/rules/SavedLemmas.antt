@@ -1,11 +1,8 @@
 -- A restored controller keeps its rules, and words of one that does not are refused.
-use Rattle.std.proofs.Common.{◌≡◌, ℕ, List, false, sym, subst, ◌∙◌}
-use Rattle.std.proofs.lemmas.Bool.{both_ways}
+use Rattle.std.proofs.{Common.{◌≡◌, ℕ, List, false, sym, subst, ◌∙◌}, lemmas.Bool.both_ways}
 use Rattle.saved_state.specs.State.{NotSaved}
-use Rattle.ahci_controller.specs.Rules.{IsRuled}
-use Rattle.ahci_controller.specs.SavedController.{KeepsController, parts_words}
-use Rattle.ahci_controller.specs.States.{ControllerState}
-use Rattle.ahci_controller.specs.Tested.{AreOffered, is_ruled}
+use Rattle.ahci_controller.specs.{Rules.IsRuled, SavedController.{KeepsController, parts_words}, States.ControllerState, Tested.AreOffered}
+use Rattle.ahci_controller.specs.Tested.{is_ruled}
 use Rattle.ahci_controller.proofs.rules.TestedLemmas.{HasPlaces, offered_from, ruled_from}
 
 pub places_of : (c : ControllerState) → parts_words.keeps c → HasPlaces c

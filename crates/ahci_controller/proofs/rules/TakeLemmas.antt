@@ -1,41 +1,24 @@
 -- The rules of a controller stay true as a frame is taken.
-use Rattle.std.proofs.Common.{◌≡◌, ℕ, ◌<◌, ◌^◌, ◌||◌, Bool, true, false, List, get_or, set, length, refl, sym, ap, subst, ◌∙◌, inl, inr, Option, Some, None, get_or-set_same}
+use Rattle.std.proofs.Common.{◌≡◌, ℕ, ◌<◌, ◌^◌, ◌||◌, Bool, true, false, List, get_or, set, length, refl, sym, ap, subst, ◌∙◌, inl, inr, Option, Some}
+use Rattle.std.proofs.{Common.{None, get_or-set_same}, lemmas.Bool.{cases_Bool, false≢true, lt-ltb, true≢false}}
 use Rattle.std.specs.Prelude.{IfSome, MatchOption, is_some, nat_lt, ◌==◌, if◌then◌else◌}
-use Rattle.std.proofs.lemmas.Bool.{cases_Bool, false≢true, lt-ltb, true≢false}
-use Rattle.fis_view.specs.Seen.{seen}
-use Rattle.fis_view.specs.declared.view.Fis.{Fis}
+use Rattle.fis_view.specs.{Seen.seen, declared.view.Fis.Fis}
 use Rattle.fis_view.specs.declared.view.Fis.TheVariants as view
-use Rattle.slots.specs.Data.{receiving_slot}
-use Rattle.slots.specs.Slots.{Issue, KeepsFree, context_of, has_bit, issue_at, match_some}
-use Rattle.slots.specs.declared.table.Context.{Context}
-use Rattle.guest_fetch.specs.Places.{room_at}
+use Rattle.slots.specs.{Data.receiving_slot, Slots.{Issue, KeepsFree, context_of, has_bit, issue_at, match_some}, declared.table.Context.Context}
 use Rattle.slots.specs.Table.{IsTable}
-use Rattle.guest_fetch.specs.Commands.{Fetched}
+use Rattle.guest_fetch.specs.{Places.room_at, Commands.Fetched}
 use Rattle.hba_commands.specs.declared.command.Command.{Command}
-use Rattle.hba_fbs.specs.Bits.{without}
-use Rattle.hba_fbs.specs.Deciding.{Decides, Passes, decided}
-use Rattle.hba_fbs.specs.Greeting.{Greets, greeted_in, is_first}
-use Rattle.hba_fbs.specs.Posting.{posted}
+use Rattle.hba_fbs.specs.{Bits.without, Deciding.{Decides, Passes, decided}, Greeting.{Greets, greeted_in, is_first}, Posting.posted, Taking.admitted}
+use Rattle.hba_fbs.specs.{Taking.{ignores, port_of, posted_of}, Views.{HaveCommands, IsCorePort, Port, last_command, view_of}}
+use Rattle.hba_fbs.specs.declared.{hearing.Heard.Heard, registers.Registers.Registers, report.{TakeReport.TakeReport, Wrote.Wrote}}
 use Rattle.hba_fbs.specs.Taking as core_taking
-use Rattle.hba_fbs.specs.Taking.{admitted, ignores, port_of, posted_of}
-use Rattle.hba_fbs.specs.Views.{HaveCommands, IsCorePort, Port, last_command, view_of}
-use Rattle.hba_fbs.specs.declared.hearing.Heard.{Heard}
-use Rattle.hba_fbs.specs.declared.registers.Registers.{Registers}
-use Rattle.hba_fbs.specs.declared.report.TakeReport.{TakeReport}
-use Rattle.hba_fbs.specs.declared.report.Wrote.{Wrote}
-use Rattle.ahci_controller.specs.Rules.{AreParts, IsCarried, IsOffered, IsRuled}
-use Rattle.ahci_controller.specs.States.{ControllerState, cursor, kept}
-use Rattle.ahci_controller.specs.Moving.{commands_after, moved_on}
-use Rattle.ahci_controller.specs.Taking.{CoreHearsIf, Hears, brought, carried, carried_by, is_overflow, part_in, part_of, payload_of, room_for}
-use Rattle.ahci_controller.specs.declared.taking.Took.{Took}
-use Rattle.ahci_controller.specs.declared.wants.Carried.{Carried}
-use Rattle.ahci_controller.specs.declared.wants.Wants.{Wants}
+use Rattle.ahci_controller.specs.{Rules.{AreParts, IsCarried, IsOffered, IsRuled}, States.{ControllerState, cursor, kept}, Moving.commands_after}
+use Rattle.ahci_controller.specs.{Moving.moved_on, Taking.{CoreHearsIf, Hears, brought, carried, carried_by, is_overflow, part_in, part_of}}
+use Rattle.ahci_controller.specs.{Taking.{payload_of, room_for}, declared.{taking.Took.Took, wants.{Carried.Carried, Wants.Wants}}}
 use Rattle.ahci_controller.proofs.rules.BitLemmas as bits
-use Rattle.ahci_controller.proofs.rules.FreeLemmas.{same_free, slots_free}
+use Rattle.ahci_controller.proofs.rules.{FreeLemmas.{same_free, slots_free}, TurnLemmas.offers_on, Words.IsOfIssue, WroteLemmas.decided_wrote}
+use Rattle.ahci_controller.proofs.rules.WroteLemmas.{greeted_wrote, of_issue, passed_wrote}
 use Rattle.ahci_controller.proofs.rules.PartLemmas as parts
-use Rattle.ahci_controller.proofs.rules.TurnLemmas.{offers_on}
-use Rattle.ahci_controller.proofs.rules.Words.{IsOfIssue}
-use Rattle.ahci_controller.proofs.rules.WroteLemmas.{decided_wrote, greeted_wrote, of_issue, passed_wrote}
 
 -- ---- the core
 

@@ -1,19 +1,15 @@
 -- What is tested of parts that come from elsewhere is what every controller keeps.
-use Rattle.std.proofs.Common.{◌≡◌, ℕ, zero, suc, ◌+◌, ◌<◌, ◌≤◌, ◌^◌, Bool, true, false, List, get_or, length, refl, sym, ap, subst, ◌∙◌, inl, inr, Option, Some, None, arith}
+use Rattle.std.proofs.Common.{◌≡◌, ℕ, zero, suc, ◌+◌, ◌<◌, ◌≤◌, ◌^◌, Bool, true, false, List, get_or, length, refl, sym, ap, subst, ◌∙◌, inl, inr}
+use Rattle.std.proofs.{Common.{Option, Some, None, arith}, Math.Dec.{eqb, leb, ltb}, lemmas.Bool.{and_from, and_parts, both_ways, cases_Bool}}
+use Rattle.std.proofs.lemmas.{Bool.{cases_eq, cases_lt, eq-eqb, eqb-true, le-leb, leb-true, lt-ltb, ltb-true, not-true, true≢false}, List.get_or_past}
 use Rattle.std.specs.Prelude.{◌&&◌, ◌||◌, ◌==◌, ◌⊎◌, IfSome, is_none, is_some, not, if◌then◌else◌}
-use Rattle.std.proofs.Math.Dec.{eqb, leb, ltb}
-use Rattle.std.proofs.lemmas.Bool.{and_from, and_parts, both_ways, cases_Bool, cases_eq, cases_lt, eq-eqb, eqb-true, le-leb, leb-true, lt-ltb, ltb-true, not-true, true≢false}
-use Rattle.std.proofs.lemmas.List.{get_or_past}
 use Rattle.slots.specs.Slots.{has_bit, issue_at}
-use Rattle.guest_fetch.specs.Commands.{Fetched}
-use Rattle.guest_fetch.specs.Fetch.{Fetching}
+use Rattle.guest_fetch.specs.{Commands.Fetched, Fetch.Fetching}
 use Rattle.hba_commands.specs.declared.command.Command.{Command}
-use Rattle.hba_fbs.specs.Issuing.{is_busy}
-use Rattle.hba_fbs.specs.Views.{last_command}
-use Rattle.ahci_controller.specs.Rules.{IsCarried, IsOffered, IsRuled, IsUnread}
-use Rattle.ahci_controller.specs.States.{ControllerState}
-use Rattle.ahci_controller.specs.Tested.{AreOffered, IsOfferedAt, all_below, are_devices_ruled, are_slots_ruled, is_carried, is_device_ruled, is_free_at, is_ruled, is_slot_ruled, is_unread_at, rests_stopped}
-use Rattle.ahci_controller.specs.declared.wants.Carried.{Carried}
+use Rattle.hba_fbs.specs.{Issuing.is_busy, Views.last_command}
+use Rattle.ahci_controller.specs.{Rules.{IsCarried, IsOffered, IsRuled, IsUnread}, States.ControllerState, Tested.{AreOffered, IsOfferedAt}}
+use Rattle.ahci_controller.specs.Tested.{all_below, are_devices_ruled, are_slots_ruled, is_carried, is_device_ruled, is_free_at, is_ruled}
+use Rattle.ahci_controller.specs.{Tested.{is_slot_ruled, is_unread_at, rests_stopped}, declared.wants.Carried.Carried}
 
 -- ---- all numbers below a bound
 

@@ -1,50 +1,29 @@
 -- The rules of a controller stay true as frames are taken, and as it is asked what is next to do.
-use Rattle.std.proofs.Common.{◌≡◌, ◌≢◌, ℕ, ◌+◌, ◌-◌, ◌<◌, ◌≤◌, ◌^◌, ◌%◌, ◌&&◌, min, Bool, true, false, List, get_or, set, length, refl, sym, ap, subst, ◌∙◌, inl, inr, Option, Some, None, arith, get_or-set_same}
-use Rattle.std.specs.Prelude.{IfSome, MatchOption, is_some, nat_lt, ◌==◌, if◌then◌else◌}
-use Rattle.std.specs.Option.{option_map}
-use Rattle.std.proofs.lemmas.Bool.{and_parts, cases_Bool, false≢true, ltb-true, true≢false}
-use Rattle.slots.specs.Slots.{KeepsFree, Slots, has_bit, issue_at, lowest_below, match_some}
-use Rattle.slots.specs.Table.{IsTable}
+use Rattle.std.proofs.Common.{◌≡◌, ◌≢◌, ℕ, ◌+◌, ◌-◌, ◌<◌, ◌≤◌, ◌^◌, ◌%◌, ◌&&◌, min, Bool, true, false, List, get_or, set, length, refl, sym, ap}
+use Rattle.std.proofs.{Common.{subst, ◌∙◌, inl, inr, Option, Some, None, arith, get_or-set_same}, lemmas.Bool.{and_parts, cases_Bool, false≢true}}
+use Rattle.std.proofs.lemmas.Bool.{ltb-true, true≢false}
+use Rattle.std.specs.{Prelude.{IfSome, MatchOption, is_some, nat_lt, ◌==◌, if◌then◌else◌}, Option.option_map}
+use Rattle.slots.specs.{Slots.{KeepsFree, Slots, has_bit, issue_at, lowest_below, match_some}, Table.IsTable}
 use Rattle.slots.proofs.Door.{lowest_is}
 use Rattle.fis_view.specs.Seen.{seen}
-use Rattle.guest_fetch.specs.Commands.{Fetched}
-use Rattle.guest_fetch.specs.declared.moves.Move.{Move}
-use Rattle.guest_fetch.specs.declared.command.ByteCount.{ByteCount}
+use Rattle.guest_fetch.specs.{Commands.Fetched, declared.{moves.Move.Move, command.ByteCount.ByteCount}}
 use Rattle.hba_commands.specs.declared.command.Command.{Command}
-use Rattle.hba_fbs.specs.Bits.{without}
-use Rattle.hba_fbs.specs.Choosing.{Chooses, may_feed}
-use Rattle.hba_fbs.specs.Deciding.{Decides, Passes}
-use Rattle.hba_fbs.specs.Greeting.{Greets, greeted_in}
-use Rattle.hba_fbs.specs.Taking.{admitted, ignores, port_of}
-use Rattle.hba_fbs.specs.Turning.{orders}
-use Rattle.hba_fbs.specs.Views.{HaveCommands, IsCorePort, Port, last_command, view_of}
-use Rattle.hba_fbs.specs.declared.registers.Registers.{Registers}
-use Rattle.hba_fbs.specs.declared.report.TakeReport.{TakeReport}
-use Rattle.hba_fbs.specs.declared.report.Wrote.{Wrote}
-use Rattle.hba_fbs.specs.declared.turn.Turn.{Turn}
-use Rattle.hba_fbs.specs.declared.turn.Turn.TheVariants.{Feeds, Orders, Rests}
-use Rattle.ahci_controller.specs.Circle.{first_behind, is_behind}
-use Rattle.ahci_controller.specs.Feeding.{Gathers, GathersIf, Loses, LosesIf, MissesData, MissesIf, SendsIf, sent_to, without_feeding}
-use Rattle.ahci_controller.specs.Fetching.{asked as asked_of}
-use Rattle.ahci_controller.specs.Next.{FeedsTo, Frames, FramesFor, GoesIf, OrdersSlot, Reads, RestsNow, StartsUp, Turns, TurnsIf, after_count, after_rest, counted_slot, is_fed, is_halted, left, next_device, next_read, next_slot, next_write, payload_step, rest, run_of, step_of, step_with, turn_to, writes_next, written}
-use Rattle.ahci_controller.specs.Moving.{command_of, moved, moved_on}
-use Rattle.ahci_controller.specs.Outbox.{no_writes}
-use Rattle.ahci_controller.specs.Rules.{AreParts, IsCarried, IsOffered, IsRuled, IsUnread}
-use Rattle.ahci_controller.specs.States.{ControllerState, kept}
-use Rattle.ahci_controller.specs.declared.feeding.Fed.{Fed}
-use Rattle.ahci_controller.specs.declared.next.Next.{Next}
-use Rattle.ahci_controller.specs.declared.next.Next.TheVariants as next_step
-use Rattle.ahci_controller.specs.declared.next.Step.{Step}
-use Rattle.ahci_controller.specs.declared.wants.Carried.{Carried}
-use Rattle.ahci_controller.specs.declared.wants.Writes.{Writes}
-use Rattle.ahci_controller.proofs.rules.BitLemmas as bits
-use Rattle.ahci_controller.proofs.rules.FreeLemmas.{chosen_free, same_free, slots_free}
-use Rattle.ahci_controller.proofs.rules.PartLemmas as parts
-use Rattle.ahci_controller.specs.Own.{falls}
-use Rattle.ahci_controller.specs.Reading.{is_idle}
+use Rattle.hba_fbs.specs.{Bits.without, Choosing.{Chooses, may_feed}, Deciding.{Decides, Passes}, Greeting.{Greets, greeted_in}, Taking.admitted}
+use Rattle.hba_fbs.specs.{Taking.{ignores, port_of}, Turning.orders, Views.{HaveCommands, IsCorePort, Port, last_command, view_of}}
+use Rattle.hba_fbs.specs.declared.{registers.Registers.Registers, report.{TakeReport.TakeReport, Wrote.Wrote}, turn.Turn.{Turn, TheVariants.Feeds}}
+use Rattle.hba_fbs.specs.declared.turn.Turn.TheVariants.{Orders, Rests}
+use Rattle.ahci_controller.specs.{Circle.{first_behind, is_behind}, Feeding.{Gathers, GathersIf, Loses, LosesIf, MissesData, MissesIf, SendsIf}}
+use Rattle.ahci_controller.specs.{Feeding.{sent_to, without_feeding}, Fetching.asked as asked_of, Next.{FeedsTo, Frames, FramesFor, GoesIf}}
+use Rattle.ahci_controller.specs.Next.{OrdersSlot, Reads, RestsNow, StartsUp, Turns, TurnsIf, after_count, after_rest, counted_slot, is_fed}
+use Rattle.ahci_controller.specs.Next.{is_halted, left, next_device, next_read, next_slot, next_write, payload_step, rest, run_of, step_of, step_with}
+use Rattle.ahci_controller.specs.{Next.{turn_to, writes_next, written}, Moving.{command_of, moved, moved_on}, Outbox.no_writes, Rules.AreParts}
+use Rattle.ahci_controller.specs.{Rules.{IsCarried, IsOffered, IsRuled, IsUnread}, States.{ControllerState, kept}, declared.feeding.Fed.Fed}
+use Rattle.ahci_controller.specs.{declared.{next.{Next.Next, Step.Step}, wants.{Carried.Carried, Writes.Writes}}, Own.falls, Reading.is_idle}
 use Rattle.ahci_controller.specs.Wants.{dropped}
-use Rattle.ahci_controller.proofs.rules.CallLemmas.{same_ruled}
-use Rattle.ahci_controller.proofs.rules.WriteLemmas.{restarts_ruled}
+use Rattle.ahci_controller.specs.declared.next.Next.TheVariants as next_step
+use Rattle.ahci_controller.proofs.rules.BitLemmas as bits
+use Rattle.ahci_controller.proofs.rules.{FreeLemmas.{chosen_free, same_free, slots_free}, CallLemmas.same_ruled, WriteLemmas.restarts_ruled}
+use Rattle.ahci_controller.proofs.rules.PartLemmas as parts
 
 -- ---- what is to be written to the guest
 

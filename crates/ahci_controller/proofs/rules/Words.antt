@@ -1,12 +1,9 @@
 -- The words of the lemmas on the rules.
 use Rattle.std.proofs.Common.{◌≡◌, ℕ, ◌<◌, true, Some}
 use Rattle.std.specs.Prelude.{is_some}
-use Rattle.slots.specs.Slots.{DeviceSlots, issue_at}
-use Rattle.slots.specs.declared.table.Context.{Context}
-use Rattle.hba_fbs.specs.Views.{Port}
-use Rattle.hba_fbs.specs.declared.hearing.Happening.{Happening}
+use Rattle.slots.specs.{Slots.{DeviceSlots, issue_at}, declared.table.Context.Context}
+use Rattle.hba_fbs.specs.{Views.Port, declared.{hearing.Happening.Happening, report.Wrote.Wrote}}
 use Rattle.hba_fbs.specs.declared.hearing.Happening.TheVariants as happening
-use Rattle.hba_fbs.specs.declared.report.Wrote.{Wrote}
 
 -- it is for the slot of the device's last setup
 pub record BringsFor (own : DeviceSlots) (wrote : Wrote) : Type 0 where

@@ -1,52 +1,32 @@
 -- The rules of a controller stay true over writes of registers.
-use Rattle.std.proofs.Common.{◌≡◌, ℕ, ◌+◌, ◌<◌, ◌&&◌, ◌||◌, bit_or, Bool, true, false, not, List, get_or, replicate, refl, sym, ap, subst, ◌∙◌, inl, inr, Option, Some, None, arith}
+use Rattle.std.proofs.Common.{◌≡◌, ℕ, ◌+◌, ◌<◌, ◌&&◌, ◌||◌, bit_or, Bool, true, false, not, List, get_or, replicate, refl, sym, ap, subst, ◌∙◌, inl}
+use Rattle.std.proofs.{Common.{inr, Option, Some, None, arith}, lemmas.{Bool.{cases_Bool, cases_lt, false≢true, true≢false}, List.{get_or-replicate}}}
+use Rattle.std.proofs.lemmas.List.{get_or_past, length-replicate}
 use Rattle.std.specs.Prelude.{IfSome, MatchOption, is_some, ◌==◌, if◌then◌else◌}
-use Rattle.std.proofs.lemmas.Bool.{cases_Bool, cases_lt, false≢true, true≢false}
-use Rattle.std.proofs.lemmas.List.{get_or-replicate, get_or_past, length-replicate}
-use Rattle.slots.specs.Slots.{Issue, KeepsFree, has_bit, issue_at, mask_below, mask_of}
-use Rattle.slots.specs.Table.{IsTable}
+use Rattle.slots.specs.{Slots.{Issue, KeepsFree, has_bit, issue_at, mask_below, mask_of}, Table.IsTable}
 use Rattle.slots.proofs.Door.{has_bit_mask, mask_fits}
 use Rattle.ahci_registers.specs.Bits as line_bits
-use Rattle.ahci_registers.specs.Offsets.{register_at}
-use Rattle.ahci_registers.specs.declared.link.Effect.{Effect}
+use Rattle.ahci_registers.specs.{Offsets.register_at, declared.{link.Effect.Effect, register.Register.Register}}
 use Rattle.ahci_registers.specs.declared.link.Effect.TheVariants as effect
-use Rattle.ahci_registers.specs.declared.register.Register.{Register}
 use Rattle.ahci_registers.specs.declared.register.Register.TheVariants as ahci
 use Rattle.guest_fetch.specs.Commands.{Fetched}
 use Rattle.hba_commands.specs.declared.command.Command.{Command}
-use Rattle.hba_fbs.specs.Bits.{without}
-use Rattle.hba_fbs.specs.Greeting.{Hangs}
-use Rattle.hba_fbs.specs.Issuing.{is_busy}
-use Rattle.hba_fbs.specs.Offering.{AcceptsBy, Offer, commands_by}
-use Rattle.hba_fbs.specs.Registers.{own_refusal_by, written}
-use Rattle.hba_fbs.specs.Resets.{link_reset, whole_reset}
-use Rattle.hba_fbs.specs.Stopping.{Overrides, SetsCmd}
-use Rattle.hba_fbs.specs.Views.{Port, last_command, opening_port}
-use Rattle.hba_fbs.specs.declared.error.WriteError.{WriteError}
-use Rattle.hba_fbs.specs.declared.greeting.Line.{Line}
+use Rattle.hba_fbs.specs.{Bits.without, Greeting.Hangs, Issuing.is_busy, Offering.{AcceptsBy, Offer, commands_by}, Registers.own_refusal_by}
+use Rattle.hba_fbs.specs.{Registers.written, Resets.{link_reset, whole_reset}, Stopping.{Overrides, SetsCmd}, Views.{Port, last_command}}
+use Rattle.hba_fbs.specs.{Views.opening_port, declared.{error.WriteError.WriteError, greeting.Line.Line, registers.Registers.Registers}}
 use Rattle.hba_fbs.specs.declared.register.Register as port_register
 use Rattle.hba_fbs.specs.declared.register.Register.TheVariants as on_port
-use Rattle.hba_fbs.specs.declared.registers.Registers.{Registers}
-use Rattle.ahci_controller.specs.Access.{merged}
-use Rattle.ahci_controller.specs.Offers.{offer_in, offers_nothing}
+use Rattle.ahci_controller.specs.{Access.merged, Offers.{offer_in, offers_nothing}, Reading.shown, Rules.{AreParts, IsOffered, IsRuled}}
+use Rattle.ahci_controller.specs.{States.ControllerState, Wants.dropped, Wide.{WritesAt, WritesFitting, WritesIf, WritesPart, WritesWide}}
+use Rattle.ahci_controller.specs.{Outbox.without_wants, Own.{commanded, engine_of}, Writing.{ClearsBusy, ClearsIf, Commands, Leaves, ResetsBy}}
+use Rattle.ahci_controller.specs.Writing.{ResetsLink, Restarts, Tells, WritesGlobal, WritesRegister, asked_state, clears_busy, fresh_slots, idle_for}
+use Rattle.ahci_controller.specs.{Writing.{link_effect, link_moved, plain, told_refusal}, declared.{access.Width.Width, latch.Latch.Latch}}
+use Rattle.ahci_controller.specs.declared.{own.OwnRegisters.OwnRegisters, wide.WideWritten.WideWritten, writing.Written.Written}
 use Rattle.ahci_controller.specs.Own as own_words
-use Rattle.ahci_controller.specs.Reading.{shown}
-use Rattle.ahci_controller.specs.Rules.{AreParts, IsOffered, IsRuled}
-use Rattle.ahci_controller.specs.States.{ControllerState}
-use Rattle.ahci_controller.specs.Wants.{dropped}
-use Rattle.ahci_controller.specs.Wide.{WritesAt, WritesFitting, WritesIf, WritesPart, WritesWide}
-use Rattle.ahci_controller.specs.Outbox.{without_wants}
-use Rattle.ahci_controller.specs.Own.{commanded, engine_of}
-use Rattle.ahci_controller.specs.Writing.{ClearsBusy, ClearsIf, Commands, Leaves, ResetsBy, ResetsLink, Restarts, Tells, WritesGlobal, WritesRegister, asked_state, clears_busy, fresh_slots, idle_for, link_effect, link_moved, plain, told_refusal}
-use Rattle.ahci_controller.specs.declared.access.Width.{Width}
-use Rattle.ahci_controller.specs.declared.latch.Latch.{Latch}
-use Rattle.ahci_controller.specs.declared.own.OwnRegisters.{OwnRegisters}
-use Rattle.ahci_controller.specs.declared.wide.WideWritten.{WideWritten}
-use Rattle.ahci_controller.specs.declared.writing.Written.{Written}
 use Rattle.ahci_controller.proofs.rules.BitLemmas as bits
-use Rattle.ahci_controller.proofs.rules.FreeLemmas.{StaysNone, accepted_free, fbs_none, is_none, sact_none, same_free, serr_none, set_cmd_free, slots_free, sntf_none}
+use Rattle.ahci_controller.proofs.rules.FreeLemmas.{StaysNone, accepted_free, fbs_none, is_none, sact_none, same_free, serr_none, set_cmd_free}
+use Rattle.ahci_controller.proofs.rules.{FreeLemmas.{slots_free, sntf_none}, CallLemmas.same_ruled}
 use Rattle.ahci_controller.proofs.rules.PartLemmas as parts
-use Rattle.ahci_controller.proofs.rules.CallLemmas.{same_ruled}
 
 -- ---- the core
 

@@ -1,35 +1,20 @@
 -- The bytes that a report tells of are of a slot in which something is issued.
 use Rattle.std.proofs.Common.{◌≡◌, ℕ, ◌<◌, ◌-◌, Bool, true, false, cond, eqb, List, length, refl, sym, ap, subst, ◌∙◌, Option, Some, None}
 use Rattle.std.specs.Prelude.{MatchOption, IfSome, is_some, not, nat_lt, if◌then◌else◌, Result, Ok, Err}
-use Rattle.fis_view.specs.Seen.{seen}
+use Rattle.fis_view.specs.{Seen.seen, Table.field, declared.view.{Fis.Fis, FisFault.FisFault}}
 use Rattle.fis_view.specs.Table as table
-use Rattle.fis_view.specs.Table.{field}
-use Rattle.fis_view.specs.declared.view.Fis.{Fis}
 use Rattle.fis_view.specs.declared.view.Fis.TheVariants as view
-use Rattle.fis_view.specs.declared.view.FisFault.{FisFault}
 use Rattle.port_errors.specs.declared.cause.DeviceCause.TheVariants as cause
-use Rattle.slots.specs.Commands.{answer_of, completed}
-use Rattle.slots.specs.Data.{after_arrive, may_activate}
-use Rattle.slots.specs.Setup.{dma_context, out_setup, pio_fault, pio_issue, setup_fault}
-use Rattle.slots.specs.Slots.{DeviceSlots, Issue, context_of, issue_at, match_some, own_issue, sent_pio, slots_of}
-use Rattle.slots.specs.Table.{IsContext, IsContextOf, IsTable}
-use Rattle.slots.specs.declared.answer.SetupError.{SetupError}
-use Rattle.slots.specs.declared.table.Context.{Context}
-use Rattle.hba_fbs.specs.declared.hearing.Happening.{Happening}
+use Rattle.slots.specs.{Commands.{answer_of, completed}, Data.{after_arrive, may_activate}, Setup.{dma_context, out_setup, pio_fault, pio_issue}}
+use Rattle.slots.specs.{Setup.setup_fault, Slots.{DeviceSlots, Issue, context_of, issue_at, match_some, own_issue, sent_pio, slots_of}}
+use Rattle.slots.specs.{Table.{IsContext, IsContextOf, IsTable}, declared.{answer.SetupError.SetupError, table.Context.Context}}
+use Rattle.hba_fbs.specs.declared.{hearing.{Happening.Happening, Heard.Heard}, report.{TakeReport.TakeReport, Wrote.Wrote}, room.Room.Room}
+use Rattle.hba_fbs.specs.declared.{room.Room.TheVariants.{Bytes, NoTable, Whole}, state.DeviceState.DeviceState, status.Block.Block}
+use Rattle.hba_fbs.specs.{Deciding.{Decides, Passes, decided, heard_within, is_past}, Greeting.{Greets, greeted_state}, Hearing.{answered, block_of}}
+use Rattle.hba_fbs.specs.Hearing.{bus_failed, faulty, heard_bytes, heard_d2h, heard_data, heard_data_of, heard_fis, heard_out, named, overflowed}
+use Rattle.hba_fbs.specs.{Hearing.{quietly, set_up, tag_of}, Status.{after_reset, is_busy, is_error, with_bits, with_file}, Taking.heard_report}
+use Rattle.hba_fbs.specs.{Taking.{ignored_report, wrote_by}, Views.{DeviceView, Port, view_of}}
 use Rattle.hba_fbs.specs.declared.hearing.Happening.TheVariants as happening
-use Rattle.hba_fbs.specs.declared.hearing.Heard.{Heard}
-use Rattle.hba_fbs.specs.declared.report.TakeReport.{TakeReport}
-use Rattle.hba_fbs.specs.declared.report.Wrote.{Wrote}
-use Rattle.hba_fbs.specs.declared.room.Room.{Room}
-use Rattle.hba_fbs.specs.declared.room.Room.TheVariants.{Bytes, NoTable, Whole}
-use Rattle.hba_fbs.specs.declared.state.DeviceState.{DeviceState}
-use Rattle.hba_fbs.specs.declared.status.Block.{Block}
-use Rattle.hba_fbs.specs.Deciding.{Decides, Passes, decided, heard_within, is_past}
-use Rattle.hba_fbs.specs.Greeting.{Greets, greeted_state}
-use Rattle.hba_fbs.specs.Hearing.{answered, block_of, bus_failed, faulty, heard_bytes, heard_d2h, heard_data, heard_data_of, heard_fis, heard_out, named, overflowed, quietly, set_up, tag_of}
-use Rattle.hba_fbs.specs.Status.{after_reset, is_busy, is_error, with_bits, with_file}
-use Rattle.hba_fbs.specs.Taking.{heard_report, ignored_report, wrote_by}
-use Rattle.hba_fbs.specs.Views.{DeviceView, Port, view_of}
 use Rattle.ahci_controller.proofs.rules.Words.{Brings, BringsFor, IsOfIssue}
 
 module _ (own : DeviceSlots) (state : DeviceState) (sound : Bool) (len : ℕ) where

@@ -1,28 +1,17 @@
 -- For `answers_each_command_once`. What the ledger of a run says about the disk: how both agree, and how they still
 -- agree after the host sends.
 use Rattle.std.proofs.Common.{◌≡◌, ◌==◌, ◌||◌, ℕ, ◌<◌, Bool, true, false, List, [], ◌∷◌, ◌++◌, Option, Some, None, refl, ap, sym, subst, ◌∙◌}
+use Rattle.std.proofs.lemmas.{Bool.or_from, List.{append-nil, Folds.{list_any-append}, Elements.{filter_map-append}}}
 use Rattle.std.specs.Prelude.{is_some, if◌then◌else◌}
-use Rattle.std.proofs.lemmas.Bool.{or_from}
-use Rattle.std.proofs.lemmas.List.{append-nil}
-use Rattle.std.proofs.lemmas.List.Folds.{list_any-append}
-use Rattle.std.proofs.lemmas.List.Elements.{filter_map-append}
-use Rattle.disk_model.specs.declared.plan.DiskPlan.{DiskPlan}
-use Rattle.disk_model.specs.declared.request.Command.{Command}
-use Rattle.disk_model.specs.declared.request.Request.{Request}
-use Rattle.disk_model.specs.declared.request.Request.TheVariants.{Reset, Queue, ReadErrorLog, Identify, Flush, Other}
-use Rattle.disk_model.specs.declared.answer.Answer.{Answer}
-use Rattle.disk_model.specs.declared.answer.Answer.TheVariants.{Signature, Accepted, Finished, Refused, PageFollows, PageData}
-use Rattle.disk_model.specs.declared.answer.Page.{Page}
-use Rattle.disk_model.specs.declared.answer.Page.TheVariants.{ErrorLog, Identity}
-use Rattle.disk_model.specs.declared.answer.Fault.{Fault}
-use Rattle.disk_model.specs.declared.answer.Fault.TheVariants.{Failed, Held, Mixed}
-use Rattle.disk_model.specs.Requests.{Asks, IsCounted}
-use Rattle.disk_model.specs.Disks.{Moment, Started, Writing, is_held, logged, received, refused}
-use Rattle.disk_model.specs.Ledger.{Ledger, Moving, Written, ReadOut, Failure, Wanted, LogOf, IdentifyData, Reply, Signs, Accepts, Finishes, Refuses, ShowsPage, asks, given_up, reads_log, refuses, awaits}
-use Rattle.disk_model.specs.Between.{Agrees, AreWanted, IsHeld, IsNoted, IsQueue, IsWanted, Moves, at, ended_tags, has_page}
-use Rattle.disk_model.specs.Between.{has_tag, is_page, page_of, pages_of, replies, tag_of}
-use Rattle.disk_model.proofs.agreement.FaultLemmas.{AreWanted-append}
-use Rattle.disk_model.proofs.agreement.QueueLemmas.{replies_more, pages_same, IsQueue-append}
+use Rattle.disk_model.specs.declared.{plan.DiskPlan.DiskPlan, request.{Command.Command, Request.{Request, TheVariants.{Reset, Queue, ReadErrorLog}}}}
+use Rattle.disk_model.specs.declared.{request.Request.TheVariants.{Identify, Flush, Other}, answer.Answer.{Answer, TheVariants.{Signature, Accepted}}}
+use Rattle.disk_model.specs.declared.answer.{Answer.TheVariants.{Finished, Refused, PageFollows, PageData}, Page.{Page, TheVariants.ErrorLog}}
+use Rattle.disk_model.specs.{declared.answer.{Page.TheVariants.Identity, Fault.{Fault, TheVariants.{Failed, Held, Mixed}}}, Requests.Asks}
+use Rattle.disk_model.specs.{Requests.IsCounted, Disks.{Moment, Started, Writing, is_held, logged, received, refused}, Ledger.{Ledger, Moving}}
+use Rattle.disk_model.specs.Ledger.{Written, ReadOut, Failure, Wanted, LogOf, IdentifyData, Reply, Signs, Accepts, Finishes, Refuses, ShowsPage, asks}
+use Rattle.disk_model.specs.{Ledger.{given_up, reads_log, refuses, awaits}, Between.{Agrees, AreWanted, IsHeld, IsNoted, IsQueue, IsWanted, Moves}}
+use Rattle.disk_model.specs.Between.{at, ended_tags, has_page, has_tag, is_page, page_of, pages_of, replies, tag_of}
+use Rattle.disk_model.proofs.agreement.{FaultLemmas.{AreWanted-append}, QueueLemmas.{replies_more, pages_same, IsQueue-append}}
 
 -- ## How both agree
 

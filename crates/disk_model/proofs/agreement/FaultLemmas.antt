@@ -1,17 +1,10 @@
 -- For `answers_each_command_once`. Why commands fail, as the disk and the ledger note it, and the pages that are owed
 -- and awaited.
 use Rattle.std.proofs.Common.{◌≡◌, ℕ, ◌+◌, ◌<◌, ◌≤◌, Bool, true, false, List, [], ◌∷◌, ◌++◌, Option, Some, None, drop, refl, subst, arith, inl, inr}
-use Rattle.std.specs.Prelude.{nat_lt}
 use Rattle.std.proofs.lemmas.Bool.{ltb-true, ltb-false}
-use Rattle.disk_model.specs.declared.plan.DiskPlan.{DiskPlan}
-use Rattle.disk_model.specs.declared.request.Command.{Command}
-use Rattle.disk_model.specs.declared.answer.Fault.{Fault}
-use Rattle.disk_model.specs.declared.answer.Fault.TheVariants.{Held, Mixed, Failed}
-use Rattle.disk_model.specs.declared.answer.Page.{Page}
-use Rattle.disk_model.specs.Chunks.{fault_of, first_bad, error_of}
-use Rattle.disk_model.specs.Disks.{picked}
-use Rattle.disk_model.specs.Ledger.{Wanted}
-use Rattle.disk_model.specs.Laws.{Fails, CanBeDone}
+use Rattle.std.specs.Prelude.{nat_lt}
+use Rattle.disk_model.specs.declared.{plan.DiskPlan.DiskPlan, request.Command.Command, answer.Fault.{Fault, TheVariants.{Held, Mixed, Failed}}}
+use Rattle.disk_model.specs.{declared.answer.Page.Page, Chunks.{fault_of, first_bad, error_of}, Disks.picked, Ledger.Wanted, Laws.{Fails, CanBeDone}}
 use Rattle.disk_model.specs.Between.{AreWanted, IsNoted, IsWanted}
 
 -- ## Why a command fails

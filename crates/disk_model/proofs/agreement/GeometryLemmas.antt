@@ -1,11 +1,9 @@
 -- For `answers_each_command_once`. Where chunks lie.
-use Rattle.std.proofs.Common.{◌≡◌, ℕ, zero, suc, ◌+◌, ◌-◌, ◌*◌, ◌/◌, ◌%◌, ◌<◌, ◌≤◌, Bool, true, false, refl, arith}
-use Rattle.std.proofs.Math.Nat.{div-add-mod, mul_comm, mul-le-mul_right}
+use Rattle.std.proofs.{Common.{◌≡◌, ℕ, zero, suc, ◌+◌, ◌-◌, ◌*◌, ◌/◌, ◌%◌, ◌<◌, ◌≤◌, Bool, true, false, refl, arith}, Math.Nat.{div-add-mod}}
+use Rattle.std.proofs.Math.Nat.{mul_comm, mul-le-mul_right}
 use Rattle.std.specs.Prelude.{min, if◌then◌else◌}
-use Rattle.disk_model.specs.declared.request.Command.{Command}
-use Rattle.disk_model.specs.declared.plan.DiskPlan.{DiskPlan}
-use Rattle.disk_model.specs.Chunks.{chunks}
-use Rattle.disk_model.specs.Between.{ChunkPart, Part, done_by, moved_sectors}
+use Rattle.disk_model.specs.{declared.{request.Command.Command, plan.DiskPlan.DiskPlan}, Chunks.chunks, Between.{ChunkPart, Part, done_by}}
+use Rattle.disk_model.specs.Between.{moved_sectors}
 
 pred_mul : (q s : ℕ) → (q - 1) * s ≡ q * s - s
 pred_mul zero s = omega arith

@@ -1,41 +1,25 @@
 -- For `answers_each_command_once`. The laws of a disk's runs.
-use Rattle.std.proofs.Common.{◌≡◌, ◌==◌, ◌&&◌, eqb, ℕ, ◌+◌, ◌*◌, ◌%◌, ◌^◌, ◌<◌, ◌≤◌, Bool, true, false, List, [], ◌∷◌, ◌++◌, Option, Some, None, Ok, Result, drop, length, refl, ap, sym, subst, ◌∙◌, arith}
+use Rattle.std.proofs.Common.{◌≡◌, ◌==◌, ◌&&◌, eqb, ℕ, ◌+◌, ◌*◌, ◌%◌, ◌^◌, ◌<◌, ◌≤◌, Bool, true, false, List, [], ◌∷◌, ◌++◌, Option, Some, None, Ok}
+use Rattle.std.proofs.{Common.{Result, drop, length, refl, ap, sym, subst, ◌∙◌, arith}, lemmas.Bool.{Decides.nat_tests, and_parts}}
+use Rattle.std.proofs.{lemmas.List.{append-nil, FromFn.{length-map-range_with_len}}, Math.{Seq.{drop-length}, Pow.{pow-lt}}}
 use Rattle.std.specs.Prelude.{if◌then◌else◌, nat_le}
-use Rattle.std.proofs.lemmas.Bool.Decides.{nat_tests}
-use Rattle.std.proofs.lemmas.Bool.{and_parts}
-use Rattle.std.proofs.lemmas.List.{append-nil}
-use Rattle.std.proofs.lemmas.List.FromFn.{length-map-range_with_len}
-use Rattle.std.proofs.Math.Seq.{drop-length}
-use Rattle.std.proofs.Math.Pow.{pow-lt}
 use Rattle.fis_view.proofs.Door.{bits-lt}
-use Rattle.fis_view.specs.Table.{H2d, C, Features, Count, Control, Bits, SActive, field, places, spelled}
-use Rattle.fis_view.specs.Table as table
-use Rattle.fis_view.specs.Seen.{seen}
-use Rattle.fis_view.specs.declared.view.Fis.{Fis}
-use Rattle.fis_view.specs.declared.view.Fis.TheVariants as view
+use Rattle.fis_view.specs.{Table.{H2d, C, Features, Count, Control, Bits, SActive, field, places, spelled}, Seen.seen, declared.view.Fis.Fis}
 use Rattle.fis_view.specs.declared.view.FisFault.{FisFault}
-use Rattle.disk_model.specs.declared.plan.DiskPlan.{DiskPlan}
-use Rattle.disk_model.specs.declared.request.Command.{Command}
-use Rattle.disk_model.specs.declared.request.Request.{Request}
-use Rattle.disk_model.specs.declared.answer.Answer.{Answer}
-use Rattle.disk_model.specs.declared.answer.Answer.TheVariants.{Signature, Ended}
-use Rattle.disk_model.specs.declared.answer.Fault.{Fault}
-use Rattle.disk_model.specs.Histories.{Happening, Received, Sent, Plugged, Loaded}
-use Rattle.disk_model.specs.Requests.{Asks, IsCounted, queued_command, request_of, names_error_log}
-use Rattle.disk_model.specs.Sendings.{Sending, SetsBits, Activates, Carries, Shows, answer_sent}
-use Rattle.disk_model.specs.Chunks.{chunks, chunk_setup, fault_of, put, report, error_of}
-use Rattle.disk_model.specs.Disks.{Moment, Started, Writing, turn, read_turn, write_turn, pick_turn, begun, picked, heard, after, moment_after, new_with, opening, opening_byte, opening_medium}
-use Rattle.disk_model.specs.Runs.{IsTurn, MayHappen, Runs, IsDiskRun, moment, most_sectors}
-use Rattle.disk_model.specs.Ledger.{Ledger, Moving, empty, listens, listens_down, ledger_after, ledger, loaded, medium_with, with_writes, Names, AnswersOne, IsSize}
-use Rattle.disk_model.specs.Between.{Agrees, AreTags, Asked, Fresh, IsQueue, IsReading, IsSized, IsWriting, Moves, SetUp}
-use Rattle.disk_model.specs.Between.{Stage, begun_by, ended_tags}
-use Rattle.disk_model.proofs.turns.SendLemmas.{sends_left_next}
-use Rattle.disk_model.proofs.agreement.ShowsLemmas.{error_tells, sactive_tells}
-use Rattle.disk_model.proofs.agreement.GeometryLemmas.{some_chunks}
+use Rattle.fis_view.specs.Table as table
+use Rattle.fis_view.specs.declared.view.Fis.TheVariants as view
+use Rattle.disk_model.specs.declared.{plan.DiskPlan.DiskPlan, request.{Command.Command, Request.Request}, answer.Answer.Answer}
+use Rattle.disk_model.specs.{declared.answer.{Answer.TheVariants.{Signature, Ended}, Fault.Fault}, Histories.{Happening, Received, Sent, Plugged}}
+use Rattle.disk_model.specs.{Histories.Loaded, Requests.{Asks, IsCounted, queued_command, request_of, names_error_log}, Sendings.{Sending, SetsBits}}
+use Rattle.disk_model.specs.{Sendings.{Activates, Carries, Shows, answer_sent}, Chunks.{chunks, chunk_setup, fault_of, put, report, error_of}}
+use Rattle.disk_model.specs.Disks.{Moment, Started, Writing, turn, read_turn, write_turn, pick_turn, begun, picked, heard, after, moment_after}
+use Rattle.disk_model.specs.{Disks.{new_with, opening, opening_byte, opening_medium}, Runs.{IsTurn, MayHappen, Runs, IsDiskRun, moment, most_sectors}}
+use Rattle.disk_model.specs.Ledger.{Ledger, Moving, empty, listens, listens_down, ledger_after, ledger, loaded, medium_with, with_writes, Names}
+use Rattle.disk_model.specs.{Ledger.{AnswersOne, IsSize}, Between.{Agrees, AreTags, Asked, Fresh, IsQueue, IsReading, IsSized, IsWriting, Moves}}
+use Rattle.disk_model.specs.Between.{SetUp, Stage, begun_by, ended_tags}
+use Rattle.disk_model.proofs.{turns.SendLemmas.sends_left_next, agreement.{ShowsLemmas.{error_tells, sactive_tells}, GeometryLemmas.some_chunks}}
 use Rattle.disk_model.proofs.agreement.AgreeLemmas.{Beside, Stands, beside, gives_up, idle, ledger_is, reading, shown, step_request, under, writing}
-use Rattle.disk_model.proofs.agreement.TransferLemmas.{step_data}
-use Rattle.disk_model.proofs.agreement.StartLemmas.{step_sent, picked_in}
-use Rattle.disk_model.proofs.agreement.StoreLemmas.{with_writes-append}
+use Rattle.disk_model.proofs.agreement.{TransferLemmas.step_data, StartLemmas.{step_sent, picked_in}, StoreLemmas.{with_writes-append}}
 
 -- ## What a command asks for
 

@@ -1,18 +1,10 @@
 -- For `answers_each_command_once`. The ledger and the disk still agree while the disk sends.
-use Rattle.std.proofs.Common.{◌≡◌, ℕ, ◌%◌, ◌^◌, true, List, ◌∷◌, Option, Some, None, drop, refl}
-use Rattle.std.proofs.lemmas.Bool.{or_parts}
+use Rattle.std.proofs.{Common.{◌≡◌, ℕ, ◌%◌, ◌^◌, true, List, ◌∷◌, Option, Some, None, drop, refl}, lemmas.Bool.or_parts}
 use Rattle.fis_view.specs.Seen.{seen}
-use Rattle.disk_model.specs.declared.plan.DiskPlan.{DiskPlan}
-use Rattle.disk_model.specs.declared.request.Command.{Command}
-use Rattle.disk_model.specs.declared.answer.Answer.{Answer}
-use Rattle.disk_model.specs.declared.answer.Answer.TheVariants.{Ended, PageData}
-use Rattle.disk_model.specs.Sendings.{Shows, answer_sent}
-use Rattle.disk_model.specs.Disks.{Moment, Started, Writing}
-use Rattle.disk_model.specs.Ledger.{Wanted, Ledger, Moving, listens_up, sends_data}
+use Rattle.disk_model.specs.declared.{plan.DiskPlan.DiskPlan, request.Command.Command, answer.Answer.{Answer, TheVariants.{Ended, PageData}}}
+use Rattle.disk_model.specs.{Sendings.{Shows, answer_sent}, Disks.{Moment, Started, Writing}, Ledger.{Wanted, Ledger, Moving, listens_up, sends_data}}
 use Rattle.disk_model.specs.Between.{Agrees, AreTags, AreWanted, IsHeld, Moves, ended_tags, has_page, is_page, pages_of}
-use Rattle.disk_model.proofs.agreement.ShowsLemmas.{end_tells}
-use Rattle.disk_model.proofs.agreement.FaultLemmas.{wanted_left}
-use Rattle.disk_model.proofs.agreement.AgreeLemmas.{Beside, Stands, shown}
+use Rattle.disk_model.proofs.agreement.{ShowsLemmas.end_tells, FaultLemmas.wanted_left, AgreeLemmas.{Beside, Stands, shown}}
 
 -- ## An answer goes
 

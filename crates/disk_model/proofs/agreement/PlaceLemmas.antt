@@ -1,11 +1,10 @@
 -- For `answers_each_command_once`. Bytes at their places.
 use Rattle.std.proofs.Common.{◌≡◌, ℕ, ◌+◌, ◌-◌, ◌*◌, ◌≤◌, List, ◌++◌, length, take, drop, refl, ap, sym, ◌∙◌, arith, append_assoc, length-drop}
-use Rattle.std.specs.Prelude.{replicate}
-use Rattle.std.proofs.lemmas.List.{take-append-le, take-append-drop, drop-replicate, length-replicate, replicate-append-replicate, drop-take, drop-drop, length-take-le}
-use Rattle.std.proofs.Math.Seq.{drop-append_seam, take-append_seam, drop-append-add, take-add, take-length}
+use Rattle.std.proofs.lemmas.List.{take-append-le, take-append-drop, drop-replicate, length-replicate, replicate-append-replicate, drop-take}
+use Rattle.std.proofs.{lemmas.List.{drop-drop, length-take-le}, Math.Seq.{drop-append_seam, take-append_seam, drop-append-add, take-add, take-length}}
 use Rattle.std.proofs.lemmas.Grind.{common_steps}
-use Rattle.disk_model.specs.Chunks.{put, sectors_at}
-use Rattle.disk_model.specs.Between.{from_back, from_front}
+use Rattle.std.specs.Prelude.{replicate}
+use Rattle.disk_model.specs.{Chunks.{put, sectors_at}, Between.{from_back, from_front}}
 
 pub length-put : (xs ys : List ℕ) (at : ℕ) → at + length ys ≤ length xs → length (put xs at ys) ≡ length xs
 length-put xs ys at fits = grind (arith, common_steps)

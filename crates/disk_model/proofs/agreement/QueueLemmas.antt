@@ -1,17 +1,10 @@
 -- For `answers_each_command_once`. Queues in which no tag occurs twice, and the answers that wait.
-use Rattle.std.proofs.Common.{◌≡◌, ◌==◌, ◌||◌, eqb, ℕ, zero, suc, ◌<◌, ◌≤◌, Bool, true, false, List, [], ◌∷◌, ◌++◌, Option, Some, refl, ap, sym, subst, ◌∙◌, arith, cond}
+use Rattle.std.proofs.Common.{◌≡◌, ◌==◌, ◌||◌, eqb, ℕ, zero, suc, ◌<◌, ◌≤◌, Bool, true, false, List, [], ◌∷◌, ◌++◌, Option, Some, refl, ap, sym}
+use Rattle.std.proofs.{Common.{subst, ◌∙◌, arith, cond}, lemmas.Bool.{eq-eqb, eqb-true, or_from, or_parts, Decides.nat_tests}}
+use Rattle.std.proofs.lemmas.List.{Folds.{list_any-append}, append-nil, Elements.{filter_map-append}}
 use Rattle.std.specs.Prelude.{filter, slice_get}
-use Rattle.std.proofs.lemmas.Bool.{eq-eqb, eqb-true, or_from, or_parts}
-use Rattle.std.proofs.lemmas.Bool.Decides.{nat_tests}
-use Rattle.std.proofs.lemmas.List.Folds.{list_any-append}
-use Rattle.disk_model.specs.declared.request.Command.{Command}
-use Rattle.disk_model.specs.declared.answer.Answer.{Answer}
-use Rattle.disk_model.specs.declared.answer.Page.{Page}
-use Rattle.disk_model.specs.Requests.{IsCounted}
-use Rattle.disk_model.specs.Ledger.{Reply}
-use Rattle.disk_model.specs.Between.{AreTags, IsIn, IsQueue, has_tag, page_of, pages_of, replies, reply_of}
-use Rattle.std.proofs.lemmas.List.{append-nil}
-use Rattle.std.proofs.lemmas.List.Elements.{filter_map-append}
+use Rattle.disk_model.specs.{declared.{request.Command.Command, answer.{Answer.Answer, Page.Page}}, Requests.IsCounted, Ledger.Reply, Between.AreTags}
+use Rattle.disk_model.specs.Between.{IsIn, IsQueue, has_tag, page_of, pages_of, replies, reply_of}
 
 eqb_other_way : (a b : ℕ) → eqb a b ≡ false → eqb b a ≡ false
 eqb_other_way a b e = grind (arith, nat_tests)

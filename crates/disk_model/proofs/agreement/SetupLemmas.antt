@@ -1,14 +1,9 @@
 -- For `answers_each_command_once`. What the DMA Setups of a command have named.
 use Rattle.std.proofs.Common.{◌≡◌, ℕ, ◌+◌, ◌-◌, ◌*◌, ◌<◌, ◌≤◌, Bool, true, false, List, [], ◌∷◌, ◌++◌, refl, ◌∙◌, arith, inl, inr}
+use Rattle.std.proofs.lemmas.List.{Elements.{All-push, All-weaker, All-nil}, Sums.{sum_by-append}}
 use Rattle.std.specs.Prelude.{All}
-use Rattle.std.proofs.lemmas.List.Elements.{All-push, All-weaker, All-nil}
-use Rattle.std.proofs.lemmas.List.Sums.{sum_by-append}
-use Rattle.disk_model.specs.declared.plan.DiskPlan.{DiskPlan}
-use Rattle.disk_model.specs.declared.request.Command.{Command}
-use Rattle.disk_model.specs.Chunks.{chunks, chunk_from, chunk_count}
-use Rattle.disk_model.specs.Ledger.{Stretch}
-use Rattle.disk_model.specs.Laws.{IsApart, bytes_named}
-use Rattle.disk_model.specs.Between.{AreSetUp, ChunkPart, IsDone, moved_sectors}
+use Rattle.disk_model.specs.{declared.{plan.DiskPlan.DiskPlan, request.Command.Command}, Chunks.{chunks, chunk_from, chunk_count}, Ledger.Stretch}
+use Rattle.disk_model.specs.{Laws.{IsApart, bytes_named}, Between.{AreSetUp, ChunkPart, IsDone, moved_sectors}}
 use Rattle.disk_model.proofs.agreement.GeometryLemmas.{moved_none}
 
 -- what the DMA Setup of the next chunk names

@@ -1,13 +1,9 @@
 -- For `answers_each_command_once`. What the FISes that a disk sends tell.
-use Rattle.std.proofs.Common.{◌≡◌, ◌==◌, ℕ, ◌%◌, ◌^◌, ◌<◌, Bool, true, false, List, [], ◌∷◌, refl, sym, subst, ◌∙◌, arith}
-use Rattle.std.proofs.lemmas.Bool.{and_parts, true≢false}
-use Rattle.std.specs.Prelude.{not, ◌&&◌}
-use Rattle.fis_view.specs.Table.{A, Run, Setup, Bits, BufferId, Offset, D, Count, Status, Error, SActive, field, places}
-use Rattle.std.specs.Int.{from_bool}
-use Rattle.fis_view.specs.Built.{cut}
-use Rattle.disk_model.specs.Sendings.{Shows, setup, bits}
-use Rattle.disk_model.specs.Ledger.{has_error, is_auto}
-use Rattle.disk_model.specs.Between.{TellsSetup}
+use Rattle.std.proofs.{Common.{◌≡◌, ◌==◌, ℕ, ◌%◌, ◌^◌, ◌<◌, Bool, true, false, List, [], ◌∷◌, refl, sym, subst, ◌∙◌, arith}, lemmas.Bool.and_parts}
+use Rattle.std.proofs.lemmas.Bool.{true≢false}
+use Rattle.std.specs.{Prelude.{not, ◌&&◌}, Int.from_bool}
+use Rattle.fis_view.specs.{Table.{A, Run, Setup, Bits, BufferId, Offset, D, Count, Status, Error, SActive, field, places}, Built.cut}
+use Rattle.disk_model.specs.{Sendings.{Shows, setup, bits}, Ledger.{has_error, is_auto}, Between.TellsSetup}
 
 cut_run : (byte low n x : ℕ) → x % 2 ^ n ≡ x → cut (Run byte low n ∷ []) x ≡ x
 unfolding cut

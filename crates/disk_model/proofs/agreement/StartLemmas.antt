@@ -1,36 +1,23 @@
 -- For `answers_each_command_once`. The ledger and the disk still agree after each FIS that the disk sends.
-use Rattle.std.proofs.Common.{◌≡◌, eqb, ℕ, ◌+◌, ◌-◌, ◌*◌, ◌<◌, ◌≤◌, Bool, true, false, List, [], ◌∷◌, Option, Some, None, length, drop, refl, ap, sym, subst, ◌∙◌, arith}
+use Rattle.std.proofs.Common.{◌≡◌, eqb, ℕ, ◌+◌, ◌-◌, ◌*◌, ◌<◌, ◌≤◌, Bool, true, false, List, [], ◌∷◌, Option, Some, None, length, drop, refl, ap, sym}
+use Rattle.std.proofs.{Common.{subst, ◌∙◌, arith}, lemmas.{Bool.{eq-eqb, Decides.nat_tests}, List.{length-replicate}}}
 use Rattle.std.specs.Prelude.{replicate, not, ◌++◌}
-use Rattle.std.proofs.lemmas.Bool.{eq-eqb}
-use Rattle.std.proofs.lemmas.Bool.Decides.{nat_tests}
-use Rattle.std.proofs.lemmas.List.{length-replicate}
-use Rattle.fis_view.specs.Seen.{seen}
-use Rattle.disk_model.specs.declared.plan.DiskPlan.{DiskPlan}
-use Rattle.disk_model.specs.declared.plan.Order.{Order}
-use Rattle.disk_model.specs.declared.plan.Order.TheVariants.{Oldest, Newest}
-use Rattle.disk_model.specs.declared.request.Command.{Command}
-use Rattle.disk_model.specs.declared.answer.Answer.{Answer}
-use Rattle.disk_model.specs.declared.answer.Fault.{Fault}
-use Rattle.disk_model.specs.declared.answer.Fault.TheVariants.{Failed, Held, Mixed}
-use Rattle.disk_model.specs.Sendings.{Sending, Carries}
-use Rattle.disk_model.specs.Chunks.{activations, chunks, chunk_from, chunk_count, sends_left, sectors_at, fault_of, error_of}
-use Rattle.disk_model.specs.Disks.{Moment, Started, Writing, turn, read_turn, write_turn, begun, begun_write, starts, pick_turn, picked, went}
-use Rattle.disk_model.specs.Runs.{IsTurn}
-use Rattle.disk_model.specs.Ledger.{Failure, Ledger, Moving, is_auto, moves, listens_up, sets_up, with_auto}
-use Rattle.disk_model.specs.Between.{Agrees, AreSetUp, Asked, ChunkPart, Fresh, IsHeld, IsIn, IsMoving, IsQueue, IsReading}
-use Rattle.disk_model.specs.Between.{IsSetUp, IsSized, IsWriting, Moves, SetUp, Stage, TellsSetup, moved_bytes}
-use Rattle.disk_model.specs.Between.{moved_sectors}
-use Rattle.disk_model.proofs.turns.SendLemmas.{sends_left_next}
-use Rattle.disk_model.proofs.agreement.ShowsLemmas.{error_tells, error_field_tells}
-use Rattle.disk_model.proofs.agreement.FaultLemmas.{can_be_done, fault_is, fault_small, noted}
-use Rattle.fis_view.specs.Table.{Bits, BufferId, Error, Offset, Setup, field}
-use Rattle.fis_view.specs.Table as table
-use Rattle.disk_model.proofs.agreement.GeometryLemmas.{moved_none, chunk_part, some_chunks}
-use Rattle.disk_model.proofs.agreement.SetupLemmas.{chunk_stretch, set_up_none, set_up_next}
-use Rattle.disk_model.proofs.agreement.QueueLemmas.{is_in}
-use Rattle.disk_model.proofs.agreement.AgreeLemmas.{Beside, Stands, along, gives_up, idle, reading, shown, under, writing, only_moves}
-use Rattle.disk_model.proofs.agreement.TransferLemmas.{auto_of_read, auto_of_write, Carried, Follows, IsSending, chunk_bytes, length-sectors_at, none_moved, read_ends, read_goes_on, read_sets_up, same_moving, sent_so_far, setup_of_chunk, so_far}
+use Rattle.fis_view.specs.{Seen.seen, Table.{Bits, BufferId, Error, Offset, Setup, field}}
+use Rattle.disk_model.specs.declared.{plan.{DiskPlan.DiskPlan, Order.{Order, TheVariants.{Oldest, Newest}}}, request.Command.Command}
+use Rattle.disk_model.specs.{declared.answer.{Answer.Answer, Fault.{Fault, TheVariants.{Failed, Held, Mixed}}}, Sendings.{Sending, Carries}}
+use Rattle.disk_model.specs.{Chunks.{activations, chunks, chunk_from, chunk_count, sends_left, sectors_at, fault_of, error_of}, Disks.Moment}
+use Rattle.disk_model.specs.{Disks.{Started, Writing, turn, read_turn, write_turn, begun, begun_write, starts, pick_turn, picked, went}, Runs.IsTurn}
+use Rattle.disk_model.specs.{Ledger.{Failure, Ledger, Moving, is_auto, moves, listens_up, sets_up, with_auto}, Between.{Agrees, AreSetUp, Asked}}
+use Rattle.disk_model.specs.Between.{ChunkPart, Fresh, IsHeld, IsIn, IsMoving, IsQueue, IsReading, IsSetUp, IsSized, IsWriting, Moves, SetUp, Stage}
+use Rattle.disk_model.specs.Between.{TellsSetup, moved_bytes, moved_sectors}
+use Rattle.disk_model.proofs.{turns.SendLemmas.sends_left_next, agreement.{ShowsLemmas.{error_tells, error_field_tells}, FaultLemmas.can_be_done}}
+use Rattle.disk_model.proofs.agreement.{FaultLemmas.{fault_is, fault_small, noted}, GeometryLemmas.{moved_none, chunk_part, some_chunks}}
+use Rattle.disk_model.proofs.agreement.{SetupLemmas.{chunk_stretch, set_up_none, set_up_next}, QueueLemmas.is_in, AgreeLemmas.{Beside, Stands, along}}
+use Rattle.disk_model.proofs.agreement.{AgreeLemmas.{gives_up, idle, reading, shown, under, writing, only_moves}, TransferLemmas.auto_of_read}
+use Rattle.disk_model.proofs.agreement.TransferLemmas.{auto_of_write, Carried, Follows, IsSending, chunk_bytes, length-sectors_at, none_moved}
+use Rattle.disk_model.proofs.agreement.TransferLemmas.{read_ends, read_goes_on, read_sets_up, same_moving, sent_so_far, setup_of_chunk, so_far}
 use Rattle.disk_model.proofs.agreement.ListenLemmas.{step_answer}
+use Rattle.fis_view.specs.Table as table
 
 -- ## A read's Data
 

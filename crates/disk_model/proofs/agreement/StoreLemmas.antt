@@ -1,20 +1,11 @@
 -- For `answers_each_command_once`. The ledger and the disk still agree after a write takes its Data.
-use Rattle.std.proofs.Common.{◌≡◌, ◌==◌, eqb, ℕ, ◌+◌, ◌-◌, ◌*◌, ◌<◌, ◌≤◌, Bool, true, false, List, [], ◌∷◌, ◌++◌, Some, length, refl, ap, sym, subst, ◌∙◌, arith, rules, tests}
-use Rattle.std.proofs.lemmas.Bool.{eq-eqb}
-use Rattle.std.proofs.lemmas.Bool.Decides.{nat_tests}
-use Rattle.std.proofs.lemmas.List.Elements.{filter_map-append}
-use Rattle.disk_model.specs.declared.plan.DiskPlan.{DiskPlan}
-use Rattle.disk_model.specs.declared.answer.Answer.{Answer}
-use Rattle.disk_model.specs.declared.answer.Answer.TheVariants.{Ended}
-use Rattle.disk_model.specs.Chunks.{chunk_from, chunk_count, put}
-use Rattle.disk_model.specs.Disks.{Moment, Writing, stored}
-use Rattle.disk_model.specs.Ledger.{Moving, Written, moves, with_writes}
-use Rattle.disk_model.specs.Between.{Agrees, AreSetUp, AreTags, ChunkPart, Fresh, IsHeld, IsMoving, IsSized, ended_tags}
-use Rattle.disk_model.specs.Between.{moved_sectors, tag_of}
-use Rattle.disk_model.proofs.agreement.PlaceLemmas.{length-put}
-use Rattle.disk_model.proofs.agreement.GeometryLemmas.{chunk_part}
-use Rattle.disk_model.proofs.agreement.QueueLemmas.{replies_same, pages_same, AreTags-append, IsQueue-filter}
-use Rattle.disk_model.proofs.agreement.AgreeLemmas.{Beside, Stands, along, shown, writing, only_moves}
+use Rattle.std.proofs.Common.{◌≡◌, ◌==◌, eqb, ℕ, ◌+◌, ◌-◌, ◌*◌, ◌<◌, ◌≤◌, Bool, true, false, List, [], ◌∷◌, ◌++◌, Some, length, refl, ap, sym, subst}
+use Rattle.std.proofs.{Common.{◌∙◌, arith, rules, tests}, lemmas.{Bool.{eq-eqb, Decides.nat_tests}, List.Elements.{filter_map-append}}}
+use Rattle.disk_model.specs.{declared.{plan.DiskPlan.DiskPlan, answer.Answer.{Answer, TheVariants.Ended}}, Chunks.{chunk_from, chunk_count, put}}
+use Rattle.disk_model.specs.{Disks.{Moment, Writing, stored}, Ledger.{Moving, Written, moves, with_writes}, Between.{Agrees, AreSetUp, AreTags}}
+use Rattle.disk_model.specs.Between.{ChunkPart, Fresh, IsHeld, IsMoving, IsSized, ended_tags, moved_sectors, tag_of}
+use Rattle.disk_model.proofs.agreement.{PlaceLemmas.{length-put}, GeometryLemmas.chunk_part, QueueLemmas.{replies_same, pages_same, AreTags-append}}
+use Rattle.disk_model.proofs.agreement.{QueueLemmas.{IsQueue-filter}, AgreeLemmas.{Beside, Stands, along, shown, writing, only_moves}}
 
 pub with_writes-append : (medium : List ℕ) (ws : List Written) (w : Written)
     → with_writes medium (ws ++ w ∷ []) ≡ put (with_writes medium ws) w.at w.bytes

@@ -1,28 +1,17 @@
 -- For `answers_each_command_once`. The ledger and the disk still agree while data moves.
-use Rattle.std.proofs.Common.{◌≡◌, ◌==◌, eqb, ℕ, zero, suc, ◌+◌, ◌-◌, ◌*◌, ◌<◌, ◌≤◌, Bool, true, false, List, [], ◌∷◌, ◌++◌, Option, Some, None, length, drop, take, refl, ap, sym, subst, ◌∙◌, arith, length-drop}
+use Rattle.std.proofs.Common.{◌≡◌, ◌==◌, eqb, ℕ, zero, suc, ◌+◌, ◌-◌, ◌*◌, ◌<◌, ◌≤◌, Bool, true, false, List, [], ◌∷◌, ◌++◌, Option, Some, None}
+use Rattle.std.proofs.{Common.{length, drop, take, refl, ap, sym, subst, ◌∙◌, arith, length-drop}, lemmas.Bool.{eq-eqb, Decides.nat_tests}}
+use Rattle.std.proofs.{lemmas.List.{length-take-le, append-nil, Elements.{All-append}}, Math.Seq.{take-length, drop-length}}
 use Rattle.std.specs.Prelude.{All, not, replicate, if◌then◌else◌, ◌&&◌}
-use Rattle.std.proofs.lemmas.Bool.{eq-eqb}
-use Rattle.std.proofs.lemmas.Bool.Decides.{nat_tests}
-use Rattle.std.proofs.lemmas.List.{length-take-le, append-nil}
-use Rattle.std.proofs.lemmas.List.Elements.{All-append}
-use Rattle.std.proofs.Math.Seq.{take-length, drop-length}
 use Rattle.fis_view.specs.Seen.{seen}
-use Rattle.disk_model.specs.declared.plan.DiskPlan.{DiskPlan}
-use Rattle.disk_model.specs.declared.request.Command.{Command}
-use Rattle.disk_model.specs.Sendings.{Sending, Shows}
-use Rattle.disk_model.specs.Chunks.{activations, chunk_from, chunk_count, chunk_setup, sends_left, sectors_at, put}
-use Rattle.disk_model.specs.Disks.{Moment, Started, Turn, Writing, data_taken, stored, read_turn, went, after_turn}
-use Rattle.disk_model.specs.Runs.{IsTurn}
-use Rattle.disk_model.specs.Ledger.{Ledger, Moving, ReadOut, IsRead, is_auto, moves, takes_data, listens_up, medium_with}
-use Rattle.disk_model.specs.Between.{Agrees, AreSetUp, Asked, ChunkPart, Fresh, IsHeld, IsMoving, IsReading, IsSized, Moves}
-use Rattle.disk_model.specs.Between.{SetUp, TellsSetup, from_back, from_front, moved_bytes, moved_sectors}
-use Rattle.disk_model.proofs.turns.SendLemmas.{sends_left_next}
-use Rattle.disk_model.proofs.agreement.ShowsLemmas.{auto_none, auto_same, auto_tells, setup_tells}
-use Rattle.disk_model.proofs.agreement.PlaceLemmas.{put_front, put_back, chunk_of_sectors}
-use Rattle.disk_model.proofs.agreement.GeometryLemmas.{chunk_part}
-use Rattle.disk_model.proofs.agreement.SetupLemmas.{set_up_next}
-use Rattle.disk_model.proofs.agreement.QueueLemmas.{IsQueue-filter}
-use Rattle.disk_model.proofs.agreement.AgreeLemmas.{Beside, Stands, along, reading, shown, under, writing, only_moves}
+use Rattle.disk_model.specs.{declared.{plan.DiskPlan.DiskPlan, request.Command.Command}, Sendings.{Sending, Shows}, Chunks.{activations, chunk_from}}
+use Rattle.disk_model.specs.{Chunks.{chunk_count, chunk_setup, sends_left, sectors_at, put}, Disks.{Moment, Started, Turn, Writing, data_taken}}
+use Rattle.disk_model.specs.{Disks.{stored, read_turn, went, after_turn}, Runs.IsTurn, Ledger.{Ledger, Moving, ReadOut, IsRead, is_auto, moves}}
+use Rattle.disk_model.specs.{Ledger.{takes_data, listens_up, medium_with}, Between.{Agrees, AreSetUp, Asked, ChunkPart, Fresh, IsHeld, IsMoving}}
+use Rattle.disk_model.specs.Between.{IsReading, IsSized, Moves, SetUp, TellsSetup, from_back, from_front, moved_bytes, moved_sectors}
+use Rattle.disk_model.proofs.{turns.SendLemmas.sends_left_next, agreement.ShowsLemmas.{auto_none, auto_same, auto_tells, setup_tells}}
+use Rattle.disk_model.proofs.agreement.{PlaceLemmas.{put_front, put_back, chunk_of_sectors}, GeometryLemmas.chunk_part, SetupLemmas.set_up_next}
+use Rattle.disk_model.proofs.agreement.{QueueLemmas.{IsQueue-filter}, AgreeLemmas.{Beside, Stands, along, reading, shown, under, writing, only_moves}}
 use Rattle.disk_model.proofs.agreement.StoreLemmas.{IsAsking, asked, asked_for, store_by}
 
 -- ## Bytes of reads

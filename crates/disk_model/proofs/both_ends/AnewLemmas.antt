@@ -1,34 +1,23 @@
 -- For `disks_begin_anew`. Where both ends of a disk's link may begin anew, and what they tell from then on.
-use Rattle.std.proofs.Common.{◌≡◌, ℕ, Bool, true, false, List, [], ◌∷◌, ◌++◌, append_assoc, Option, Some, None, Ok, Result, drop, refl, ap, sym, subst, ◌∙◌}
+use Rattle.std.proofs.Common.{◌≡◌, ℕ, Bool, true, false, List, [], ◌∷◌, ◌++◌, append_assoc, Option, Some, None, Ok, Result, drop, refl, ap, sym}
+use Rattle.std.proofs.{Common.{subst, ◌∙◌}, lemmas.List.{append_cancel_left, append-nil}}
 use Rattle.std.specs.Prelude.{if◌then◌else◌}
-use Rattle.std.proofs.lemmas.List.{append_cancel_left, append-nil}
-use Rattle.fis_view.specs.Table.{Bits, Error, field}
-use Rattle.fis_view.specs.Seen.{seen}
-use Rattle.fis_view.specs.declared.view.Fis.{Fis}
+use Rattle.fis_view.specs.{Table.{Bits, Error, field}, Seen.seen, declared.view.{Fis.Fis, FisFault.FisFault}}
 use Rattle.fis_view.specs.declared.view.Fis.TheVariants as view
-use Rattle.fis_view.specs.declared.view.FisFault.{FisFault}
-use Rattle.disk_model.specs.declared.plan.DiskPlan.{DiskPlan}
-use Rattle.disk_model.specs.declared.plan.Order.{Order}
-use Rattle.disk_model.specs.declared.plan.Order.TheVariants.{Oldest, Newest}
-use Rattle.disk_model.specs.declared.request.Command.{Command}
-use Rattle.disk_model.specs.declared.request.Request.{Request}
-use Rattle.disk_model.specs.declared.request.Request.TheVariants.{Reset, Queue, ReadErrorLog, Identify, Flush, Other}
-use Rattle.disk_model.specs.declared.answer.Answer.{Answer}
-use Rattle.disk_model.specs.declared.answer.Answer.TheVariants.{Ended, PageData}
-use Rattle.disk_model.specs.declared.answer.Fault.{Fault}
-use Rattle.disk_model.specs.declared.answer.Page.{Page}
-use Rattle.disk_model.specs.Histories.{Happening, Received, Sent, Plugged}
-use Rattle.disk_model.specs.Requests.{request_of}
-use Rattle.disk_model.specs.Disks.{Started, Writing, opening, pick_turn, picked, turn}
-use Rattle.disk_model.specs.Runs.{IsDiskRun, IsTurn, moment}
-use Rattle.disk_model.specs.Ledger.{IsSize, Ledger, LogOf, Moving, Reply, ShowsPage, Signs, Wanted, answers, asks, awaits, awaits_page, given_up, has_error, ledger, ledger_after, listens, listens_down, listens_up, mixes, reads_log, takes_data}
-use Rattle.disk_model.specs.Ends.{FitsAll, Rests, reports, with_down, with_up, AreRight}
+use Rattle.disk_model.specs.declared.{plan.{DiskPlan.DiskPlan, Order.{Order, TheVariants.{Oldest, Newest}}}, request.Command.Command}
+use Rattle.disk_model.specs.declared.request.Request.{Request, TheVariants.{Reset, Queue, ReadErrorLog, Identify, Flush, Other}}
+use Rattle.disk_model.specs.{declared.answer.{Answer.{Answer, TheVariants.{Ended, PageData}}, Fault.Fault, Page.Page}, Histories.Happening}
+use Rattle.disk_model.specs.{Histories.{Received, Sent, Plugged}, Requests.request_of, Disks.{Started, Writing, opening, pick_turn, picked, turn}}
+use Rattle.disk_model.specs.{Runs.{IsDiskRun, IsTurn, moment}, Ledger.{IsSize, Ledger, LogOf, Moving, Reply, ShowsPage, Signs, Wanted, answers, asks}}
+use Rattle.disk_model.specs.Ledger.{awaits, awaits_page, given_up, has_error, ledger, ledger_after, listens, listens_down, listens_up, mixes}
+use Rattle.disk_model.specs.{Ledger.{reads_log, takes_data}, Ends.{FitsAll, Rests, reports, with_down, with_up, AreRight}, Anew.AreUnheard}
+use Rattle.disk_model.specs.Anew.{BeginsAnew, EndsTellTheSameAnew, IsCarefulSince, IsClear, IsLinkedOn, IsPassed, IsRequest, IsUnheard}
+use Rattle.disk_model.specs.{Anew.{LinkedSinceNew, OwesOnly, RestingIsSilent, RestsUntil}, Between.{AreApart, AreWanted, FitsOne, Moves, Ties, at}}
+use Rattle.disk_model.specs.Between.{ended_tags, pages_of, replies}
 use Rattle.disk_model.specs.Ends as link
-use Rattle.disk_model.specs.Anew.{AreUnheard, BeginsAnew, EndsTellTheSameAnew, IsCarefulSince, IsClear, IsLinkedOn, IsPassed, IsRequest, IsUnheard, LinkedSinceNew, OwesOnly, RestingIsSilent, RestsUntil}
 use Rattle.disk_model.specs.Anew as anew
-use Rattle.disk_model.specs.Between.{AreApart, AreWanted, FitsOne, Moves, Ties, at, ended_tags, pages_of, replies}
-use Rattle.disk_model.proofs.both_ends.EndsLemmas.{agree, careful_last, ledger_push, run_before, sent_right, tie_comes, tie_gives, tie_sends, tie_takes}
-use Rattle.disk_model.proofs.agreement.LawLemmas.{agrees, last_may}
+use Rattle.disk_model.proofs.both_ends.EndsLemmas.{agree, careful_last, ledger_push, run_before, sent_right, tie_comes, tie_gives, tie_sends}
+use Rattle.disk_model.proofs.{both_ends.EndsLemmas.tie_takes, agreement.LawLemmas.{agrees, last_may}}
 
 -- ## One more happening
 

@@ -1,24 +1,17 @@
 -- For `ends_tell_the_same`. A FIS that comes up and one that goes down at the same time may be told in either order.
-use Rattle.std.proofs.Common.{◌≡◌, ◌==◌, ◌&&◌, eqb, ℕ, Bool, true, false, List, [], ◌∷◌, ◌++◌, Option, Some, None, Ok, Err, Result, drop, length, refl, ap, sym, subst, ◌∙◌, cond, arith}
-use Rattle.std.specs.Prelude.{not, find, if◌then◌else◌}
-use Rattle.std.specs.List.{list_any}
-use Rattle.std.specs.Option.{option_or}
-use Rattle.std.proofs.lemmas.Bool.{true≢false, and_from, eq-eqb, eqb-true, or_from, or_parts}
-use Rattle.std.proofs.lemmas.Bool.Decides.{nat_tests}
-use Rattle.std.proofs.lemmas.List.Folds.{find-append, list_any-append}
-use Rattle.fis_view.specs.Table.{Bits, Setup, BufferId, Offset, SActive, Error, field}
+use Rattle.std.proofs.Common.{◌≡◌, ◌==◌, ◌&&◌, eqb, ℕ, Bool, true, false, List, [], ◌∷◌, ◌++◌, Option, Some, None, Ok, Err, Result, drop, length}
+use Rattle.std.proofs.{Common.{refl, ap, sym, subst, ◌∙◌, cond, arith}, lemmas.Bool.{true≢false, and_from, eq-eqb, eqb-true, or_from, or_parts}}
+use Rattle.std.proofs.lemmas.{Bool.Decides.nat_tests, List.Folds.{find-append, list_any-append}}
+use Rattle.std.specs.{Prelude.{not, find, if◌then◌else◌}, List.list_any, Option.option_or}
+use Rattle.fis_view.specs.{Table.{Bits, Setup, BufferId, Offset, SActive, Error, field}, declared.view.{Fis.Fis, FisFault.FisFault}}
 use Rattle.fis_view.specs.Table as table
-use Rattle.fis_view.specs.declared.view.Fis.{Fis}
 use Rattle.fis_view.specs.declared.view.Fis.TheVariants as view
-use Rattle.fis_view.specs.declared.view.FisFault.{FisFault}
-use Rattle.disk_model.specs.declared.request.Command.{Command}
-use Rattle.disk_model.specs.declared.request.Request.{Request}
-use Rattle.disk_model.specs.declared.request.Request.TheVariants.{Reset, Queue}
-use Rattle.disk_model.specs.Requests.{request_of}
-use Rattle.disk_model.specs.Ledger.{Ledger, Moving, Names, activates, answers, asks, ends, goes_on, has_error, is_auto, listens_down, listens_up, mixes, moves, refuses, sends_data, sets_up, starts_moving, takes_data, with_auto}
-use Rattle.disk_model.specs.Laws.{ActivatesRight, AnswersFirst, AsksOnce, CarriesNext, CarriesRight, SetsUpRight, ShowsFirst, StartsOne}
-use Rattle.disk_model.specs.Ends.{Fits, FitsData, FitsRequest, IsAskedFor, IsFree, IsRight, MovesOther, PageAsked, Rests, has}
-use Rattle.disk_model.specs.Between.{after_bytes, alone, but, has_tag, is_all, opened, with_bytes}
+use Rattle.disk_model.specs.{declared.request.{Command.Command, Request.{Request, TheVariants.{Reset, Queue}}}, Requests.request_of, Ledger.Ledger}
+use Rattle.disk_model.specs.Ledger.{Moving, Names, activates, answers, asks, ends, goes_on, has_error, is_auto, listens_down, listens_up, mixes}
+use Rattle.disk_model.specs.{Ledger.{moves, refuses, sends_data, sets_up, starts_moving, takes_data, with_auto}, Laws.{ActivatesRight, AnswersFirst}}
+use Rattle.disk_model.specs.{Laws.{AsksOnce, CarriesNext, CarriesRight, SetsUpRight, ShowsFirst, StartsOne}, Ends.{Fits, FitsData, FitsRequest}}
+use Rattle.disk_model.specs.{Ends.{IsAskedFor, IsFree, IsRight, MovesOther, PageAsked, Rests, has}, Between.{after_bytes, alone, but, has_tag}}
+use Rattle.disk_model.specs.Between.{is_all, opened, with_bytes}
 
 -- ## Lists
 

@@ -1,32 +1,22 @@
 -- For `ends_tell_the_same`. Both ends of a disk's link tell the same.
-use Rattle.std.proofs.Common.{◌≡◌, ◌==◌, eqb, ℕ, Bool, true, false, List, [], ◌∷◌, ◌++◌, Option, Some, None, Ok, Result, drop, refl, ap, sym, subst, ◌∙◌}
+use Rattle.std.proofs.Common.{◌≡◌, ◌==◌, eqb, ℕ, Bool, true, false, List, [], ◌∷◌, ◌++◌, Option, Some, None, Ok, Result, drop, refl, ap, sym, subst}
+use Rattle.std.proofs.{Common.{◌∙◌}, lemmas.{Bool.{true≢false}, List.Elements.{All-pop}}}
 use Rattle.std.specs.Prelude.{All, find}
-use Rattle.std.proofs.lemmas.Bool.{true≢false}
-use Rattle.std.proofs.lemmas.List.Elements.{All-pop}
-use Rattle.fis_view.specs.Table.{Bits, Setup, BufferId, Offset, Error, field}
+use Rattle.fis_view.specs.{Table.{Bits, Setup, BufferId, Offset, Error, field}, Seen.seen, declared.view.{Fis.Fis, FisFault.FisFault}}
 use Rattle.fis_view.specs.Table as table
-use Rattle.fis_view.specs.Seen.{seen}
-use Rattle.fis_view.specs.declared.view.Fis.{Fis}
 use Rattle.fis_view.specs.declared.view.Fis.TheVariants as view
-use Rattle.fis_view.specs.declared.view.FisFault.{FisFault}
-use Rattle.disk_model.specs.declared.plan.DiskPlan.{DiskPlan}
-use Rattle.disk_model.specs.declared.request.Command.{Command}
-use Rattle.disk_model.specs.declared.request.Request.{Request}
-use Rattle.disk_model.specs.declared.request.Request.TheVariants.{Reset, Queue}
-use Rattle.disk_model.specs.Histories.{Happening, Received, Sent, Plugged, Loaded}
-use Rattle.disk_model.specs.Requests.{request_of}
-use Rattle.disk_model.specs.Disks.{opening}
-use Rattle.disk_model.specs.Runs.{IsDiskRun}
-use Rattle.disk_model.specs.Ledger.{IsRead, IsSize, Ledger, Moving, ReadOut, activates, answers, asks, empty, ends, goes_on, has_error, is_auto, ledger, ledger_after, listens, listens_down, listens_up, sends_data, sets_up, starts_moving, takes_data, with_auto}
-use Rattle.disk_model.specs.Laws.{ErrsRight, IsPage, PageRight}
-use Rattle.disk_model.specs.Ends.{AreRight, DataAsked, EndsAgree, EndsTellTheSame, Fits, FitsAll, FitsData, FitsRequest, IsCareful, IsLinked, IsRight, MovesOther, PageAsked, Rests, begins, comes, gives, reports, sends, takes, with_down, with_up}
-use Rattle.disk_model.specs.Between.{AreApart, AreFit, FitsOne, Ties, after_bytes, alone, is_all, opened, with_bytes}
-use Rattle.disk_model.proofs.sent.AnswerLaws.{answers_right}
-use Rattle.disk_model.proofs.both_ends.CrossLemmas.{IsOpen, asks_fits, cross, data_down, free_before, goes_by, has_parts, never_empty, open_beside, opened_beside, opens_free}
-use Rattle.disk_model.proofs.both_ends.EntersLemmas.{apart_down, apart_up, entered_by, free_after}
-use Rattle.disk_model.proofs.sent.ErrorLaws.{errs_right}
-use Rattle.disk_model.proofs.agreement.LawLemmas.{agrees, answers_once, last_may}
-use Rattle.disk_model.proofs.sent.MovesLemmas.{moves_right}
+use Rattle.disk_model.specs.declared.{plan.DiskPlan.DiskPlan, request.{Command.Command, Request.{Request, TheVariants.{Reset, Queue}}}}
+use Rattle.disk_model.specs.{Histories.{Happening, Received, Sent, Plugged, Loaded}, Requests.request_of, Disks.opening, Runs.IsDiskRun}
+use Rattle.disk_model.specs.Ledger.{IsRead, IsSize, Ledger, Moving, ReadOut, activates, answers, asks, empty, ends, goes_on, has_error, is_auto}
+use Rattle.disk_model.specs.Ledger.{ledger, ledger_after, listens, listens_down, listens_up, sends_data, sets_up, starts_moving, takes_data}
+use Rattle.disk_model.specs.{Ledger.with_auto, Laws.{ErrsRight, IsPage, PageRight}, Ends.{AreRight, DataAsked, EndsAgree, EndsTellTheSame, Fits}}
+use Rattle.disk_model.specs.Ends.{FitsAll, FitsData, FitsRequest, IsCareful, IsLinked, IsRight, MovesOther, PageAsked, Rests, begins, comes, gives}
+use Rattle.disk_model.specs.{Ends.{reports, sends, takes, with_down, with_up}, Between.{AreApart, AreFit, FitsOne, Ties, after_bytes, alone, is_all}}
+use Rattle.disk_model.specs.Between.{opened, with_bytes}
+use Rattle.disk_model.proofs.{sent.AnswerLaws.answers_right, both_ends.CrossLemmas.{IsOpen, asks_fits, cross, data_down, free_before, goes_by}}
+use Rattle.disk_model.proofs.both_ends.{CrossLemmas.{has_parts, never_empty, open_beside, opened_beside, opens_free}, EntersLemmas.apart_down}
+use Rattle.disk_model.proofs.{both_ends.EntersLemmas.{apart_up, entered_by, free_after}, sent.ErrorLaws.errs_right, agreement.LawLemmas.agrees}
+use Rattle.disk_model.proofs.{agreement.LawLemmas.{answers_once, last_may}, sent.MovesLemmas.moves_right}
 
 -- ## What a command leaves, if it fits
 

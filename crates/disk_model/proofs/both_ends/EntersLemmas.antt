@@ -1,26 +1,17 @@
 -- For `ends_tell_the_same`. What each FIS that is right or fits leaves of the commands that ended and of the writes.
-use Rattle.std.proofs.Common.{◌≡◌, ◌==◌, eqb, ℕ, ◌*◌, Bool, true, false, List, [], ◌∷◌, ◌++◌, append_assoc, Option, Some, None, Ok, Result, drop, refl, ap, sym, subst, ◌∙◌, cond}
+use Rattle.std.proofs.Common.{◌≡◌, ◌==◌, eqb, ℕ, ◌*◌, Bool, true, false, List, [], ◌∷◌, ◌++◌, append_assoc, Option, Some, None, Ok, Result, drop}
+use Rattle.std.proofs.{Common.{refl, ap, sym, subst, ◌∙◌, cond}, lemmas.Bool.{eq-eqb, eqb-true, or_from, or_left, or_parts, or_right, true≢false}}
+use Rattle.std.proofs.lemmas.List.{append-nil, Elements.{All-append, All-cons, All-nil, All-weaker}, Folds.{list_any-append}}
 use Rattle.std.specs.Prelude.{All, find, not}
-use Rattle.std.proofs.lemmas.Bool.{eq-eqb, eqb-true, or_from, or_left, or_parts, or_right, true≢false}
-use Rattle.std.proofs.lemmas.List.{append-nil}
-use Rattle.std.proofs.lemmas.List.Elements.{All-append, All-cons, All-nil, All-weaker}
-use Rattle.std.proofs.lemmas.List.Folds.{list_any-append}
-use Rattle.fis_view.specs.Table.{Setup, BufferId, Offset, field}
+use Rattle.fis_view.specs.{Table.{Setup, BufferId, Offset, field}, Seen.seen, declared.view.{Fis.Fis, FisFault.FisFault}}
 use Rattle.fis_view.specs.Table as table
-use Rattle.fis_view.specs.Seen.{seen}
-use Rattle.fis_view.specs.declared.view.Fis.{Fis}
 use Rattle.fis_view.specs.declared.view.Fis.TheVariants as view
-use Rattle.fis_view.specs.declared.view.FisFault.{FisFault}
-use Rattle.disk_model.specs.declared.request.Command.{Command}
-use Rattle.disk_model.specs.declared.request.Request.{Request}
-use Rattle.disk_model.specs.declared.request.Request.TheVariants.{Reset, Queue}
-use Rattle.disk_model.specs.Histories.{Received, Sent}
-use Rattle.disk_model.specs.Requests.{request_of}
-use Rattle.disk_model.specs.Ledger.{Ledger, Moving, Written, activates, answered, ends, is_auto, listens, listens_down, listens_up, sends_data, sets_up, starts_moving, with_auto}
-use Rattle.disk_model.specs.Laws.{ActivatesRight, CarriesNext, CarriesRight, SetsUpRight, StartsOne}
-use Rattle.disk_model.specs.Ends.{AnswersNext, AreEntered, AreRight, Fits, FitsData, FitsRequest, IsBits, IsFree, IsRight, MovesOther, Rests, has, with_down, with_up}
-use Rattle.disk_model.specs.Between.{AreApart, AreFit, UpLeaves, after_bytes, alone, but, has_tag, is_all, opened}
-use Rattle.disk_model.specs.Between.{with_bytes}
+use Rattle.disk_model.specs.{declared.request.{Command.Command, Request.{Request, TheVariants.{Reset, Queue}}}, Histories.{Received, Sent}}
+use Rattle.disk_model.specs.{Requests.request_of, Ledger.{Ledger, Moving, Written, activates, answered, ends, is_auto, listens, listens_down}}
+use Rattle.disk_model.specs.{Ledger.{listens_up, sends_data, sets_up, starts_moving, with_auto}, Laws.{ActivatesRight, CarriesNext, CarriesRight}}
+use Rattle.disk_model.specs.{Laws.{SetsUpRight, StartsOne}, Ends.{AnswersNext, AreEntered, AreRight, Fits, FitsData, FitsRequest, IsBits, IsFree}}
+use Rattle.disk_model.specs.{Ends.{IsRight, MovesOther, Rests, has, with_down, with_up}, Between.{AreApart, AreFit, UpLeaves, after_bytes, alone}}
+use Rattle.disk_model.specs.Between.{but, has_tag, is_all, opened, with_bytes}
 use Rattle.disk_model.proofs.both_ends.CrossLemmas.{asks_fits, bits_up, but_free, data_down, found_not, goes_by, has_left, has_more}
 
 -- ## Tags

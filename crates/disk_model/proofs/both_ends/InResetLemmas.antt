@@ -1,25 +1,13 @@
 -- For `disks_in_reset_take_no_command`. A disk in software reset takes no command, and sends nothing.
 use Rattle.std.proofs.Common.{◌≡◌, ℕ, true, false, List, [], ◌∷◌, ◌++◌, Option, Some, None, Ok, Result, refl, ap, sym, subst, ◌∙◌}
-use Rattle.fis_view.specs.Seen.{seen}
-use Rattle.fis_view.specs.declared.view.Fis.{Fis}
+use Rattle.fis_view.specs.{Seen.seen, declared.view.{Fis.Fis, FisFault.FisFault}}
 use Rattle.fis_view.specs.declared.view.Fis.TheVariants as view
-use Rattle.fis_view.specs.declared.view.FisFault.{FisFault}
-use Rattle.disk_model.specs.declared.answer.Fault.TheVariants.{Held}
-use Rattle.disk_model.specs.declared.plan.DiskPlan.{DiskPlan}
-use Rattle.disk_model.specs.declared.plan.Order.{Order}
-use Rattle.disk_model.specs.declared.plan.Order.TheVariants.{Oldest, Newest}
-use Rattle.disk_model.specs.declared.request.Command.{Command}
-use Rattle.disk_model.specs.declared.request.Request.{Request}
-use Rattle.disk_model.specs.declared.request.Request.TheVariants.{Reset}
-use Rattle.disk_model.specs.Anew.{IsRequest, OwesOnly}
-use Rattle.disk_model.specs.Disks.{Moment, after, cleared, heard, moment_after, opening, pick_turn, picked, received, turn}
-use Rattle.disk_model.specs.Histories.{Happening, Received, Sent, sent_in}
-use Rattle.disk_model.specs.InReset.{IsHeldRun, LeavesReset, LeavesSet, NoneEndsReset, TakesNoCommand}
-use Rattle.disk_model.specs.Ledger.{Ledger, Signs, asks, ledger, ledger_after, listens, listens_down}
-use Rattle.disk_model.specs.Requests.{request_of}
-use Rattle.disk_model.specs.Runs.{IsTurn, Runs, moment}
-use Rattle.disk_model.proofs.both_ends.AnewLemmas.{after_more, held_is, held_ledger, held_signs}
-use Rattle.disk_model.proofs.turns.MomentLemmas.{moment_after-append}
+use Rattle.disk_model.specs.declared.{answer.Fault.TheVariants.Held, plan.{DiskPlan.DiskPlan, Order.{Order, TheVariants.{Oldest, Newest}}}}
+use Rattle.disk_model.specs.{declared.request.{Command.Command, Request.{Request, TheVariants.Reset}}, Anew.{IsRequest, OwesOnly}, Disks.Moment}
+use Rattle.disk_model.specs.{Disks.{after, cleared, heard, moment_after, opening, pick_turn, picked, received, turn}, Histories.{Happening, Received}}
+use Rattle.disk_model.specs.{Histories.{Sent, sent_in}, InReset.{IsHeldRun, LeavesReset, LeavesSet, NoneEndsReset, TakesNoCommand}, Ledger.Ledger}
+use Rattle.disk_model.specs.{Ledger.{Signs, asks, ledger, ledger_after, listens, listens_down}, Requests.request_of, Runs.{IsTurn, Runs, moment}}
+use Rattle.disk_model.proofs.{both_ends.AnewLemmas.{after_more, held_is, held_ledger, held_signs}, turns.MomentLemmas.{moment_after-append}}
 
 -- ## The disk
 

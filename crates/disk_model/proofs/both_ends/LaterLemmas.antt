@@ -1,30 +1,19 @@
 -- For `later_connections_tell_of_all`. A disk that is plugged in again.
-use Rattle.std.proofs.Common.{◌≡◌, ◌==◌, ◌&&◌, ℕ, zero, suc, ◌+◌, ◌*◌, Bool, true, false, List, [], ◌∷◌, ◌++◌, append_assoc, Option, Some, None, Ok, Result, drop, length, refl, ap, sym, subst, ◌∙◌, arith}
-use Rattle.std.specs.Prelude.{find, if◌then◌else◌, map, slice_get}
-use Rattle.std.specs.Option.{option_map}
-use Rattle.std.proofs.lemmas.List.{append-nil}
-use Rattle.fis_view.specs.Table.{Bits, BufferId, Error, Offset, Setup, field}
+use Rattle.std.proofs.Common.{◌≡◌, ◌==◌, ◌&&◌, ℕ, zero, suc, ◌+◌, ◌*◌, Bool, true, false, List, [], ◌∷◌, ◌++◌, append_assoc, Option, Some, None, Ok}
+use Rattle.std.proofs.{Common.{Result, drop, length, refl, ap, sym, subst, ◌∙◌, arith}, lemmas.List.{append-nil}}
+use Rattle.std.specs.{Prelude.{find, if◌then◌else◌, map, slice_get}, Option.option_map}
+use Rattle.fis_view.specs.{Table.{Bits, BufferId, Error, Offset, Setup, field}, Seen.seen, declared.view.{Fis.Fis, FisFault.FisFault}}
 use Rattle.fis_view.specs.Table as table
-use Rattle.fis_view.specs.Seen.{seen}
-use Rattle.fis_view.specs.declared.view.Fis.{Fis}
 use Rattle.fis_view.specs.declared.view.Fis.TheVariants as view
-use Rattle.fis_view.specs.declared.view.FisFault.{FisFault}
-use Rattle.disk_model.specs.declared.request.Command.{Command}
-use Rattle.disk_model.specs.declared.request.Request.{Request}
-use Rattle.disk_model.specs.declared.request.Request.TheVariants.{Reset, Queue}
-use Rattle.disk_model.specs.Histories.{Happening, Received, Sent, Plugged, Loaded}
-use Rattle.disk_model.specs.Requests.{request_of}
-use Rattle.disk_model.specs.Laws.{ActivatesRight, CarriesRight, SetsUpRight}
-use Rattle.disk_model.specs.Ledger.{Ledger, Moving, ReadOut, Written, activates, answers, empty, ends, has_error, is_auto, ledger, ledger_after, listens, listens_down, listens_up, moves, sends_data, sets_up, starts_moving, takes_data, with_auto}
-use Rattle.disk_model.specs.Ends.{Fits, FitsAll, FitsData, FitsRequest, IsCareful, IsLinked, IsRight, MovesOther, PageAsked, Rests}
+use Rattle.disk_model.specs.{declared.request.{Command.Command, Request.{Request, TheVariants.{Reset, Queue}}}, Histories.{Happening, Received, Sent}}
+use Rattle.disk_model.specs.{Histories.{Plugged, Loaded}, Requests.request_of, Laws.{ActivatesRight, CarriesRight, SetsUpRight}, Ledger.Ledger}
+use Rattle.disk_model.specs.Ledger.{Moving, ReadOut, Written, activates, answers, empty, ends, has_error, is_auto, ledger, ledger_after, listens}
+use Rattle.disk_model.specs.{Ledger.{listens_down, listens_up, moves, sends_data, sets_up, starts_moving, takes_data, with_auto}, Ends.Fits}
+use Rattle.disk_model.specs.{Ends.{FitsAll, FitsData, FitsRequest, IsCareful, IsLinked, IsRight, MovesOther, PageAsked, Rests}, Anew.IsLinkedOn}
+use Rattle.disk_model.specs.{Later.{LaterIsLinked, LaterTellsOfAll, TellsOfAll}, Between.{alone, with_bytes}}
 use Rattle.disk_model.specs.Ends as link
-use Rattle.disk_model.specs.Anew.{IsLinkedOn}
 use Rattle.disk_model.specs.Anew as anew
-use Rattle.disk_model.specs.Later.{LaterIsLinked, LaterTellsOfAll, TellsOfAll}
-use Rattle.disk_model.specs.Between.{alone, with_bytes}
-use Rattle.disk_model.proofs.both_ends.AnewLemmas.{after_more, begins_anew}
-use Rattle.disk_model.proofs.both_ends.CrossLemmas.{asks_fits}
-use Rattle.disk_model.proofs.both_ends.EndsLemmas.{ledger_push}
+use Rattle.disk_model.proofs.both_ends.{AnewLemmas.{after_more, begins_anew}, CrossLemmas.asks_fits, EndsLemmas.ledger_push}
 
 -- ## Links
 

@@ -1,23 +1,15 @@
 -- For `ends_tell_the_same_anew`. What was written stays written.
-use Rattle.std.proofs.Common.{◌≡◌, ◌==◌, ◌&&◌, ℕ, ◌*◌, Bool, true, false, List, [], ◌∷◌, ◌++◌, append_assoc, Option, Some, None, Ok, Result, drop, length, refl, ap, sym, ◌∙◌}
-use Rattle.std.specs.Prelude.{find, if◌then◌else◌}
-use Rattle.std.specs.List.{list_any}
-use Rattle.std.proofs.lemmas.List.{append-nil}
-use Rattle.fis_view.specs.Table.{Bits, BufferId, Error, Offset, Setup, field}
+use Rattle.std.proofs.Common.{◌≡◌, ◌==◌, ◌&&◌, ℕ, ◌*◌, Bool, true, false, List, [], ◌∷◌, ◌++◌, append_assoc, Option, Some, None, Ok, Result, drop}
+use Rattle.std.proofs.{Common.{length, refl, ap, sym, ◌∙◌}, lemmas.List.{append-nil}}
+use Rattle.std.specs.{Prelude.{find, if◌then◌else◌}, List.list_any}
+use Rattle.fis_view.specs.{Table.{Bits, BufferId, Error, Offset, Setup, field}, Seen.seen, declared.view.{Fis.Fis, FisFault.FisFault}}
 use Rattle.fis_view.specs.Table as table
-use Rattle.fis_view.specs.Seen.{seen}
-use Rattle.fis_view.specs.declared.view.Fis.{Fis}
 use Rattle.fis_view.specs.declared.view.Fis.TheVariants as view
-use Rattle.fis_view.specs.declared.view.FisFault.{FisFault}
-use Rattle.disk_model.specs.declared.request.Command.{Command}
-use Rattle.disk_model.specs.declared.request.Request.{Request}
-use Rattle.disk_model.specs.declared.request.Request.TheVariants.{Reset, Queue, ReadErrorLog, Identify, Flush, Other}
-use Rattle.disk_model.specs.Histories.{Happening, Received, Sent, Plugged, Loaded}
-use Rattle.disk_model.specs.Requests.{request_of}
-use Rattle.disk_model.specs.Ledger.{Accepts, Ledger, Moving, Written, activates, answers, asks, awaits, empty, ends, has_error, is_auto, ledger, ledger_after, listens, listens_down, listens_up, mixes, moves, reads_log, refuses, restarts, sends_data, sets_up, starts_moving, takes_data, with_auto, loaded}
-use Rattle.disk_model.specs.Anew.{WritesStay}
-use Rattle.disk_model.specs.Ends.{with_down}
-use Rattle.disk_model.specs.Between.{with_bytes}
+use Rattle.disk_model.specs.declared.request.{Command.Command, Request.{Request, TheVariants.{Reset, Queue, ReadErrorLog, Identify, Flush, Other}}}
+use Rattle.disk_model.specs.{Histories.{Happening, Received, Sent, Plugged, Loaded}, Requests.request_of, Ledger.{Accepts, Ledger, Moving, Written}}
+use Rattle.disk_model.specs.Ledger.{activates, answers, asks, awaits, empty, ends, has_error, is_auto, ledger, ledger_after, listens, listens_down}
+use Rattle.disk_model.specs.Ledger.{listens_up, mixes, moves, reads_log, refuses, restarts, sends_data, sets_up, starts_moving, takes_data, with_auto}
+use Rattle.disk_model.specs.{Ledger.loaded, Anew.WritesStay, Ends.with_down, Between.with_bytes}
 use Rattle.disk_model.proofs.both_ends.AnewLemmas.{after_more}
 
 pub record GoesOn (l x : Ledger) : Type 0 where

@@ -1,26 +1,17 @@
 -- For `reads_have_the_first_writes`. The writes that had ended when a read was started stay the first of all writes
 -- in the ledger.
-use Rattle.std.proofs.Common.{◌≡◌, ◌==◌, ◌&&◌, ℕ, zero, suc, subst, ◌*◌, Bool, true, false, List, [], ◌∷◌, ◌++◌, append_assoc, Option, Some, None, Ok, Result, drop, length, ap, sym, ◌∙◌}
-use Rattle.std.specs.Prelude.{find, if◌then◌else◌, slice_get}
-use Rattle.std.specs.List.{list_any}
-use Rattle.std.proofs.lemmas.List.{append-nil}
-use Rattle.fis_view.specs.Table.{Bits, BufferId, Error, Offset, Setup, field}
+use Rattle.std.proofs.Common.{◌≡◌, ◌==◌, ◌&&◌, ℕ, zero, suc, subst, ◌*◌, Bool, true, false, List, [], ◌∷◌, ◌++◌, append_assoc, Option, Some, None, Ok}
+use Rattle.std.proofs.{Common.{Result, drop, length, ap, sym, ◌∙◌}, lemmas.List.{append-nil}}
+use Rattle.std.specs.{Prelude.{find, if◌then◌else◌, slice_get}, List.list_any}
+use Rattle.fis_view.specs.{Table.{Bits, BufferId, Error, Offset, Setup, field}, Seen.seen, declared.view.{Fis.Fis, FisFault.FisFault}}
 use Rattle.fis_view.specs.Table as table
-use Rattle.fis_view.specs.Seen.{seen}
-use Rattle.fis_view.specs.declared.view.Fis.{Fis}
 use Rattle.fis_view.specs.declared.view.Fis.TheVariants as view
-use Rattle.fis_view.specs.declared.view.FisFault.{FisFault}
-use Rattle.disk_model.specs.declared.request.Command.{Command}
-use Rattle.disk_model.specs.declared.request.Request.{Request}
-use Rattle.disk_model.specs.declared.request.Request.TheVariants.{Reset, Queue, ReadErrorLog, Identify, Flush, Other}
-use Rattle.disk_model.specs.Histories.{Happening, Received, Sent, Plugged, Loaded}
-use Rattle.disk_model.specs.Requests.{request_of}
-use Rattle.disk_model.specs.Ledger.{Accepts, Ledger, Moving, ReadOut, Written, activates, answers, asks, awaits, empty, ends, has_error, is_auto, ledger, ledger_after, listens, listens_down, listens_up, mixes, moves, reads_log, refuses, restarts, sends_data, sets_up, starts_moving, takes_data, with_auto, loaded}
-use Rattle.disk_model.specs.Ends.{with_down}
-use Rattle.disk_model.specs.Fronts.{BeforeIsFront, HostIsAhead, IsFront}
-use Rattle.disk_model.specs.Between.{with_bytes}
-use Rattle.disk_model.proofs.both_ends.EntersLemmas.{all_writes_up}
-use Rattle.disk_model.proofs.both_ends.WrittenLemmas.{GoesOn, down_stays}
+use Rattle.disk_model.specs.declared.request.{Command.Command, Request.{Request, TheVariants.{Reset, Queue, ReadErrorLog, Identify, Flush, Other}}}
+use Rattle.disk_model.specs.{Histories.{Happening, Received, Sent, Plugged, Loaded}, Requests.request_of, Ledger.{Accepts, Ledger, Moving, ReadOut}}
+use Rattle.disk_model.specs.Ledger.{Written, activates, answers, asks, awaits, empty, ends, has_error, is_auto, ledger, ledger_after, listens}
+use Rattle.disk_model.specs.Ledger.{listens_down, listens_up, mixes, moves, reads_log, refuses, restarts, sends_data, sets_up, starts_moving}
+use Rattle.disk_model.specs.{Ledger.{takes_data, with_auto, loaded}, Ends.with_down, Fronts.{BeforeIsFront, HostIsAhead, IsFront}, Between.with_bytes}
+use Rattle.disk_model.proofs.both_ends.{EntersLemmas.all_writes_up, WrittenLemmas.{GoesOn, down_stays}}
 
 further : (front whole : List Written) (w : Written) → IsFront front whole → IsFront front (whole ++ w ∷ [])
 further front whole w f = record {

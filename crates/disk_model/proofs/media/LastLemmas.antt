@@ -1,17 +1,11 @@
 -- For `media_show_the_last_write`. A byte of a medium is that of the last write that has it.
-use Rattle.std.proofs.Common.{◌≡◌, ◌&&◌, ◌*◌, ℕ, zero, suc, ◌+◌, ◌-◌, ◌<◌, ◌≤◌, Bool, true, false, List, [], ◌∷◌, ◌++◌, All, drop, length, take, refl, ap, subst, sym, ◌∙◌, arith, inl, inr}
+use Rattle.std.proofs.Common.{◌≡◌, ◌&&◌, ◌*◌, ℕ, zero, suc, ◌+◌, ◌-◌, ◌<◌, ◌≤◌, Bool, true, false, List, [], ◌∷◌, ◌++◌, All, drop, length, take, refl}
+use Rattle.std.proofs.{Common.{ap, subst, sym, ◌∙◌, arith, inl, inr}, lemmas.{Bool.{cases_eq, Decides.nat_tests}, Grind.common_steps}}
+use Rattle.std.proofs.lemmas.List.{append-nil, take-append-drop, FromFn.{length-map-range_with_len}}
 use Rattle.std.specs.Prelude.{nat_le, nat_lt, if◌then◌else◌, slice_get}
-use Rattle.std.proofs.lemmas.Bool.{cases_eq}
-use Rattle.std.proofs.lemmas.Grind.{common_steps}
-use Rattle.std.proofs.lemmas.Bool.Decides.{nat_tests}
-use Rattle.std.proofs.lemmas.List.{append-nil, take-append-drop}
-use Rattle.std.proofs.lemmas.List.FromFn.{length-map-range_with_len}
-use Rattle.disk_model.specs.Chunks.{put}
-use Rattle.disk_model.specs.Disks.{opening_byte, opening_medium}
-use Rattle.disk_model.specs.Last.{Covers, LieOn, Lies, NoneCovers, ShowsTheLast}
-use Rattle.disk_model.specs.Ledger.{Written, medium_with, with_writes}
-use Rattle.disk_model.proofs.agreement.PlaceLemmas.{length-put}
-use Rattle.disk_model.proofs.media.PutLemmas.{lie_where_put}
+use Rattle.disk_model.specs.{Chunks.put, Disks.{opening_byte, opening_medium}, Last.{Covers, LieOn, Lies, NoneCovers, ShowsTheLast}, Ledger.Written}
+use Rattle.disk_model.specs.Ledger.{medium_with, with_writes}
+use Rattle.disk_model.proofs.{agreement.PlaceLemmas.{length-put}, media.PutLemmas.lie_where_put}
 
 -- for the first one, and for the others
 first_of : {X : Type 0} (P : X → Type 0) (x : X) (xs : List X) → All P (x ∷ xs) → P x

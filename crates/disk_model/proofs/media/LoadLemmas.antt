@@ -1,13 +1,8 @@
 -- For `loaded_disks_show_their_sectors`.
-use Rattle.std.proofs.Common.{◌≡◌, ◌*◌, ℕ, List, ◌∷◌, [], length, ap, sym, ◌∙◌}
-use Rattle.std.proofs.lemmas.List.FromFn.{length-map-range_with_len}
-use Rattle.disk_model.specs.Anew.{StayWritten}
-use Rattle.disk_model.specs.Disks.{opening_byte, opening_medium}
-use Rattle.disk_model.specs.Histories.{Loaded}
-use Rattle.disk_model.specs.Ledger.{ledger_after, with_writes}
+use Rattle.std.proofs.{Common.{◌≡◌, ◌*◌, ℕ, List, ◌∷◌, [], length, ap, sym, ◌∙◌}, lemmas.List.FromFn.{length-map-range_with_len}}
+use Rattle.disk_model.specs.{Anew.StayWritten, Disks.{opening_byte, opening_medium}, Histories.Loaded, Ledger.{ledger_after, with_writes}}
 use Rattle.disk_model.specs.Loads.{LoadedIsFirst, LoadedIsUnderWrites}
-use Rattle.disk_model.proofs.agreement.LawLemmas.{put_all}
-use Rattle.disk_model.proofs.both_ends.WrittenLemmas.{writes_stay}
+use Rattle.disk_model.proofs.{agreement.LawLemmas.put_all, both_ends.WrittenLemmas.writes_stay}
 
 pub loaded_is_first : LoadedIsFirst
 unfolding ledger_after

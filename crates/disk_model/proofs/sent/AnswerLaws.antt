@@ -1,17 +1,10 @@
 -- For `answers_commands_in_order`. Commands are answered in order.
 use Rattle.std.proofs.Common.{◌≡◌, ℕ, true, false, List, [], ◌∷◌, ◌++◌, ap, ◌∙◌}
-use Rattle.fis_view.specs.Table.{D2h, Pio, I, Status, Error, Lba, Count, D, Transfer, places, field}
-use Rattle.fis_view.specs.Built.{cut}
-use Rattle.fis_view.specs.Seen.{seen}
-use Rattle.disk_model.specs.declared.plan.DiskPlan.{DiskPlan}
-use Rattle.disk_model.specs.declared.answer.Answer.{Answer}
-use Rattle.disk_model.specs.declared.answer.Answer.TheVariants.{Signature, Accepted, Finished, Refused, Ended, PageFollows, PageData}
-use Rattle.disk_model.specs.Histories.{Happening, Sent}
-use Rattle.disk_model.specs.Sendings.{Sending, SetsUp, Activates, Carries, Shows, register, page_follows, answer_sent}
-use Rattle.disk_model.specs.Runs.{IsDiskRun}
-use Rattle.disk_model.specs.Ledger.{Ledger, IsSize, ledger}
-use Rattle.disk_model.specs.Laws.{IsRegister, AnswersRight}
-use Rattle.disk_model.specs.Between.{IsTransfer, replies}
+use Rattle.fis_view.specs.{Table.{D2h, Pio, I, Status, Error, Lba, Count, D, Transfer, places, field}, Built.cut, Seen.seen}
+use Rattle.disk_model.specs.declared.{plan.DiskPlan.DiskPlan, answer.Answer.{Answer, TheVariants.{Signature, Accepted, Finished, Refused, Ended}}}
+use Rattle.disk_model.specs.{declared.answer.Answer.TheVariants.{PageFollows, PageData}, Histories.{Happening, Sent}, Sendings.{Sending, SetsUp}}
+use Rattle.disk_model.specs.{Sendings.{Activates, Carries, Shows, register, page_follows, answer_sent}, Runs.IsDiskRun, Ledger.{Ledger, IsSize}}
+use Rattle.disk_model.specs.{Ledger.ledger, Laws.{IsRegister, AnswersRight}, Between.{IsTransfer, replies}}
 use Rattle.disk_model.proofs.sent.TurnCases.{sent_by}
 
 signs : (b : List ℕ) → Shows (register false 0x50 1 1) b → IsRegister D2h 0 0x50 1 1 b

@@ -1,32 +1,15 @@
 -- For `errors_are_of_their_command`. Each error is that of its command, and the log tells it.
 use Rattle.std.proofs.Common.{◌≡◌, ℕ, ◌%◌, ◌^◌, true, List, [], ◌∷◌, ◌++◌, Option, Some, None, drop, refl, ap, sym, subst, ◌∙◌, arith}
-use Rattle.fis_view.specs.Table.{Bits, Error, field}
-use Rattle.fis_view.specs.Seen.{seen}
-use Rattle.disk_model.specs.declared.plan.DiskPlan.{DiskPlan}
-use Rattle.disk_model.specs.declared.request.Command.{Command}
-use Rattle.disk_model.specs.declared.answer.Answer.{Answer}
-use Rattle.disk_model.specs.declared.answer.Answer.TheVariants.{Ended, PageData}
-use Rattle.disk_model.specs.declared.answer.Fault.{Fault}
-use Rattle.disk_model.specs.declared.answer.Fault.TheVariants.{Held, Mixed, Failed}
-use Rattle.disk_model.specs.declared.answer.Page.{Page}
-use Rattle.disk_model.specs.declared.answer.Page.TheVariants.{ErrorLog, Identity}
-use Rattle.disk_model.specs.Histories.{Happening, Sent}
-use Rattle.disk_model.specs.Pages.{error_log, page_bytes}
-use Rattle.disk_model.specs.Sendings.{Sending, SetsUp, Activates, Carries, Shows, answer_sent}
-use Rattle.disk_model.specs.Chunks.{chunks, chunk_setup, fault_of, report, error_of}
-use Rattle.disk_model.specs.Disks.{Moment, picked}
-use Rattle.disk_model.specs.Runs.{IsDiskRun}
-use Rattle.disk_model.specs.Ledger.{Ledger, Moving, Failure, Wanted, LogOf, IdentifyData, IsSize, ledger}
-use Rattle.disk_model.specs.Laws.{Fails, FailsNext, LogsNext, IsPage, ErrsRight}
-use Rattle.disk_model.specs.Between.{Agrees, AreWanted, IsIn, IsNoted, IsSized, IsTransfer, IsWanted, Moves, is_page}
-use Rattle.disk_model.specs.Between.{pages_of}
-use Rattle.disk_model.proofs.agreement.GeometryLemmas.{chunk_part, some_chunks}
-use Rattle.disk_model.proofs.agreement.ShowsLemmas.{error_field_tells, end_tells}
-use Rattle.disk_model.proofs.agreement.FaultLemmas.{FaultIs, fault_is, fault_small, can_be_done}
-use Rattle.disk_model.proofs.agreement.ListenLemmas.{page_goes}
-use Rattle.disk_model.proofs.agreement.TransferLemmas.{setup_of_chunk}
-use Rattle.disk_model.proofs.agreement.LawLemmas.{sized_by}
-use Rattle.disk_model.proofs.sent.TurnCases.{sent_by}
+use Rattle.fis_view.specs.{Table.{Bits, Error, field}, Seen.seen}
+use Rattle.disk_model.specs.declared.{plan.DiskPlan.DiskPlan, request.Command.Command, answer.Answer.{Answer, TheVariants.{Ended, PageData}}}
+use Rattle.disk_model.specs.declared.answer.{Fault.{Fault, TheVariants.{Held, Mixed, Failed}}, Page.{Page, TheVariants.{ErrorLog, Identity}}}
+use Rattle.disk_model.specs.{Histories.{Happening, Sent}, Pages.{error_log, page_bytes}, Sendings.{Sending, SetsUp, Activates, Carries, Shows}}
+use Rattle.disk_model.specs.{Sendings.answer_sent, Chunks.{chunks, chunk_setup, fault_of, report, error_of}, Disks.{Moment, picked}, Runs.IsDiskRun}
+use Rattle.disk_model.specs.{Ledger.{Ledger, Moving, Failure, Wanted, LogOf, IdentifyData, IsSize, ledger}, Laws.{Fails, FailsNext, LogsNext, IsPage}}
+use Rattle.disk_model.specs.{Laws.ErrsRight, Between.{Agrees, AreWanted, IsIn, IsNoted, IsSized, IsTransfer, IsWanted, Moves, is_page, pages_of}}
+use Rattle.disk_model.proofs.agreement.{GeometryLemmas.{chunk_part, some_chunks}, ShowsLemmas.{error_field_tells, end_tells}, FaultLemmas.FaultIs}
+use Rattle.disk_model.proofs.agreement.{FaultLemmas.{fault_is, fault_small, can_be_done}, ListenLemmas.page_goes, TransferLemmas.setup_of_chunk}
+use Rattle.disk_model.proofs.{agreement.LawLemmas.sized_by, sent.TurnCases.sent_by}
 
 -- ## Pages
 

@@ -1,29 +1,18 @@
 -- For `setups_name_what_moves`. Each FIS of a disk moves data as its command wants it.
-use Rattle.std.proofs.Common.{◌≡◌, ℕ, ◌+◌, ◌*◌, ◌<◌, ◌≤◌, Bool, true, false, List, [], ◌∷◌, ◌++◌, Option, Some, None, length, drop, refl, ap, sym, subst, ◌∙◌, arith}
+use Rattle.std.proofs.Common.{◌≡◌, ℕ, ◌+◌, ◌*◌, ◌<◌, ◌≤◌, Bool, true, false, List, [], ◌∷◌, ◌++◌, Option, Some, None, length, drop, refl, ap, sym}
+use Rattle.std.proofs.Common.{subst, ◌∙◌, arith}
 use Rattle.std.specs.Prelude.{not}
 use Rattle.fis_view.specs.Seen.{seen}
-use Rattle.disk_model.specs.declared.plan.DiskPlan.{DiskPlan}
-use Rattle.disk_model.specs.declared.request.Command.{Command}
-use Rattle.disk_model.specs.declared.answer.Answer.{Answer}
-use Rattle.disk_model.specs.declared.answer.Answer.TheVariants.{PageData}
-use Rattle.disk_model.specs.declared.answer.Fault.{Fault}
-use Rattle.disk_model.specs.Histories.{Happening, Sent}
-use Rattle.disk_model.specs.Sendings.{Sending, Shows, answer_sent}
-use Rattle.disk_model.specs.Chunks.{chunks, chunk_from, chunk_count, chunk_setup, sectors_at, fault_of}
-use Rattle.disk_model.specs.Disks.{Moment, Started, Writing, turn, read_turn, write_turn, pick_turn, picked, opening}
-use Rattle.disk_model.specs.Runs.{IsTurn, IsDiskRun, moment}
-use Rattle.disk_model.specs.Ledger.{Ledger, Moving, Stretch, IsSize, ledger}
-use Rattle.disk_model.specs.Laws.{SetsUpNext, AsksOnce, CarriesNext, MovesRight}
-use Rattle.disk_model.specs.Between.{AreSetUp, Asked, ChunkPart, Fresh, IsIn, IsQueue, IsReading, IsSized, IsWriting, Moves}
-use Rattle.disk_model.specs.Between.{SetUp, Stage, TellsSetup, begun_by, is_page, moved_sectors}
-use Rattle.disk_model.proofs.turns.SendLemmas.{sends_left_next}
-use Rattle.disk_model.proofs.agreement.GeometryLemmas.{moved_none, chunk_part, some_chunks}
-use Rattle.disk_model.proofs.agreement.SetupLemmas.{set_up_none, set_up_apart}
-use Rattle.disk_model.proofs.agreement.AgreeLemmas.{idle, reading, under, writing}
-use Rattle.disk_model.proofs.agreement.ListenLemmas.{page_goes}
-use Rattle.disk_model.proofs.agreement.TransferLemmas.{length-sectors_at, setup_of_chunk}
-use Rattle.disk_model.proofs.agreement.StartLemmas.{picked_in}
-use Rattle.disk_model.proofs.agreement.LawLemmas.{agrees, sized_by, last_may, same_turn}
+use Rattle.disk_model.specs.declared.{plan.DiskPlan.DiskPlan, request.Command.Command, answer.{Answer.{Answer, TheVariants.PageData}, Fault.Fault}}
+use Rattle.disk_model.specs.{Histories.{Happening, Sent}, Sendings.{Sending, Shows, answer_sent}, Chunks.{chunks, chunk_from, chunk_count}}
+use Rattle.disk_model.specs.{Chunks.{chunk_setup, sectors_at, fault_of}, Disks.{Moment, Started, Writing, turn, read_turn, write_turn, pick_turn}}
+use Rattle.disk_model.specs.{Disks.{picked, opening}, Runs.{IsTurn, IsDiskRun, moment}, Ledger.{Ledger, Moving, Stretch, IsSize, ledger}}
+use Rattle.disk_model.specs.{Laws.{SetsUpNext, AsksOnce, CarriesNext, MovesRight}, Between.{AreSetUp, Asked, ChunkPart, Fresh, IsIn, IsQueue}}
+use Rattle.disk_model.specs.Between.{IsReading, IsSized, IsWriting, Moves, SetUp, Stage, TellsSetup, begun_by, is_page, moved_sectors}
+use Rattle.disk_model.proofs.{turns.SendLemmas.sends_left_next, agreement.GeometryLemmas.{moved_none, chunk_part, some_chunks}}
+use Rattle.disk_model.proofs.agreement.{SetupLemmas.{set_up_none, set_up_apart}, AgreeLemmas.{idle, reading, under, writing}, ListenLemmas.page_goes}
+use Rattle.disk_model.proofs.agreement.{TransferLemmas.{length-sectors_at, setup_of_chunk}, StartLemmas.picked_in, LawLemmas.{agrees, sized_by}}
+use Rattle.disk_model.proofs.agreement.LawLemmas.{last_may, same_turn}
 
 -- an answer moves no command's data
 answer_moves : (l : Ledger) (sectors : ℕ) (plan : DiskPlan) (a : Answer) (b : List ℕ) → (is_page a ≡ true → l.moving ≡ None)

@@ -1,27 +1,13 @@
 -- For `is_silent_where_nothing_is_owed`. A disk that has nothing to send owes nothing.
 use Rattle.std.proofs.Common.{◌≡◌, ◌≢◌, ℕ, ◌-◌, ◌<◌, Bool, true, false, List, [], ◌∷◌, Option, Some, None, length, drop, refl, ap, ◌∙◌, arith}
 use Rattle.std.proofs.lemmas.Option.{slice_get-get_or}
-use Rattle.disk_model.specs.declared.plan.DiskPlan.{DiskPlan}
-use Rattle.disk_model.specs.declared.plan.Order.{Order}
-use Rattle.disk_model.specs.declared.plan.Order.TheVariants.{Oldest, Newest}
-use Rattle.disk_model.specs.declared.request.Command.{Command}
-use Rattle.disk_model.specs.declared.answer.Answer.{Answer}
-use Rattle.disk_model.specs.declared.answer.Fault.{Fault}
-use Rattle.disk_model.specs.Histories.{Happening}
-use Rattle.disk_model.specs.Sendings.{Sending}
-use Rattle.disk_model.specs.Chunks.{chunks, fault_of}
-use Rattle.disk_model.specs.Disks.{Moment, Started, Writing, turn, read_turn, write_turn, pick_turn, begun, picked}
-use Rattle.disk_model.specs.Runs.{IsDiskRun, moment}
-use Rattle.disk_model.specs.Ledger.{Ledger, Moving, Wanted, IsSize, ledger}
-use Rattle.disk_model.specs.Laws.{OwesNothing, SilentRight}
-use Rattle.disk_model.specs.Between.{AreWanted, Asked, IsQueue, IsReading, IsSized, IsWriting, Moves, Stage}
-use Rattle.disk_model.specs.Between.{begun_by, ended_tags, pages_of, replies}
-use Rattle.disk_model.proofs.turns.SendLemmas.{sends_left_next}
-use Rattle.disk_model.proofs.turns.TurnLemmas.{none_left}
-use Rattle.disk_model.proofs.agreement.GeometryLemmas.{some_chunks}
-use Rattle.disk_model.proofs.agreement.AgreeLemmas.{idle, reading, under, writing}
-use Rattle.disk_model.proofs.agreement.StartLemmas.{picked_in}
-use Rattle.disk_model.proofs.agreement.LawLemmas.{agrees, sized_by}
+use Rattle.disk_model.specs.declared.{plan.{DiskPlan.DiskPlan, Order.{Order, TheVariants.{Oldest, Newest}}}, request.Command.Command}
+use Rattle.disk_model.specs.{declared.answer.{Answer.Answer, Fault.Fault}, Histories.Happening, Sendings.Sending, Chunks.{chunks, fault_of}}
+use Rattle.disk_model.specs.{Disks.{Moment, Started, Writing, turn, read_turn, write_turn, pick_turn, begun, picked}, Runs.{IsDiskRun, moment}}
+use Rattle.disk_model.specs.{Ledger.{Ledger, Moving, Wanted, IsSize, ledger}, Laws.{OwesNothing, SilentRight}, Between.{AreWanted, Asked, IsQueue}}
+use Rattle.disk_model.specs.Between.{IsReading, IsSized, IsWriting, Moves, Stage, begun_by, ended_tags, pages_of, replies}
+use Rattle.disk_model.proofs.{turns.{SendLemmas.sends_left_next, TurnLemmas.none_left}, agreement.{GeometryLemmas.some_chunks, AgreeLemmas.idle}}
+use Rattle.disk_model.proofs.agreement.{AgreeLemmas.{reading, under, writing}, StartLemmas.picked_in, LawLemmas.{agrees, sized_by}}
 
 -- ## No turn
 

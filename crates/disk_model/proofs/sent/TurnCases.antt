@@ -1,22 +1,12 @@
 -- For `answers_commands_in_order`. The FISes that a disk may send next, by their purpose.
 use Rattle.std.proofs.Common.{◌≡◌, ℕ, ◌+◌, Bool, true, false, List, [], ◌∷◌, ◌++◌, Option, Some, None, drop, refl, ap, subst, ◌∙◌}
-use Rattle.disk_model.specs.declared.plan.DiskPlan.{DiskPlan}
-use Rattle.disk_model.specs.declared.request.Command.{Command}
-use Rattle.disk_model.specs.declared.answer.Answer.{Answer}
-use Rattle.disk_model.specs.declared.answer.Fault.{Fault}
-use Rattle.disk_model.specs.Histories.{Happening, Sent}
-use Rattle.disk_model.specs.Sendings.{Sending, Activates, Carries}
-use Rattle.disk_model.specs.Chunks.{chunks, chunk_from, chunk_count, chunk_setup, sectors_at, fault_of}
-use Rattle.disk_model.specs.Disks.{Moment, Started, Writing, turn, read_turn, write_turn, pick_turn, picked, opening}
-use Rattle.disk_model.specs.Runs.{IsTurn, IsDiskRun, moment}
-use Rattle.disk_model.specs.Ledger.{Moving, IsSize, ledger}
-use Rattle.disk_model.specs.Between.{Agrees, Asked, Fresh, InEachCase, IsIn, IsQueue, IsReading, IsSized, IsWriting, Moves}
-use Rattle.disk_model.specs.Between.{SetUp, Stage, begun_by}
-use Rattle.disk_model.proofs.turns.SendLemmas.{sends_left_next}
-use Rattle.disk_model.proofs.agreement.GeometryLemmas.{some_chunks}
-use Rattle.disk_model.proofs.agreement.AgreeLemmas.{idle, reading, under, writing}
-use Rattle.disk_model.proofs.agreement.StartLemmas.{picked_in}
-use Rattle.disk_model.proofs.agreement.LawLemmas.{agrees, sized_by, last_may, same_turn}
+use Rattle.disk_model.specs.{declared.{plan.DiskPlan.DiskPlan, request.Command.Command, answer.{Answer.Answer, Fault.Fault}}, Histories.Happening}
+use Rattle.disk_model.specs.{Histories.Sent, Sendings.{Sending, Activates, Carries}, Chunks.{chunks, chunk_from, chunk_count, chunk_setup}}
+use Rattle.disk_model.specs.{Chunks.{sectors_at, fault_of}, Disks.{Moment, Started, Writing, turn, read_turn, write_turn, pick_turn, picked, opening}}
+use Rattle.disk_model.specs.{Runs.{IsTurn, IsDiskRun, moment}, Ledger.{Moving, IsSize, ledger}, Between.{Agrees, Asked, Fresh, InEachCase, IsIn}}
+use Rattle.disk_model.specs.Between.{IsQueue, IsReading, IsSized, IsWriting, Moves, SetUp, Stage, begun_by}
+use Rattle.disk_model.proofs.{turns.SendLemmas.sends_left_next, agreement.{GeometryLemmas.some_chunks, AgreeLemmas.{idle, reading, under, writing}}}
+use Rattle.disk_model.proofs.agreement.{StartLemmas.picked_in, LawLemmas.{agrees, sized_by, last_may, same_turn}}
 
 begins_by : (plan : DiskPlan) (sectors : ℕ) (m : Moment) (owed : List Answer) (c : Command) (bad : Option Fault) (write : Bool)
     (b : List ℕ) (P : Type 0) → IsSized plan → InEachCase plan sectors m.queued owed None b P

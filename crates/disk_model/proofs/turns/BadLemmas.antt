@@ -1,14 +1,11 @@
 -- For the calls of a disk. The lowest bad sector that a fold over the bad ones finds is the command's first bad
 -- sector.
-use Rattle.std.proofs.Common.{◌≡◌, ℕ, zero, suc, ◌+◌, ◌-◌, ◌≤◌, ◌<◌, ◌==◌, ◌&&◌, ◌||◌, ◌⊎◌, min, Bool, true, false, cond, List, [], ◌∷◌, Option, Some, None, refl, sym, ap, ◌∙◌, arith, inl, inr}
-use Rattle.std.specs.Prelude.{fold, nat_le, nat_lt}
-use Rattle.std.specs.List.{find, range_with_len}
-use Rattle.std.proofs.Math.Bool.{or-false, or_assoc}
-use Rattle.std.proofs.Math.Nat.{min-le_left, min-le_right, min-eq_left, min-eq_right}
-use Rattle.std.proofs.lemmas.Bool.{cases_Bool, cases_eq, eq-eqb, eqb-true, le-leb, leb-false, leb-true, lt-ltb, ltb-true, or_cases, or_from}
-use Rattle.disk_model.specs.declared.request.Command.{Command}
-use Rattle.disk_model.specs.Chunks.{is_bad, first_bad}
-use Rattle.disk_model.specs.Insides.{is_of, lower_bad, lower_of}
+use Rattle.std.proofs.Common.{◌≡◌, ℕ, zero, suc, ◌+◌, ◌-◌, ◌≤◌, ◌<◌, ◌==◌, ◌&&◌, ◌||◌, ◌⊎◌, min, Bool, true, false, cond, List, [], ◌∷◌, Option, Some}
+use Rattle.std.proofs.{Common.{None, refl, sym, ap, ◌∙◌, arith, inl, inr}, Math.{Bool.{or-false, or_assoc}, Nat.{min-le_left, min-le_right}}}
+use Rattle.std.proofs.{Math.Nat.{min-eq_left, min-eq_right}, lemmas.Bool.{cases_Bool, cases_eq, eq-eqb, eqb-true, le-leb, leb-false, leb-true}}
+use Rattle.std.proofs.lemmas.Bool.{lt-ltb, ltb-true, or_cases, or_from}
+use Rattle.std.specs.{Prelude.{fold, nat_le, nat_lt}, List.{find, range_with_len}}
+use Rattle.disk_model.specs.{declared.request.Command.Command, Chunks.{is_bad, first_bad}, Insides.{is_of, lower_bad, lower_of}}
 
 -- what was found is the lowest of count numbers, from from on, for which the test holds
 record IsLowest (test : ℕ → Bool) (from count : ℕ) (found : Option ℕ) : Type 0 where

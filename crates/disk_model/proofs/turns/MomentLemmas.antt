@@ -1,14 +1,11 @@
 -- For the calls of a disk. What one more event makes of a disk.
 use Rattle.std.proofs.Common.{◌≡◌, drop, ℕ, List, [], ◌∷◌, ◌++◌, Some, None, Result, Ok, refl, ap, sym, subst, ◌∙◌}
-use Rattle.fis_view.specs.declared.view.Fis.{Fis}
+use Rattle.fis_view.specs.declared.view.{Fis.Fis, FisFault.FisFault}
 use Rattle.fis_view.specs.declared.view.Fis.TheVariants as view
-use Rattle.fis_view.specs.declared.view.FisFault.{FisFault}
-use Rattle.disk_model.specs.declared.request.Request.{Request}
-use Rattle.disk_model.specs.Requests.{request_of}
-use Rattle.disk_model.specs.Histories.{Happening, Sent, GoesOn, SendsNext, IsSilent}
-use Rattle.disk_model.specs.declared.plan.DiskPlan.{DiskPlan}
-use Rattle.disk_model.specs.Disks.{Moment, DiskValue, Turn, moment_after, after, after_turn, opening, turn, with_now, heard, received, data_taken}
-use Rattle.disk_model.specs.Runs.{MayHappen, Runs, IsTurn, Takes, Gave, moment, disk_plan, DiskStandsFor, DiskMaySend}
+use Rattle.disk_model.specs.{declared.request.Request.Request, Requests.request_of, Histories.{Happening, Sent, GoesOn, SendsNext, IsSilent}}
+use Rattle.disk_model.specs.{declared.plan.DiskPlan.DiskPlan, Disks.{Moment, DiskValue, Turn, moment_after, after, after_turn, opening, turn}}
+use Rattle.disk_model.specs.{Disks.{with_now, heard, received, data_taken}, Runs.{MayHappen, Runs, IsTurn, Takes, Gave, moment, disk_plan}}
+use Rattle.disk_model.specs.Runs.{DiskStandsFor, DiskMaySend}
 
 pub moment_after-append : (plan : DiskPlan) (sectors : ℕ) (m : Moment) (h : List Happening) (e : Happening) → moment_after plan sectors m (h ++ e ∷ []) ≡ after plan sectors (moment_after plan sectors m h) e
 unfolding moment_after

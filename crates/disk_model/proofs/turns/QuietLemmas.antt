@@ -1,17 +1,13 @@
 -- For the calls of a disk. What a disk sends next, by its kind, and what it leaves once that was sent to nobody.
-use Rattle.std.proofs.Common.{◌≡◌, rules, ℕ, zero, suc, ◌+◌, ◌<◌, Bool, true, false, List, [], ◌∷◌, Option, Some, None, length, drop, refl, ap, subst, ◌∙◌, arith}
+use Rattle.std.proofs.Common.{◌≡◌, rules, ℕ, zero, suc, ◌+◌, ◌<◌, Bool, true, false, List, [], ◌∷◌, Option, Some, None, length, drop, refl, ap, subst}
+use Rattle.std.proofs.Common.{◌∙◌, arith}
 use Rattle.std.specs.Prelude.{◌%◌, ◌==◌, ◌&&◌, if◌then◌else◌, is_some, is_none}
-use Rattle.disk_model.specs.declared.request.Command.{Command}
-use Rattle.disk_model.specs.declared.answer.Answer.{Answer}
-use Rattle.disk_model.specs.declared.answer.Answer.TheVariants.{Signature}
-use Rattle.disk_model.specs.declared.plan.DiskPlan.{DiskPlan}
-use Rattle.disk_model.specs.declared.disk.Reading.{Reading}
-use Rattle.disk_model.specs.declared.disk.quiet.Due.TheVariants as due
-use Rattle.disk_model.specs.Sendings.{Sending, SetsBits, SetsUp, answer_sent}
-use Rattle.disk_model.specs.Chunks.{activations, asks_for, fault_of, sends_left}
-use Rattle.disk_model.specs.Disks.{DiskValue, Moment, Started, Writing, after_turn, answer_turn, idle_turn, picked, read_turn, starts, turn, waiting_turn, went, with_now, write_turn}
-use Rattle.disk_model.specs.Insides.{sends_after, sends_of}
+use Rattle.disk_model.specs.declared.{request.Command.Command, answer.Answer.{Answer, TheVariants.Signature}, plan.DiskPlan.DiskPlan}
+use Rattle.disk_model.specs.{declared.disk.Reading.Reading, Sendings.{Sending, SetsBits, SetsUp, answer_sent}, Chunks.{activations, asks_for}}
+use Rattle.disk_model.specs.{Chunks.{fault_of, sends_left}, Disks.{DiskValue, Moment, Started, Writing, after_turn, answer_turn, idle_turn, picked}}
+use Rattle.disk_model.specs.{Disks.{read_turn, starts, turn, waiting_turn, went, with_now, write_turn}, Insides.{sends_after, sends_of}}
 use Rattle.disk_model.specs.Quiet.{after_next, due_by, kind_of, starts_write}
+use Rattle.disk_model.specs.declared.disk.quiet.Due.TheVariants as due
 use Rattle.disk_model.proofs.turns.SendLemmas.{sends_left_next}
 
 -- ## Reads

@@ -1,11 +1,8 @@
 -- For `Disk::is_at_rest`. What a disk at rest is.
 use Rattle.std.proofs.Common.{◌≡◌, ◌==◌, ◌&&◌, ℕ, ◌*◌, Bool, true, false, List, [], ◌∷◌, Option, Some, None, length, ap, refl, rules, subst, sym}
 use Rattle.std.specs.Prelude.{is_none, not}
-use Rattle.disk_model.specs.declared.plan.DiskPlan.{DiskPlan}
-use Rattle.disk_model.specs.Disks.{DiskValue, Moment, moment_after, new_with, opening_medium}
-use Rattle.disk_model.specs.Histories.{Loaded}
-use Rattle.disk_model.specs.Quiet.{is_at_rest}
-use Rattle.disk_model.specs.Runs.{DiskStandsFor, Runs}
+use Rattle.disk_model.specs.{declared.plan.DiskPlan.DiskPlan, Disks.{DiskValue, Moment, moment_after, new_with, opening_medium}, Histories.Loaded}
+use Rattle.disk_model.specs.{Quiet.is_at_rest, Runs.{DiskStandsFor, Runs}}
 use Rattle.disk_model.proofs.turns.MomentLemmas.{disk_opens}
 
 -- a disk at rest has nothing queued and owes nothing, and takes commands

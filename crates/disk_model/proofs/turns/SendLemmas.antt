@@ -1,11 +1,8 @@
 -- For the calls of a disk. The next FIS of a transfer.
 use Rattle.std.proofs.Common.{◌≡◌, ℕ, zero, suc, ◌+◌, ◌-◌, ◌*◌, ◌<◌, Bool, true, false, List, ◌∷◌, length, take, drop, refl, ap, sym, arith}
 use Rattle.std.specs.Prelude.{not}
-use Rattle.disk_model.specs.declared.request.Command.{Command}
-use Rattle.disk_model.specs.declared.plan.DiskPlan.{DiskPlan}
-use Rattle.disk_model.specs.declared.disk.Reading.{Reading}
-use Rattle.disk_model.specs.Sendings.{Sending, Activates, Shows, Carries, setup}
-use Rattle.disk_model.specs.Chunks.{activations, sends_left, asks_for, chunk_setup, chunk_from, chunk_count, sectors_at}
+use Rattle.disk_model.specs.{declared.{request.Command.Command, plan.DiskPlan.DiskPlan, disk.Reading.Reading}, Sendings.{Sending, Activates, Shows}}
+use Rattle.disk_model.specs.{Sendings.{Carries, setup}, Chunks.{activations, sends_left, asks_for, chunk_setup, chunk_from, chunk_count, sectors_at}}
 use Rattle.disk_model.specs.Insides.{sends_of, sends_after, Leads}
 
 pub sends_left_next : (plan : DiskPlan) (medium : List ℕ) (c : Command) (left : ℕ) → 0 < left

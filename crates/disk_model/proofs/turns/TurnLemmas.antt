@@ -1,21 +1,11 @@
 -- For the calls of a disk. What a disk's turn is, from the facts that its code has.
-use Rattle.std.proofs.Common.{◌≡◌, ◌≢◌, ℕ, ◌-◌, ◌<◌, Bool, true, false, List, [], ◌∷◌, Some, None, length, get_or, drop, refl, ap, sym, subst, ◌∙◌, arith}
+use Rattle.std.proofs.Common.{◌≡◌, ◌≢◌, ℕ, ◌-◌, ◌<◌, Bool, true, false, List, [], ◌∷◌, Some, None, length, get_or, drop, refl, ap, sym, subst, ◌∙◌}
+use Rattle.std.proofs.{Common.arith, lemmas.{List.Elements.{All-get_or}, Option.{get_or_from_slice_get, slice_get_within}}}
 use Rattle.std.specs.Prelude.{Result, Ok, Err, OnErr, All, slice_get}
-use Rattle.std.proofs.lemmas.List.Elements.{All-get_or}
-use Rattle.std.proofs.lemmas.Option.{get_or_from_slice_get, slice_get_within}
-use Rattle.disk_model.specs.declared.request.Command.{Command}
-use Rattle.disk_model.specs.declared.answer.Answer.{Answer}
-use Rattle.disk_model.specs.declared.plan.DiskPlan.{DiskPlan}
-use Rattle.disk_model.specs.declared.plan.Order.{Order}
-use Rattle.disk_model.specs.declared.plan.Order.TheVariants.{Oldest, Newest}
-use Rattle.disk_model.specs.declared.disk.Reading.{Reading}
-use Rattle.disk_model.specs.declared.disk.Transfer.TheVariants.{Read}
-use Rattle.disk_model.specs.Requests.{IsCounted}
-use Rattle.disk_model.specs.Sendings.{Sending, Shows, answer_sent}
-use Rattle.disk_model.specs.Chunks.{sends_left, chunks, fault_of}
-use Rattle.disk_model.specs.Disks.{Moment, Turn, turn, went, ended, picked, starts, read_turn}
-use Rattle.disk_model.specs.Runs.{Takes}
-use Rattle.disk_model.specs.Insides.{sends_of, sends_after, moved, started_by, Leads}
+use Rattle.disk_model.specs.declared.{request.Command.Command, answer.Answer.Answer, plan.{DiskPlan.DiskPlan, Order.{Order, TheVariants.Oldest}}}
+use Rattle.disk_model.specs.{declared.{plan.Order.TheVariants.Newest, disk.{Reading.Reading, Transfer.TheVariants.Read}}, Requests.IsCounted}
+use Rattle.disk_model.specs.{Sendings.{Sending, Shows, answer_sent}, Chunks.{sends_left, chunks, fault_of}, Disks.{Moment, Turn, turn, went, ended}}
+use Rattle.disk_model.specs.{Disks.{picked, starts, read_turn}, Runs.Takes, Insides.{sends_of, sends_after, moved, started_by, Leads}}
 use Rattle.disk_model.proofs.turns.SendLemmas.{sends_left_next}
 
 -- ## The command that starts next

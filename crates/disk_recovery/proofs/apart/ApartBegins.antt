@@ -1,21 +1,20 @@
 -- For `begins_anew_apart`. A device is set aside at each stage of slot 30, and driver and disk begin anew.
-use Rattle.std.proofs.Common.{◌≡◌, ℕ, ◌<◌, Bool, true, false, eqb, List, [], ◌∷◌, length, refl, sym, ◌∙◌, ap, subst, inl, inr, arith, Option, Some, None}
+use Rattle.std.proofs.Common.{◌≡◌, ℕ, ◌<◌, Bool, true, false, eqb, List, [], ◌∷◌, length, refl, sym, ◌∙◌, ap, subst, inl, inr, arith, Option, Some}
+use Rattle.std.proofs.{Common.None, lemmas.Bool.{cases_Bool, eq-eqb, false≢true, true≢false}}
 use Rattle.std.specs.Prelude.{◌⊎◌, ◌&&◌, ◌||◌, if◌then◌else◌, not}
-use Rattle.std.proofs.lemmas.Bool.{cases_Bool, eq-eqb, false≢true, true≢false}
 use Rattle.hba_commands.specs.Requests.{request_of, work_of}
 use Rattle.slots.specs.{Slots.{Issue, own_issue}, Work.is_queued, declared.work.Work.Work}
 use Rattle.hba_fbs.specs.Views.{view_of}
 use Rattle.disk_model.specs.{Anew.OwesOnly, Histories.Happening, Ledger.{ShowsPage, Wanted, ledger}}
-use Rattle.hba_laws.specs.{Agreement.{IsHistoryOf, IssueAgrees, is_for}, Client.{Touches, own}}
-use Rattle.hba_laws.specs.History.{Answered, History, Issued, Sent, Transfer, is_at, issued, unless, waiting_in}
+use Rattle.hba_laws.specs.{Agreement.{IsHistoryOf, IssueAgrees, is_for}, Client.{Touches, own}, History.{Answered, History, Issued, Sent, Transfer}}
+use Rattle.hba_laws.specs.History.{is_at, issued, unless, waiting_in}
 use Rattle.hba_laws.proofs.Door.{at_is, some_inj, the_transfer}
 use Rattle.disk_simulation.specs.{Anew.IsAwaited, Joined.SentAgrees, Together.{IsWaitedUnset, NoneQueued, is_sent}}
 use Rattle.disk_simulation.specs.Aside as aside
 use Rattle.hba_driver.specs.declared.{path.Stage.TheVariants.{AwaitReset, ReleaseReset}, slot.Phase.{Phase, TheVariants.{Aside, Ended}}}
 use Rattle.hba_driver.specs.{Drivers.{Entry, has_ended_in, is_aside_in, is_issued_in, waits_in}, Events.{IsSoundHost, shared_by}, HostTurns.Host}
-use Rattle.hba_driver.specs.{Orders.log_fields, Served.IsServed}
-use Rattle.hba_driver.specs.Slot30.{IsApart30, IsAt30, IsSent30, IsUnsought, LogSent, Off, ReadsLog, Resets, Stage30, is_faulty}
-use Rattle.hba_driver.specs.Tended.{Awaits, IsAtStage, IsLiveAt, IsReleasing, IsTended, IsTendedBy, Logs, Releases}
+use Rattle.hba_driver.specs.{Orders.log_fields, Served.IsServed, Slot30.{IsApart30, IsAt30, IsSent30, IsUnsought, LogSent, Off, ReadsLog, Resets}}
+use Rattle.hba_driver.specs.{Slot30.{Stage30, is_faulty}, Tended.{Awaits, IsAtStage, IsLiveAt, IsReleasing, IsTended, IsTendedBy, Logs, Releases}}
 use Rattle.hba_driver.proofs.Door.{alone_issue, is_alone}
 use Rattle.disk_recovery.proofs.{together.TogetherBegins.{log_begins_served, reset_begins_served}, honest.TurnLemmas.plain_since}
 use Rattle.disk_recovery.specs.Apart.{AsideAt, LogBegins, ResetBegins, ServesFrom}

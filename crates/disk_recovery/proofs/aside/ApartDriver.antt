@@ -1,34 +1,30 @@
 -- For `ends_go_on`. What the driver and the port do with a device that is set aside: from stage to stage of slot 30,
 -- and to its reset where they went there.
 use Rattle.std.proofs.Common.{◌≡◌, ◌≢◌, ℕ, ◌<◌, ◌||◌, Bool, true, false, nat_lt, List, length, refl, sym, ap, subst, ◌∙◌, inl, inr, arith, Option}
-use Rattle.std.proofs.Common.{Some, None}
+use Rattle.std.proofs.{Common.{Some, None}, lemmas.Bool.{cases_eq, false≢true, le-ltb, true≢false, Decides.nat_tests}}
 use Rattle.std.specs.{Prelude.{◌⊎◌, if◌then◌else◌, is_some, ◌%◌, ◌/◌, ◌==◌}, Option.{option_map, option_or}}
-use Rattle.std.proofs.lemmas.{Bool.{cases_eq, false≢true, le-ltb, true≢false}, Bool.Decides.nat_tests}
 use Rattle.fis_view.specs.{Built.{IsBuilt, h2d_given}, Frames.{IsFrame, Stamped, marked}, Table.{H2d, field}, declared.build.H2dFields.H2dFields}
 use Rattle.fis_view.specs.Table as name
 use Rattle.hba_commands.proofs.Door.{built_long}
 use Rattle.slots.specs.Slots.{has_bit}
-use Rattle.hba_fbs.specs.{Sending.{Data, Gives, Order as Goes, Outgoing, outgoing}, Taking.{ignores, is_running, port_of}}
-use Rattle.hba_fbs.specs.Views.{DeviceView, stopped_view, view_of}
+use Rattle.hba_fbs.specs.{Sending.{Data, Gives, Order as Goes, Outgoing, outgoing}, Taking.{ignores, is_running, port_of}, Views.DeviceView}
+use Rattle.hba_fbs.specs.Views.{stopped_view, view_of}
 use Rattle.disk_model.specs.declared.request.Request.TheVariants as asked
 use Rattle.disk_model.specs.{Anew.IsRequest, Requests.{command_request, names_error_log, request_of}}
 use Rattle.disk_simulation.proofs.Door.{marks_ask_nothing}
 use Rattle.hba_laws.specs.Client.{Touches}
 use Rattle.hba_laws.proofs.Door.{some_inj}
 use Rattle.hba_driver.specs.declared.{mode.Mode.TheVariants.Switching, path.Recovery.{Recovery, TheVariants.{Log, Reset}}}
-use Rattle.hba_driver.specs.declared.{path.Stage.TheVariants.ReadLog, plan.Device.TheVariants.{Ready, Recovering}, plan.Plan.Plan}
-use Rattle.hba_driver.specs.declared.slot.Phase.{Phase, TheVariants.{Aside, Ended}}
-use Rattle.hba_driver.specs.Drivers.{Driver, Entry, device_at, has_ended_in, is_aside_in, is_issued_in, waits_in}
-use Rattle.hba_driver.specs.Effects.{ActsAll, clearing, effects_of}
-use Rattle.hba_driver.specs.{HostTurns.{Does, Host, HostTurn, Polled, Pushed, Put, Submitted, Ticked, Took, sight_in}, Orders.{control, log_fields}}
-use Rattle.hba_driver.specs.Sights.{file_shown}
-use Rattle.hba_driver.specs.Slot30.{Asks, Cleared, Clears, Faulty, FindsNone, IsAt30, IsCleared, IsLogged, IsNext30, IsOn30, IsUnflushed, IsUnsought}
+use Rattle.hba_driver.specs.declared.{path.Stage.TheVariants.ReadLog, plan.{Device.TheVariants.{Ready, Recovering}, Plan.Plan}, slot.Phase.Phase}
+use Rattle.hba_driver.specs.{declared.slot.Phase.TheVariants.{Aside, Ended}, Drivers.{Driver, Entry, device_at, has_ended_in, is_aside_in}}
+use Rattle.hba_driver.specs.{Drivers.{is_issued_in, waits_in}, Effects.{ActsAll, clearing, effects_of}, HostTurns.{Does, Host, HostTurn, Polled}}
+use Rattle.hba_driver.specs.{HostTurns.{Pushed, Put, Submitted, Ticked, Took, sight_in}, Orders.{control, log_fields}, Sights.file_shown, Slot30.Asks}
+use Rattle.hba_driver.specs.Slot30.{Cleared, Clears, Faulty, FindsNone, IsAt30, IsCleared, IsLogged, IsNext30, IsOn30, IsUnflushed, IsUnsought}
 use Rattle.hba_driver.specs.Slot30.{MayCome30, Off, On, Sets, Stage30, TakesOn30, TicksOn30, Turns30, fields30, is_faulty, sent30}
-use Rattle.hba_driver.specs.Steady.{IsCalmTick, IsClearTick, IsFine, IsFlushTick, detects}
-use Rattle.hba_driver.specs.Tended.{Awaits, Fine, Identifies, IsLiveAt, IsTended, IsTendedBy, Logs, Releases, Spoilt, TendsOn}
-use Rattle.hba_driver.specs.Ticks.{acted, after_tick, cleared_plan, done_ended, due, effects_due, from_reset, plan_after, recovering, seen, turn}
-use Rattle.hba_driver.specs.Turns.{control_news, control_seen, control_turn, early_due, fault_due, opening_due, plain_turn, restart_due, turn_of}
-use Rattle.hba_driver.specs.Between.{MayClear, MayEnd}
+use Rattle.hba_driver.specs.{Steady.{IsCalmTick, IsClearTick, IsFine, IsFlushTick, detects}, Tended.{Awaits, Fine, Identifies, IsLiveAt, IsTended}}
+use Rattle.hba_driver.specs.{Tended.{IsTendedBy, Logs, Releases, Spoilt, TendsOn}, Ticks.{acted, after_tick, cleared_plan, done_ended, due}}
+use Rattle.hba_driver.specs.{Ticks.{effects_due, from_reset, plan_after, recovering, seen, turn}, Turns.{control_news, control_seen, control_turn}}
+use Rattle.hba_driver.specs.{Turns.{early_due, fault_due, opening_due, plain_turn, restart_due, turn_of}, Between.{MayClear, MayEnd}}
 use Rattle.hba_driver.proofs.Door.{calm_or_flush, cleared_faulty, clearing_own_view, clearing_view, faulty_shown, may_end, pushes_on, set_other}
 use Rattle.hba_driver.proofs.Door.{sight_is, skipped_as, stays_on, stays_unsought, takes_lead, tick_acts, ticks_lead, turn_tended}
 use Rattle.disk_recovery.proofs.{honest.{FisLemmas.{fields_read, request_by}, PushLemmas.frame_by}, aside.BesideLemmas.{IsUnticked, plan_same}}

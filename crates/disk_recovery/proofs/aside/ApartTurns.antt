@@ -4,18 +4,16 @@ use Rattle.std.proofs.Common.{◌≡◌, ℕ, ◌<◌, arith, false, List, [], �
 use Rattle.fis_view.specs.{Frames.{IsFrame, Stamped, marked}, Seen.seen}
 use Rattle.hba_fbs.specs.{declared.report.TakeReport.TakeReport, Posting.signs, Taking.port_of}
 use Rattle.hba_laws.specs.Client.{Touches}
-use Rattle.disk_model.specs.{declared.plan.DiskPlan.DiskPlan, Anew.IsRequest, Histories.{Happening, Received, Sent}}
-use Rattle.disk_model.specs.{Ledger.{IsSize, Ledger, ShowsPage, Signs, Wanted, ledger}, Runs.IsDiskRun}
+use Rattle.disk_model.specs.{declared.plan.DiskPlan.DiskPlan, Anew.IsRequest, Histories.{Happening, Received, Sent}, Ledger.{IsSize, Ledger}}
+use Rattle.disk_model.specs.{Ledger.{ShowsPage, Signs, Wanted, ledger}, Runs.IsDiskRun}
 use Rattle.disk_simulation.specs.Line.{Asked, BothBegin, Failed, GoesUp, HasSpoken, IsTaken, Line, LinesGoOn, Loose, OnLine}
 use Rattle.disk_simulation.proofs.Door.{lines_go_on, marks_ask_nothing}
-use Rattle.hba_driver.specs.HostTurns.{Does, DoesAll, Host, HostTurn, Pushed, Ticked, Took}
-use Rattle.hba_driver.specs.Slot30.{Cleared, Faulty, Goes30, IsAt30, IsNext30, IsOn30, IsUnsought, LogSent, Off, On, Stage30, TicksOn30, Turns30}
-use Rattle.hba_driver.specs.Slot30.{sent30}
+use Rattle.hba_driver.specs.{HostTurns.{Does, DoesAll, Host, HostTurn, Pushed, Ticked, Took}, Slot30.{Cleared, Faulty, Goes30, IsAt30, IsNext30}}
+use Rattle.hba_driver.specs.Slot30.{IsOn30, IsUnsought, LogSent, Off, On, Stage30, TicksOn30, Turns30, sent30}
 use Rattle.hba_driver.proofs.Door.{turns_serve}
 use Rattle.disk_recovery.specs.{Ends.{Apart, AreFloors, EndsAfter, IsBesideTurn, IsRunning, IsSetAside}, Stages.{Fits, Leans}}
-use Rattle.disk_recovery.proofs.aside.{ApartDriver.{MayBe30, leads, requests, resets, still_off}, ApartIdle.idles}
-use Rattle.disk_recovery.proofs.aside.ApartLines.{Comes30, IsFit, IsGiven, Line30, LogRead, ResetDone, comes_on, given_on, may_come, request30}
-use Rattle.disk_recovery.proofs.aside.ApartLines.{takes_on, ticks_on}
+use Rattle.disk_recovery.proofs.aside.{ApartDriver.{MayBe30, leads, requests, resets, still_off}, ApartIdle.idles, ApartLines.{Comes30, IsFit}}
+use Rattle.disk_recovery.proofs.aside.ApartLines.{IsGiven, Line30, LogRead, ResetDone, comes_on, given_on, may_come, request30, takes_on, ticks_on}
 
 -- ---- what goes on
 

@@ -1,18 +1,17 @@
 -- For `resets_set_aside`. The tick that issues the software reset of a disk sets the device aside.
 use Rattle.std.proofs.Common.{◌≡◌, ℕ, ◌<◌, ◌≤◌, Bool, true, false, List, [], ◌∷◌, refl, sym, ◌∙◌, ap, subst, inl, inr, arith, Option, Some, None}
-use Rattle.std.specs.Prelude.{is_some}
 use Rattle.std.proofs.lemmas.Bool.{cases_Bool, true≢false}
+use Rattle.std.specs.Prelude.{is_some}
 use Rattle.slots.specs.Slots.{Issue, issue_at}
 use Rattle.hba_fbs.specs.Views.{view_of}
 use Rattle.disk_model.specs.Histories.{Happening}
 use Rattle.hba_laws.specs.Client.{Touches}
-use Rattle.hba_driver.specs.declared.mode.Mode.TheVariants.{Switching}
-use Rattle.hba_driver.specs.declared.{path.Stage.{Stage, TheVariants.{AssertReset, AwaitReset, Identify, ReadLog, ReleaseReset}}, plan.Plan.Plan}
-use Rattle.hba_driver.specs.{Drivers.Driver, Effects.{ActsAll, effects_of, stage_effects}, HostTurns.{Does, DoesAll, Host, Ticked, sight_in}}
-use Rattle.hba_driver.specs.{Orders.control, Paths.stage_fields, Resetting.IsSetDriven, Sights.file_shown, Slot30.{IsAt30, IsOn30, Sets}}
-use Rattle.hba_driver.specs.Steady.{IsCalmAct}
-use Rattle.hba_driver.specs.Tended.{Awaits, Fine, Identifies, IsAtStage, IsReleasing, IsResetTurn, IsTendedBy, Logs, Releases, Spoilt, TendsOn}
-use Rattle.hba_driver.specs.{Ticks.{done_ended, due, effects_due, seen}, Between.{Due, IsUp, Issues30, MayStep, Runs, beside}}
+use Rattle.hba_driver.specs.declared.{mode.Mode.TheVariants.Switching, path.Stage.{Stage, TheVariants.{AssertReset, AwaitReset, Identify, ReadLog}}}
+use Rattle.hba_driver.specs.{declared.{path.Stage.TheVariants.ReleaseReset, plan.Plan.Plan}, Drivers.Driver, Effects.{ActsAll, effects_of}}
+use Rattle.hba_driver.specs.{Effects.stage_effects, HostTurns.{Does, DoesAll, Host, Ticked, sight_in}, Orders.control, Paths.stage_fields}
+use Rattle.hba_driver.specs.{Resetting.IsSetDriven, Sights.file_shown, Slot30.{IsAt30, IsOn30, Sets}, Steady.IsCalmAct, Tended.{Awaits, Fine}}
+use Rattle.hba_driver.specs.{Tended.{Identifies, IsAtStage, IsReleasing, IsResetTurn, IsTendedBy, Logs, Releases, Spoilt, TendsOn}, Ticks.done_ended}
+use Rattle.hba_driver.specs.{Ticks.{due, effects_due, seen}, Between.{Due, IsUp, Issues30, MayStep, Runs, beside}}
 use Rattle.hba_driver.proofs.Door.{at_stage, due_seen, each_reset_is_driven, free_slot, not_below, not_busy, runs_turn, seen_served, sound_beside}
 use Rattle.hba_driver.proofs.Door.{stage_is, step30, tick_acts, tick_is, turn_tended, unworked, up_of}
 use Rattle.disk_recovery.specs.{Together.{IsServedOn, ResetsAt}, Resets.ResetSetsAside}

@@ -4,28 +4,26 @@ use Rattle.std.proofs.Common.{◌≡◌, ℕ, ◌<◌, true, false, List, [], �
 use Rattle.std.proofs.lemmas.{Bool.cases_Bool, List.append-nil}
 use Rattle.fis_view.specs.Frames.{Stamped}
 use Rattle.hba_fbs.specs.Views.{view_of}
-use Rattle.disk_model.specs.{declared.plan.DiskPlan.DiskPlan, Anew.OwesOnly, Histories.Happening}
-use Rattle.disk_model.specs.Ledger.{Ledger, Reply, ShowsPage, Signs, Wanted, ledger}
+use Rattle.disk_model.specs.{declared.plan.DiskPlan.DiskPlan, Anew.OwesOnly, Histories.Happening, Ledger.{Ledger, Reply, ShowsPage, Signs, Wanted}}
+use Rattle.disk_model.specs.Ledger.{ledger}
 use Rattle.hba_laws.specs.{Client.{Touches, own}, Delivering.touches_after, History.{History, waiting_in}}
 use Rattle.disk_simulation.specs.{Line.{EachReply, IsNoSignature, IsUnsigned, IsWatchedWell, Loose, OnLine}, Outcomes.HasFineFile}
 use Rattle.disk_simulation.specs.{Together.{AtMostAccepts, InTalk, IsOwnReply, IsWaited, Pages, Queues, Replies, Shows}, Watched.IsWatched}
 use Rattle.disk_simulation.specs.Same.{SlotCommand}
 use Rattle.disk_simulation.proofs.Door.{files_are_left, hosted_on_is_kept, lines_begin}
-use Rattle.hba_driver.specs.declared.{path.Path.Path, path.Recovery.{Recovery, TheVariants.{Log, Reset}}}
-use Rattle.hba_driver.specs.declared.path.Stage.TheVariants.{AssertReset, AwaitReset, Identify, ReadLog, ReleaseReset}
-use Rattle.hba_driver.specs.{declared.{plan.Device.{Device, TheVariants.{Ready, Recovering, Starting}}, plan.Plan.Plan}, Drivers.device_at}
-use Rattle.hba_driver.specs.{Events.{events_over, shared_by}, HostTurns.{Does, DoesAll, Host, HostTurn, Pushed, Ticked, Took}, Served.IsStep}
-use Rattle.hba_driver.specs.{Slot30.{IsOn30, Sets}, Steady.{IsFine, IsSteadyPlan, IsSteadyTurn}}
-use Rattle.hba_driver.specs.Tended.{Awaits, Fine, Identifies, IsAskedOn, IsAsking, IsAtStage, IsReleasing, IsResetTurn, IsTendedBy, Logs, Releases}
-use Rattle.hba_driver.specs.{Tended.{Spoilt, TendsOn}, Between.From}
+use Rattle.hba_driver.specs.declared.path.{Path.Path, Recovery.{Recovery, TheVariants.{Log, Reset}}, Stage.TheVariants.{AssertReset, AwaitReset}}
+use Rattle.hba_driver.specs.declared.{path.Stage.TheVariants.{Identify, ReadLog, ReleaseReset}, plan.Device.{Device, TheVariants.{Ready, Recovering}}}
+use Rattle.hba_driver.specs.{declared.plan.{Device.TheVariants.Starting, Plan.Plan}, Drivers.device_at, Events.{events_over, shared_by}}
+use Rattle.hba_driver.specs.{HostTurns.{Does, DoesAll, Host, HostTurn, Pushed, Ticked, Took}, Served.IsStep, Slot30.{IsOn30, Sets}, Steady.IsFine}
+use Rattle.hba_driver.specs.{Steady.{IsSteadyPlan, IsSteadyTurn}, Tended.{Awaits, Fine, Identifies, IsAskedOn, IsAsking, IsAtStage, IsReleasing}}
+use Rattle.hba_driver.specs.{Tended.{IsResetTurn, IsTendedBy, Logs, Releases, Spoilt, TendsOn}, Between.From}
 use Rattle.hba_driver.proofs.Door.{at_stage, issued_live, recovering_ready, stage_is, turn_tended, turns_serve, unworked}
 use Rattle.disk_recovery.specs.{Kept.{IsCalmTurn, given_to}, Steady.HasSigned, Together.{GivesOnAnew, IsServedOn, ResetsAt, ServesOnAnew}}
-use Rattle.disk_recovery.specs.Unasked.{IsUnasked}
-use Rattle.disk_recovery.specs.Ends.{Apart, EndsAfter, IsBesideTurn, IsOnTime, IsRunning, IsSetAside, IsTogether, Resetting, Steady, Together}
+use Rattle.disk_recovery.specs.{Unasked.IsUnasked, Ends.{Apart, EndsAfter, IsBesideTurn, IsOnTime, IsRunning, IsSetAside, IsTogether, Resetting}}
+use Rattle.disk_recovery.specs.Ends.{Steady, Together}
 use Rattle.disk_recovery.proofs.{together.{TogetherParts.calm_turns_go_on, TogetherPushes.pushes_go_on_on}, honest.TurnLemmas.after}
-use Rattle.disk_recovery.proofs.unasked.UnaskedLemmas.{stays_unasked}
-use Rattle.disk_recovery.proofs.aside.BesideLemmas.{EventsAway, events_away, file_away, fine_stays, plan_same, waits_away}
-use Rattle.disk_recovery.proofs.{both_ends.GivenLemmas.none_to_other, aside.ResetAside.reset_sets_aside}
+use Rattle.disk_recovery.proofs.{unasked.UnaskedLemmas.stays_unasked, aside.BesideLemmas.{EventsAway, events_away, file_away, fine_stays, plan_same}}
+use Rattle.disk_recovery.proofs.{aside.{BesideLemmas.waits_away, ResetAside.reset_sets_aside}, both_ends.GivenLemmas.none_to_other}
 use Rattle.disk_recovery.proofs.both_ends.{WorkedLemmas.{IsWorked, same_worked}, Unfaulted.{IsTurnUnfaulted, opened_stays, tick_goes, turn_unfaulted}}
 use Rattle.disk_recovery.proofs.both_ends.FloorLemmas.{reached_on}
 

@@ -1,20 +1,19 @@
 -- For `ends_go_on`. While no FIS of a device is heard with a fault, no fault of it stands at the host's port, no tick
 -- clears one, and the port opened stays open.
 use Rattle.std.proofs.Common.{◌≡◌, ◌≢◌, ◌&&◌, ℕ, ◌<◌, ◌≤◌, Bool, true, false, not, List, [], ◌∷◌, ◌++◌, refl, sym, ap, subst, ◌∙◌, inl, inr, Option}
-use Rattle.std.proofs.Common.{Some, None, arith}
+use Rattle.std.proofs.{Common.{Some, None, arith}, lemmas.Bool.{cases_Bool, cases_eq, false≢true, true≢false}}
 use Rattle.std.specs.{Prelude.{◌==◌, ◌⊎◌, if◌then◌else◌, is_some}, List.flat_map}
-use Rattle.std.proofs.lemmas.Bool.{cases_Bool, cases_eq, false≢true, true≢false}
 use Rattle.fis_view.specs.{Frames.Stamped, Seen.seen, declared.view.Fis.Fis}
 use Rattle.host_memory.specs.Memory.{Memory}
 use Rattle.port_errors.specs.{Errors.{Errors, cause_of, named_by, shown as errors_shown}, declared.cause.Stop.Stop}
 use Rattle.hba_fbs.specs.declared.{hearing.Heard.Heard, register.Register.{Register, TheVariants.{Ci, Cmd, Fbs}}, report.TakeReport.TakeReport}
-use Rattle.hba_fbs.specs.{Issuing.{aimed, view_issued}, Registers.falls, Sending.{Gives, Nothing, Outgoing, Unreadable, outgoing}}
-use Rattle.hba_fbs.specs.Taking.{Hears, Ignores, admitted, device_cause, heard_now, heard_report, ignores, place_in, port_cause, port_of, row_for}
+use Rattle.hba_fbs.specs.{Issuing.{aimed, view_issued}, Registers.falls, Sending.{Gives, Nothing, Outgoing, Unreadable, outgoing}, Taking.Hears}
+use Rattle.hba_fbs.specs.Taking.{Ignores, admitted, device_cause, heard_now, heard_report, ignores, place_in, port_cause, port_of, row_for}
 use Rattle.hba_fbs.specs.{Taking.stops_with, Views.{DeviceView, Port, stopped_view, view_of}, Writing.{cleared_by, is_device, view_after}}
 use Rattle.hba_laws.specs.Hosts as event
 use Rattle.hba_laws.specs.{Hosts.{HostEvent, Runs, TakesFrame}, Isolation.stops_port}
-use Rattle.hba_driver.specs.{declared.mode.Mode.TheVariants.Switching, Effects.{ActsAll, effects_of, order_effects}}
-use Rattle.hba_driver.specs.{Events.{IsSoundHost, events_of_effects, events_over, shared_by, taken_by, took}, declared.plan.Plan.Plan, Drivers.Driver}
+use Rattle.hba_driver.specs.{declared.mode.Mode.TheVariants.Switching, Effects.{ActsAll, effects_of, order_effects}, Events.IsSoundHost}
+use Rattle.hba_driver.specs.{Events.{events_of_effects, events_over, shared_by, taken_by, took}, declared.plan.Plan.Plan, Drivers.Driver}
 use Rattle.hba_driver.specs.{Going.GoesOn, HostTurns.{Does, DoesAll, Host, HostTurn, Polled, Submitted, Ticked, Took, Tooks, sight_in}}
 use Rattle.hba_driver.specs.{Sights.file_shown, Steady.{IsCalmTick, IsClearTick, IsFlushTick}, Ticks.effects_due, Between.{MayClear, MayEnd}}
 use Rattle.disk_recovery.specs.Between.{AreUnfaulted, IsUnfaulted}

@@ -1,28 +1,26 @@
 -- For `ends_go_on`. An error that a disk reports next was asked for, and in a software reset its signature comes next.
 use Rattle.std.proofs.Common.{arith, ◌≡◌, ◌≢◌, ◌==◌, ℕ, ◌<◌, Bool, true, false, List, [], ◌∷◌, ◌++◌, append_assoc, drop, refl, sym, ap, subst, ◌∙◌}
-use Rattle.std.proofs.Common.{inl, inr, Option, None, Ok, Result}
+use Rattle.std.proofs.{Common.{inl, inr, Option, None, Ok, Result}, lemmas.{Bool.{cases_Bool, true≢false}, Nat.Bits.bit_at-zero}}
 use Rattle.std.specs.Prelude.{◌&&◌, ◌||◌, is_none, is_some, not}
-use Rattle.std.proofs.lemmas.{Bool.{cases_Bool, true≢false}, Nat.Bits.bit_at-zero}
-use Rattle.fis_view.specs.{Frames.{IsFrame, marked}, Table.{Bits, D2h, Error, field}, Seen.seen, declared.{view.Fis.Fis, view.FisFault.FisFault}}
+use Rattle.fis_view.specs.{Frames.{IsFrame, marked}, Table.{Bits, D2h, Error, field}, Seen.seen, declared.view.{Fis.Fis, FisFault.FisFault}}
 use Rattle.fis_view.specs.declared.view.Fis.TheVariants as view
-use Rattle.port_errors.specs.declared.{cause.DeviceCause.DeviceCause, cause.Stop.Stop}
+use Rattle.port_errors.specs.declared.cause.{DeviceCause.DeviceCause, Stop.Stop}
 use Rattle.slots.specs.Slots.{has_bit}
 use Rattle.hba_fbs.specs.{Posting.{is_signature, signs}, Taking.{heard_report, ignores, is_ignored, port_of}, Views.{DeviceView, view_of}}
 use Rattle.hba_fbs.specs.declared.report.TakeReport.{TakeReport}
-use Rattle.disk_model.specs.declared.{plan.DiskPlan.DiskPlan, plan.Order.{Order, TheVariants.{Newest, Oldest}}, request.Command.Command}
-use Rattle.disk_model.specs.{declared.request.Request.Request, Anew.{IsCarefulSince, IsClear, IsLinkedOn, OwesOnly}, Disks.picked}
-use Rattle.disk_model.specs.Ends.{AreRight, Fits, FitsData, FitsRequest, IsRight, reports, with_down, with_up}
-use Rattle.disk_model.specs.{Histories.{Happening, Received, Sent}, Laws.{AnswersFirst, ErrsRight, FailsNext, IsRegister}}
-use Rattle.disk_model.specs.{Ledger.{IsSize, Ledger, Moving, Reply, Signs, ledger, listens, listens_down}, Requests.request_of, Runs.IsDiskRun}
-use Rattle.disk_model.specs.Between.{AreApart, AreFit, Ties, alone}
+use Rattle.disk_model.specs.declared.{plan.{DiskPlan.DiskPlan, Order.{Order, TheVariants.{Newest, Oldest}}}, request.Command.Command}
+use Rattle.disk_model.specs.{declared.request.Request.Request, Anew.{IsCarefulSince, IsClear, IsLinkedOn, OwesOnly}, Disks.picked, Ends.AreRight}
+use Rattle.disk_model.specs.{Ends.{Fits, FitsData, FitsRequest, IsRight, reports, with_down, with_up}, Histories.{Happening, Received, Sent}}
+use Rattle.disk_model.specs.{Laws.{AnswersFirst, ErrsRight, FailsNext, IsRegister}, Ledger.{IsSize, Ledger, Moving, Reply, Signs, ledger, listens}}
+use Rattle.disk_model.specs.{Ledger.listens_down, Requests.request_of, Runs.IsDiskRun, Between.{AreApart, AreFit, Ties, alone}}
 use Rattle.disk_model.specs.declared.request.Request.TheVariants as asked
 use Rattle.disk_model.specs.Anew as anew
 use Rattle.disk_model.proofs.Door.{asks_fits, errs_right, never_empty, run_before, sent_right, tie_comes, tie_gives, tie_sends, tie_takes}
 use Rattle.hba_laws.specs.Client.{Touches, own}
 use Rattle.disk_simulation.proofs.Door.{careful_before, hosted_on_is_kept, marks_ask_nothing, next_anew, next_of_disk, next_or_fails, run_to}
 use Rattle.disk_simulation.proofs.Door.{same_first, since_of, watches_on}
-use Rattle.disk_simulation.specs.{Anew.{IsKeptOn, IsNextRight}, Files.IsOfDisk, Line.{IsAskedAlike, IsWatchedWell, ToSign}}
-use Rattle.disk_simulation.specs.{Watched.{Erred, Fine, IsWatched, IsWatchedTo, WatchesOn}, Same.SlotCommand}
+use Rattle.disk_simulation.specs.{Anew.{IsKeptOn, IsNextRight}, Files.IsOfDisk, Line.{IsAskedAlike, IsWatchedWell, ToSign}, Watched.{Erred, Fine}}
+use Rattle.disk_simulation.specs.{Watched.{IsWatched, IsWatchedTo, WatchesOn}, Same.SlotCommand}
 use Rattle.hba_driver.specs.{Events.shared_by, HostTurns.{Does, Host, Took}, Steady.detects, Tended.{IsAtStage, IsReleasing}}
 use Rattle.hba_driver.proofs.Door.{ignores_as}
 use Rattle.disk_recovery.specs.{Together.IsServedOn, Unasked.{IsUnasked, OwesSignature}, Ends.{IsOnTime, IsRunning, IsTogether, Resetting, Steady}}

@@ -1,7 +1,6 @@
 -- For `each_end_is_honest`. What a report says is done of a queued request was done honestly, by all that the disk did,
 -- whatever went wrong before.
-use Rattle.std.proofs.Common.{◌≡◌, ℕ, ◌<◌, true, List, [], ◌∷◌, sym, ◌∙◌, subst, inl, inr, arith, Some, ◌≤◌, length}
-use Rattle.std.proofs.lemmas.Bool.{true≢false}
+use Rattle.std.proofs.{Common.{◌≡◌, ℕ, ◌<◌, true, List, [], ◌∷◌, sym, ◌∙◌, subst, inl, inr, arith, Some, ◌≤◌, length}, lemmas.Bool.{true≢false}}
 use Rattle.fis_view.specs.Frames.{IsFrame, marked}
 use Rattle.slots.specs.Slots.{has_bit}
 use Rattle.slots.specs.Work as moved
@@ -15,8 +14,8 @@ use Rattle.disk_simulation.specs.Phases as phase
 use Rattle.disk_simulation.proofs.Door.{aside_is_kept, each_done, hosted_on_is_kept, watches_on}
 use Rattle.hba_driver.specs.{Drivers.{Entry, entry_at}, Events.shared_by, HostTurns.{Does, Host, Took}, Orders.is_queued}
 use Rattle.hba_driver.proofs.Door.{sound_shared}
-use Rattle.disk_recovery.specs.Steady.{command_of}
-use Rattle.disk_recovery.specs.Ends.{Apart, AreEnds, EachEndIsHonest, IsOnTime, IsRunning, IsSetAside, IsTogether, Together, since_floor}
+use Rattle.disk_recovery.specs.{Steady.command_of, Ends.{Apart, AreEnds, EachEndIsHonest, IsOnTime, IsRunning, IsSetAside, IsTogether, Together}}
+use Rattle.disk_recovery.specs.Ends.{since_floor}
 use Rattle.disk_recovery.proofs.{apart.ApartBegins.aside_at, coming.ErrorLemmas.{report_ignored, stale_ignored, together_hears}}
 use Rattle.disk_recovery.proofs.{each_end.ReadLemmas.ended_followed, coming.StaleLemmas.by_stale}
 

@@ -1,19 +1,17 @@
 -- For `each_end_is_honest`. A read that ended at the host's end of a disk's link, from where both began anew, ended at
 -- the disk.
 use Rattle.std.proofs.Common.{◌≡◌, ◌==◌, ◌&&◌, ℕ, zero, suc, ◌+◌, ◌*◌, Bool, true, false, List, [], ◌∷◌, ◌++◌, append_assoc, drop, length, refl, sym}
-use Rattle.std.proofs.Common.{ap, subst, ◌∙◌, Option, Some, None, Result, Ok}
+use Rattle.std.proofs.{Common.{ap, subst, ◌∙◌, Option, Some, None, Result, Ok}, lemmas.List.{append-nil}}
 use Rattle.std.specs.{Prelude.{if◌then◌else◌, slice_get, find, replicate}, List.list_any}
-use Rattle.std.proofs.lemmas.List.{append-nil}
-use Rattle.fis_view.specs.{Seen.seen, Table.{Bits, BufferId, Error, Offset, Setup, field}, declared.{view.Fis.Fis, view.FisFault.FisFault}}
+use Rattle.fis_view.specs.{Seen.seen, Table.{Bits, BufferId, Error, Offset, Setup, field}, declared.view.{Fis.Fis, FisFault.FisFault}}
 use Rattle.fis_view.specs.Table as table
 use Rattle.fis_view.specs.declared.view.Fis.TheVariants as view
-use Rattle.disk_model.specs.{declared.{plan.DiskPlan.DiskPlan, request.Command.Command, request.Request.Request}, Chunks.put}
-use Rattle.disk_model.specs.{Anew.{IsCarefulSince, IsLinkedOn}, Ends.{EndsAgree, with_down, with_up}}
-use Rattle.disk_model.specs.Histories.{Happening, Plugged, Loaded, Received, Sent}
-use Rattle.disk_model.specs.Laws.{ActivatesRight, MovesRight, SetsUpNext, SetsUpRight, StartsOne}
-use Rattle.disk_model.specs.Ledger.{Accepts, IsSize, Ledger, Moving, ReadOut, Refuses, activates, answers, asks, awaits, empty, ends, has_error}
-use Rattle.disk_model.specs.Ledger.{is_auto, ledger, ledger_after, listens, listens_down, listens_up, mixes, moves, reads_log, refuses, restarts}
-use Rattle.disk_model.specs.{Ledger.{sends_data, sets_up, starts_moving, takes_data, with_auto}, Requests.request_of, Runs.IsDiskRun}
+use Rattle.disk_model.specs.{declared.{plan.DiskPlan.DiskPlan, request.{Command.Command, Request.Request}}, Chunks.put, Anew.IsCarefulSince}
+use Rattle.disk_model.specs.{Anew.IsLinkedOn, Ends.{EndsAgree, with_down, with_up}, Histories.{Happening, Plugged, Loaded, Received, Sent}}
+use Rattle.disk_model.specs.{Laws.{ActivatesRight, MovesRight, SetsUpNext, SetsUpRight, StartsOne}, Ledger.{Accepts, IsSize, Ledger, Moving, ReadOut}}
+use Rattle.disk_model.specs.Ledger.{Refuses, activates, answers, asks, awaits, empty, ends, has_error, is_auto, ledger, ledger_after, listens}
+use Rattle.disk_model.specs.Ledger.{listens_down, listens_up, mixes, moves, reads_log, refuses, restarts, sends_data, sets_up, starts_moving}
+use Rattle.disk_model.specs.{Ledger.{takes_data, with_auto}, Requests.request_of, Runs.IsDiskRun}
 use Rattle.disk_model.specs.declared.request.Request.TheVariants as asked
 use Rattle.disk_model.proofs.Door.{ends_agree_anew, moves_right, write_of_auto}
 use Rattle.disk_simulation.specs.Followed.{IsFollowed}

@@ -1,7 +1,6 @@
 -- For `flushes_are_taken`. As the answer of a command that is not queued comes next, no FLUSH is on its way down: the
 -- disk took it.
-use Rattle.std.proofs.Common.{◌≡◌, ℕ, false, List, [], ◌∷◌, ◌++◌, append_assoc, sym, ap, subst, ◌∙◌}
-use Rattle.std.proofs.lemmas.Bool.{true≢false}
+use Rattle.std.proofs.{Common.{◌≡◌, ℕ, false, List, [], ◌∷◌, ◌++◌, append_assoc, sym, ap, subst, ◌∙◌}, lemmas.Bool.{true≢false}}
 use Rattle.fis_view.specs.Seen.{seen}
 use Rattle.disk_model.specs.{declared.plan.DiskPlan.DiskPlan, Anew.{IsCarefulSince, IsLinkedOn}, Ends.{Rests, reports, with_down}}
 use Rattle.disk_model.specs.{Histories.{Happening, Sent}, Ledger.{IsSize, Ledger, ledger, listens}, Runs.IsDiskRun, Between.{AreFit, Ties}}
@@ -9,8 +8,8 @@ use Rattle.disk_model.proofs.Door.{errs_right}
 use Rattle.disk_simulation.specs.Watched.{Erred, Fine, IsWatchedTo}
 use Rattle.disk_simulation.proofs.Door.{run_to, same_first}
 use Rattle.disk_recovery.specs.Flushes.{flushes_among}
-use Rattle.disk_recovery.proofs.coming.ErrorLemmas.{IsAsked, asked_with, error_asked, ties_anew}
-use Rattle.disk_recovery.proofs.flushes.FlushLemmas.{first_up, none_flushes, quiet_up, right_later}
+use Rattle.disk_recovery.proofs.{coming.ErrorLemmas.{IsAsked, asked_with, error_asked, ties_anew}, flushes.FlushLemmas.{first_up, none_flushes}}
+use Rattle.disk_recovery.proofs.flushes.FlushLemmas.{quiet_up, right_later}
 
 module _ (plan : DiskPlan) (sectors : ℕ) (base given : List Happening) (bytes : List ℕ) (size : IsSize plan sectors) (careful : IsCarefulSince base given)
     (rests : Rests (listens (ledger given) (Sent bytes))) where

@@ -1,10 +1,10 @@
 -- For `flushes_are_taken`. What completes a command that is neither queued nor a PIO data-in is a Register FIS of the
 -- device, and the command waits for it.
-use Rattle.std.proofs.Common.{◌≡◌, ◌==◌, ℕ, ◌-◌, ◌<◌, Bool, true, false, List, [], drop, length, refl, sym, ap, subst, ◌∙◌, Option, Some, None, Ok, Err, Result, arith}
+use Rattle.std.proofs.Common.{◌≡◌, ◌==◌, ℕ, ◌-◌, ◌<◌, Bool, true, false, List, [], drop, length, refl, sym, ap, subst, ◌∙◌, Option, Some, None, Ok}
+use Rattle.std.proofs.{Common.{Err, Result, arith}, lemmas.Bool.{true≢false}}
 use Rattle.std.specs.Prelude.{◌&&◌, is_some, not, nat_lt, if◌then◌else◌}
-use Rattle.std.proofs.lemmas.Bool.{true≢false}
-use Rattle.fis_view.specs.{Frames.{IsFrame, marked}, Marks.IsMarked, Table.{Bits, D2h, Kind, Pio, SActive, Setup, Status, field}}
-use Rattle.fis_view.specs.{Seen.{kind_of, may_have, seen, view_as}, declared.{view.Fis.Fis, view.FisFault.{FisFault, TheVariants.WrongLength}}}
+use Rattle.fis_view.specs.{Frames.{IsFrame, marked}, Marks.IsMarked, Table.{Bits, D2h, Kind, Pio, SActive, Setup, Status, field}, Seen.kind_of}
+use Rattle.fis_view.specs.{Seen.{may_have, seen, view_as}, declared.view.{Fis.Fis, FisFault.{FisFault, TheVariants.WrongLength}}}
 use Rattle.fis_view.specs.Table as table
 use Rattle.fis_view.specs.declared.view.Fis.TheVariants as view
 use Rattle.fis_view.proofs.Door.{is_marked}
@@ -13,14 +13,12 @@ use Rattle.slots.specs.{Commands.completed, Data.{after_arrive, may_activate}, S
 use Rattle.slots.specs.{Slots.{DeviceSlots, has_bit, is_pio, match_some, own_issue, sent_pio}, Work.is_queued, declared.answer.SetupError.SetupError}
 use Rattle.slots.specs.declared.table.Context.{Context}
 use Rattle.hba_fbs.specs.declared.hearing.Happening.TheVariants as happening
-use Rattle.hba_fbs.specs.declared.{hearing.Heard.Heard, report.TakeReport.TakeReport, report.Wrote.Wrote, state.DeviceState.DeviceState}
-use Rattle.hba_fbs.specs.declared.status.Block.{Block}
-use Rattle.hba_fbs.specs.Hearing.{block_of, bus_failed, faulty, heard_bytes, heard_data_of, heard_fis, heard_out, is_admitted, named, overflowed}
-use Rattle.hba_fbs.specs.{Hearing.{quietly, set_up, tag_of}, Status.{is_error, with_bits, with_file}}
-use Rattle.hba_fbs.specs.{Taking.{admitted, heard, heard_now, ignores, port_of}, Tables.is_sound, Views.{DeviceView, view_of}}
-use Rattle.hba_laws.specs.{Agreement.IsHistoryOf, Delivering.{completes_now, event_heard, event_taken}}
-use Rattle.hba_laws.specs.History.{Answered, Event, History, Transfer, completes, is_all_filled, filled, is_at, issued, waiting_in}
-use Rattle.hba_laws.specs.{Hosts.{Host, TakesFrame}, Sound.IsHost}
+use Rattle.hba_fbs.specs.declared.{hearing.Heard.Heard, report.{TakeReport.TakeReport, Wrote.Wrote}, state.DeviceState.DeviceState}
+use Rattle.hba_fbs.specs.{declared.status.Block.Block, Hearing.{block_of, bus_failed, faulty, heard_bytes, heard_data_of, heard_fis, heard_out}}
+use Rattle.hba_fbs.specs.{Hearing.{is_admitted, named, overflowed, quietly, set_up, tag_of}, Status.{is_error, with_bits, with_file}, Taking.admitted}
+use Rattle.hba_fbs.specs.{Taking.{heard, heard_now, ignores, port_of}, Tables.is_sound, Views.{DeviceView, view_of}}
+use Rattle.hba_laws.specs.{Agreement.IsHistoryOf, Delivering.{completes_now, event_heard, event_taken}, History.{Answered, Event, History, Transfer}}
+use Rattle.hba_laws.specs.{History.{completes, is_all_filled, filled, is_at, issued, waiting_in}, Hosts.{Host, TakesFrame}, Sound.IsHost}
 use Rattle.hba_laws.specs.History as event
 use Rattle.hba_laws.proofs.Door.{done_is_completed}
 use Rattle.disk_simulation.proofs.Door.{no_end}

@@ -1,9 +1,9 @@
 -- For `flushes_go_down`. A FLUSH that was transmitted to a disk is counted at one of the two ends, over each turn of
 -- the host and each step of the disk.
-use Rattle.std.proofs.Common.{◌≡◌, ℕ, zero, suc, ◌+◌, ◌<◌, ◌≤◌, Bool, true, false, cond, eqb, List, [], ◌∷◌, ◌++◌, drop, length, refl, sym, ap, subst, ◌∙◌, inl, inr, arith, Option, Some, None, Result}
+use Rattle.std.proofs.Common.{◌≡◌, ℕ, zero, suc, ◌+◌, ◌<◌, ◌≤◌, Bool, true, false, cond, eqb, List, [], ◌∷◌, ◌++◌, drop, length, refl, sym, ap, subst}
+use Rattle.std.proofs.{Common.{◌∙◌, inl, inr, arith, Option, Some, None, Result}, lemmas.Bool.{eqb-true, false≢true}}
 use Rattle.std.specs.{Prelude.{◌⊎◌, if◌then◌else◌, map}, List.flat_map}
-use Rattle.std.proofs.lemmas.Bool.{eqb-true, false≢true}
-use Rattle.fis_view.specs.{Frames.{IsFrame, Stamped, marked}, Seen.seen, declared.{view.Fis.Fis, view.FisFault.FisFault}}
+use Rattle.fis_view.specs.{Frames.{IsFrame, Stamped, marked}, Seen.seen, declared.view.{Fis.Fis, FisFault.FisFault}}
 use Rattle.hba_commands.proofs.Door.{built_long}
 use Rattle.hba_commands.specs.Requests.{kind_of, request_of as fields_request, work_of}
 use Rattle.hba_commands.specs.declared.command.Command as issued_command
@@ -14,24 +14,21 @@ use Rattle.slots.specs.declared.answer.Answered.TheVariants as answer
 use Rattle.hba_fbs.specs.declared.hearing.Happening as heard_as
 use Rattle.hba_fbs.specs.declared.hearing.Happening.TheVariants as happening
 use Rattle.hba_fbs.specs.declared.{register.Register.{Register, TheVariants.{Cmd, Ci, Fbs}}, report.TakeReport.TakeReport, status.Block.Block}
-use Rattle.hba_fbs.specs.{Registers.falls, Sending.{Gives, Outgoing, outgoing}, Taking.{admitted, heard_now, ignores, port_of}}
-use Rattle.hba_fbs.specs.{Issuing.{aimed, asked}, Writing.cleared_by}
+use Rattle.hba_fbs.specs.{Registers.falls, Sending.{Gives, Outgoing, outgoing}, Taking.{admitted, heard_now, ignores, port_of}, Issuing.aimed}
+use Rattle.hba_fbs.specs.{Issuing.asked, Writing.cleared_by}
 use Rattle.hba_fbs.specs.Sending as out
-use Rattle.disk_model.specs.{declared.request.Request.TheVariants.Flush, Anew.IsRequest, Histories.Happening, Ledger.ledger}
-use Rattle.disk_model.specs.declared.plan.DiskPlan.{DiskPlan}
+use Rattle.disk_model.specs.{declared.{request.Request.TheVariants.Flush, plan.DiskPlan.DiskPlan}, Anew.IsRequest, Histories.Happening, Ledger.ledger}
 use Rattle.disk_model.specs.Histories as at_disk
-use Rattle.hba_laws.specs.Client.{By, Puts, Stops, Touches, own}
-use Rattle.hba_laws.specs.Delivering.{begun_by, by_device, event_heard, event_of, event_sent, event_taken, is_control_issue, issued_below, issued_in}
-use Rattle.hba_laws.specs.Delivering.{touched, touched_by_clear, touched_by_out, touched_by_write, touches_after}
-use Rattle.hba_laws.specs.{History.{Event, History, Issued, Sent, SentControl, SetUp, Transfer, issued}, Hosts.{HostEvent, Runs}, Sound.IsHost}
-use Rattle.hba_laws.specs.Between.{GoesOut, NotIssue}
+use Rattle.hba_laws.specs.{Client.{By, Puts, Stops, Touches, own}, Delivering.{begun_by, by_device, event_heard, event_of, event_sent, event_taken}}
+use Rattle.hba_laws.specs.Delivering.{is_control_issue, issued_below, issued_in, touched, touched_by_clear, touched_by_out, touched_by_write}
+use Rattle.hba_laws.specs.{Delivering.touches_after, History.{Event, History, Issued, Sent, SentControl, SetUp, Transfer, issued}, Hosts.HostEvent}
+use Rattle.hba_laws.specs.{Hosts.Runs, Sound.IsHost, Between.{GoesOut, NotIssue}}
 use Rattle.hba_laws.specs.Hosts as event
 use Rattle.hba_laws.proofs.Door.{goes_out, issued_before, some_inj}
 use Rattle.disk_simulation.specs.{Line.IsAskedAlike, Together.is_sent}
 use Rattle.disk_simulation.proofs.Door.{marks_ask_nothing}
-use Rattle.hba_driver.specs.{Drivers.{Entry, entry_at}, Events.{events_over, gave, pushed_by, shared_by}}
-use Rattle.hba_driver.specs.{HostTurns.{Does, DoesAll, Host, HostTurn, Pushed, Took}, Orders.request_fields, Served.{IsBuiltOf, IsServed, RunServes}}
-use Rattle.hba_driver.specs.Between.{From}
+use Rattle.hba_driver.specs.{Drivers.{Entry, entry_at}, Events.{events_over, gave, pushed_by, shared_by}, HostTurns.{Does, DoesAll, Host, HostTurn}}
+use Rattle.hba_driver.specs.{HostTurns.{Pushed, Took}, Orders.request_fields, Served.{IsBuiltOf, IsServed, RunServes}, Between.From}
 use Rattle.hba_driver.specs.Orders as orders
 use Rattle.hba_driver.specs.declared.request.Work as driver_work
 use Rattle.hba_driver.specs.declared.request.Work.TheVariants as work
@@ -39,10 +36,9 @@ use Rattle.hba_driver.proofs.Door.{each_run_tells, sound_shared}
 use Rattle.disk_recovery.proofs.honest.{FisLemmas.{flush_is, request_kind}, PushLemmas.{HasLast, OutTold, out_last, out_told, short_frame}}
 use Rattle.disk_recovery.proofs.{honest.TurnLemmas.after, both_ends.{EndLemmas.ends_go_on, FloorLemmas.{floors_more, floors_rise}}}
 use Rattle.disk_recovery.proofs.flushes.FlushLemmas.{among_first, among_more, among_one, flushes_more, taken_one, taken_sent}
-use Rattle.disk_recovery.specs.Ends.{EndsAfter, IsBesideTurn, IsRunning}
-use Rattle.disk_recovery.specs.Flushes.{AreEndsSince, AreFloorsOf, AreFlushed, DisksLeaveSince, EndsSinceAfter, EndsSinceGoOn, Floor, FloorsRiseSince}
-use Rattle.disk_recovery.specs.Flushes.{IsFloor, MayRiseSince, SinceBegins, TurnsLeaveSince, asks_flush, flush_floors, flushes_among, flushes_taken}
-use Rattle.disk_recovery.specs.Flushes.{is_flush, one_if, write_floors}
+use Rattle.disk_recovery.specs.{Ends.{EndsAfter, IsBesideTurn, IsRunning}, Flushes.{AreEndsSince, AreFloorsOf, AreFlushed, DisksLeaveSince}}
+use Rattle.disk_recovery.specs.Flushes.{EndsSinceAfter, EndsSinceGoOn, Floor, FloorsRiseSince, IsFloor, MayRiseSince, SinceBegins, TurnsLeaveSince}
+use Rattle.disk_recovery.specs.Flushes.{asks_flush, flush_floors, flushes_among, flushes_taken, is_flush, one_if, write_floors}
 
 -- ---- one event of the device
 

@@ -1,23 +1,21 @@
 -- For `pushes_serve_on`. What begins and ends a device's software reset at the port: neither what it sends nor a
 -- command begins one.
 use Rattle.std.proofs.Common.{◌≡◌, ℕ, ◌+◌, ◌*◌, ◌-◌, ◌<◌, Bool, true, false, ◌||◌, List, length, refl, sym, ◌∙◌, ap, arith, Option, Some, None}
-use Rattle.std.specs.{Prelude.{◌==◌, ◌%◌, if◌then◌else◌, is_some, not, nat_lt, bit_or, slice_index, Result, Ok, Err}, Int.bit_at}
 use Rattle.std.proofs.lemmas.{Bool.true≢false, Nat.Bits.bit_at-lt}
+use Rattle.std.specs.{Prelude.{◌==◌, ◌%◌, if◌then◌else◌, is_some, not, nat_lt, bit_or, slice_index, Result, Ok, Err}, Int.bit_at}
 use Rattle.fis_view.specs.{Bits.{bit, bits}, Built.{IsBuilt, cut, h2d_given}, Seen.seen, Table.{H2d, field, places, spelled}}
 use Rattle.fis_view.specs.declared.{build.H2dFields.H2dFields, view.Fis.Fis}
 use Rattle.fis_view.specs.Table as table
 use Rattle.fis_view.specs.declared.view.Fis.TheVariants as view
 use Rattle.hba_commands.specs.declared.command.Command.{Command}
-use Rattle.slots.specs.{Data.{after_arrive, may_activate}, Setup.{out_setup, pio_fault, pio_issue}}
-use Rattle.slots.specs.{Slots.{DeviceSlots, has_bit, is_control, match_some, sent_pio}, declared.answer.SetupError.SetupError}
-use Rattle.slots.specs.declared.table.Context.{Context}
+use Rattle.slots.specs.{Data.{after_arrive, may_activate}, Setup.{out_setup, pio_fault, pio_issue}, Slots.{DeviceSlots, has_bit, is_control}}
+use Rattle.slots.specs.{Slots.{match_some, sent_pio}, declared.{answer.SetupError.SetupError, table.Context.Context}}
 use Rattle.port_errors.specs.declared.cause.DeviceCause.TheVariants as cause
-use Rattle.hba_fbs.specs.declared.{hearing.Happening.Happening, hearing.Heard.Heard, report.TakeReport.TakeReport, report.Wrote.Wrote}
-use Rattle.hba_fbs.specs.declared.{state.DeviceState.DeviceState, status.Block.Block}
-use Rattle.hba_fbs.specs.Hearing.{bus_failed, faulty, heard_activate, heard_bits, heard_bytes, heard_d2h, heard_data_of, heard_fis, heard_out}
-use Rattle.hba_fbs.specs.{Hearing.{heard_pio, heard_register, overflowed, set_up}, Sending.{resets, state_sent}}
-use Rattle.hba_fbs.specs.{Status.{is_busy, is_error, with_file}, Tables.is_sound, Taking.{admitted, heard, ignores, port_of}}
-use Rattle.hba_fbs.specs.Views.{DeviceView, view_of}
+use Rattle.hba_fbs.specs.declared.{hearing.{Happening.Happening, Heard.Heard}, report.{TakeReport.TakeReport, Wrote.Wrote}}
+use Rattle.hba_fbs.specs.{declared.{state.DeviceState.DeviceState, status.Block.Block}, Hearing.{bus_failed, faulty, heard_activate, heard_bits}}
+use Rattle.hba_fbs.specs.Hearing.{heard_bytes, heard_d2h, heard_data_of, heard_fis, heard_out, heard_pio, heard_register, overflowed, set_up}
+use Rattle.hba_fbs.specs.{Sending.{resets, state_sent}, Status.{is_busy, is_error, with_file}, Tables.is_sound, Taking.{admitted, heard, ignores}}
+use Rattle.hba_fbs.specs.{Taking.port_of, Views.{DeviceView, view_of}}
 use Rattle.hba_laws.specs.Hosts.{Host, TakesFrame}
 use Rattle.disk_simulation.specs.{Anew.IsSignedWell, Heard.IsTakenWell}
 use Rattle.disk_simulation.proofs.Door.{view_signed}

@@ -1,8 +1,8 @@
 -- For `begins_to_serve` and `resets_begin_free`. Where the driver begins to serve a disk: since its flush, after a
 -- software reset, and with the log after an error.
 use Rattle.std.proofs.Common.{◌≡◌, ◌≢◌, ℕ, ◌<◌, true, false, List, [], ◌∷◌, ◌++◌, refl, sym, ◌∙◌, ap, subst, inl, inr, arith, Option, Some, None}
-use Rattle.std.specs.Option.{option_map}
 use Rattle.std.proofs.lemmas.Bool.{true≢false}
+use Rattle.std.specs.Option.{option_map}
 use Rattle.slots.specs.{Slots.own_issue, declared.table.Context.Context}
 use Rattle.hba_fbs.specs.Views.{view_of}
 use Rattle.disk_model.specs.{Histories.{Happening, Plugged}, Ledger.{Reply, ShowsPage, Signs, ledger}}
@@ -12,17 +12,16 @@ use Rattle.hba_laws.specs.History.{Transfer, issued}
 use Rattle.disk_simulation.specs.{Same.SlotCommand, Between.IsThere}
 use Rattle.disk_simulation.specs.Anew as anew
 use Rattle.disk_simulation.proofs.Door.{hosted_since_new, no_context, opens_after, opens_signing, there_by}
-use Rattle.hba_driver.specs.declared.{path.Path.Path, path.Recovery.{Recovery, TheVariants.{Log, Reset}}}
-use Rattle.hba_driver.specs.declared.path.Stage.{Stage, TheVariants.{Identify, ReadLog, AwaitReset, ReleaseReset}}
-use Rattle.hba_driver.specs.declared.{plan.Device.{Device, TheVariants.{Ready, Recovering, Starting}}, plan.Plan.Plan}
-use Rattle.hba_driver.specs.{Drivers.{Driver, Entry, device_at, entry_at}, Events.{IsSoundHost, events_over, shared_by}}
-use Rattle.hba_driver.specs.{HostTurns.{Does, Host, Ticked}, Served.{IsServed, RunServes}, Steady.{IsAskedOf, IsFine, IsSteady, IsSteadyPlan}}
-use Rattle.hba_driver.specs.Tended.{Awaits, Fine, Identifies, IsAskedOn, IsAsking, IsAtStage, IsBegun, IsLiveAt, IsReleasing, IsTended, IsTendedBy}
-use Rattle.hba_driver.specs.{Tended.{Logs, Releases, Spoilt}, Between.From}
+use Rattle.hba_driver.specs.declared.path.{Path.Path, Recovery.{Recovery, TheVariants.{Log, Reset}}, Stage.{Stage, TheVariants.{Identify, ReadLog}}}
+use Rattle.hba_driver.specs.declared.{path.Stage.TheVariants.{AwaitReset, ReleaseReset}, plan.Device.{Device, TheVariants.{Ready, Recovering}}}
+use Rattle.hba_driver.specs.{declared.plan.{Device.TheVariants.Starting, Plan.Plan}, Drivers.{Driver, Entry, device_at, entry_at}, Events.IsSoundHost}
+use Rattle.hba_driver.specs.{Events.{events_over, shared_by}, HostTurns.{Does, Host, Ticked}, Served.{IsServed, RunServes}, Steady.IsAskedOf}
+use Rattle.hba_driver.specs.{Steady.{IsFine, IsSteady, IsSteadyPlan}, Tended.{Awaits, Fine, Identifies, IsAskedOn, IsAsking, IsAtStage, IsBegun}}
+use Rattle.hba_driver.specs.{Tended.{IsLiveAt, IsReleasing, IsTended, IsTendedBy, Logs, Releases, Spoilt}, Between.From}
 use Rattle.hba_driver.proofs.Door.{flush_row, flush_steady, flush_unreset, in_slots, issued_live, issued_unended, sound_turn, stage_is, steady_tends}
 use Rattle.hba_driver.proofs.Door.{turns_serve, unworked}
-use Rattle.disk_recovery.specs.Steady.{HasSigned}
-use Rattle.disk_recovery.specs.Together.{FlushOpensOn, IsServedOn, LogBeginsServed, ResetBeginsServed, ServedSinceFlush, SpoiltIsFree}
+use Rattle.disk_recovery.specs.{Steady.HasSigned, Together.{FlushOpensOn, IsServedOn, LogBeginsServed, ResetBeginsServed, ServedSinceFlush}}
+use Rattle.disk_recovery.specs.Together.{SpoiltIsFree}
 use Rattle.disk_recovery.proofs.honest.TurnLemmas.{after, no_issue, no_transfer, plain}
 
 -- ---- a device of which nothing failed since its flush

@@ -1,7 +1,7 @@
 -- For `pushes_serve_on`. What a command that goes out to a disk asks for, since both began anew.
-use Rattle.std.proofs.Common.{◌≡◌, ℕ, ◌<◌, ◌⊎◌, Bool, true, false, List, [], ◌∷◌, ◌++◌, append_assoc, length, refl, sym, ◌∙◌, ap, subst, inl, inr, arith, Some}
+use Rattle.std.proofs.Common.{◌≡◌, ℕ, ◌<◌, ◌⊎◌, Bool, true, false, List, [], ◌∷◌, ◌++◌, append_assoc, length, refl, sym, ◌∙◌, ap, subst, inl, inr}
+use Rattle.std.proofs.{Common.{arith, Some}, lemmas.Bool.{cases_Bool, false≢true, true≢false}}
 use Rattle.std.specs.Prelude.{if◌then◌else◌, Ok, Err}
-use Rattle.std.proofs.lemmas.Bool.{cases_Bool, false≢true, true≢false}
 use Rattle.fis_view.specs.{Frames.{IsFrame, marked}, Marks.IsMarked, Seen.{kind_of, may_have, seen, view_as}, Table.Kind}
 use Rattle.fis_view.specs.declared.view.FisFault.TheVariants.{WrongLength}
 use Rattle.fis_view.specs.Table as table
@@ -10,8 +10,8 @@ use Rattle.hba_commands.proofs.Door.{built_long}
 use Rattle.hba_commands.specs.declared.command.Command as issued_command
 use Rattle.slots.specs.{Slots.{Issue, is_control, issue_at, own_issue, slots_of}, Work.{is_dma, is_queued}, declared.work.Work.Work}
 use Rattle.hba_fbs.specs.{Sending.{Order, resets}, Views.Port}
-use Rattle.disk_model.specs.{declared.request.Request.TheVariants.Queue, Anew.{IsCarefulSince, IsClear}, Ends.{Fits, FitsAll}}
-use Rattle.disk_model.specs.{Histories.{Happening, Received}, Ledger.{Ledger, empty, ledger, ledger_after}, Requests.request_of}
+use Rattle.disk_model.specs.{declared.request.Request.TheVariants.Queue, Anew.{IsCarefulSince, IsClear}, Ends.{Fits, FitsAll}, Histories.Happening}
+use Rattle.disk_model.specs.{Histories.Received, Ledger.{Ledger, empty, ledger, ledger_after}, Requests.request_of}
 use Rattle.disk_model.proofs.Door.{after_more}
 use Rattle.hba_laws.specs.{Client.{Touches, own}, History.{History, Transfer, issued}, Sound.IsHost, Between.GoesOut}
 use Rattle.hba_laws.specs.Hosts as event
@@ -19,20 +19,19 @@ use Rattle.hba_laws.proofs.Door.{own_here, some_inj}
 use Rattle.disk_simulation.specs.{Answers.IsAlone, Anew.IsHostedOn, Together.is_sent, Watched.{IsPlain, IsPlainRequest}, Same.SlotCommand}
 use Rattle.disk_simulation.specs.Anew as anew
 use Rattle.disk_simulation.proofs.Door.{hosted_on_is_kept}
-use Rattle.hba_driver.specs.declared.{path.Path.Path, path.Stage.{Stage, TheVariants.{AssertReset, AwaitReset, Identify, ReadLog, ReleaseReset}}}
+use Rattle.hba_driver.specs.declared.path.{Path.Path, Stage.{Stage, TheVariants.{AssertReset, AwaitReset, Identify, ReadLog, ReleaseReset}}}
 use Rattle.hba_driver.specs.{declared.plan.Plan.Plan, Drivers.{Entry, entry_at}, Events.shared_by, HostTurns.Host, Paths.stage_fields}
-use Rattle.hba_driver.specs.Served.{IsBuiltOf}
-use Rattle.hba_driver.specs.Tended.{Awaits, Fine, Identifies, IsAsking, IsAtStage, IsBegun, IsLiveAt, IsReleasing, IsTendedBy, Logs, Releases, Spoilt}
-use Rattle.hba_driver.specs.Between.{From}
+use Rattle.hba_driver.specs.{Served.IsBuiltOf, Tended.{Awaits, Fine, Identifies, IsAsking, IsAtStage, IsBegun, IsLiveAt, IsReleasing, IsTendedBy}}
+use Rattle.hba_driver.specs.{Tended.{Logs, Releases, Spoilt}, Between.From}
 use Rattle.hba_driver.specs.declared.request.Work as driver_work
 use Rattle.hba_driver.specs.declared.request.Work.TheVariants as work
 use Rattle.hba_driver.specs.Orders as orders
 use Rattle.hba_driver.proofs.Door.{at_stage, issued_live}
 use Rattle.disk_recovery.specs.{Steady.HasSigned, Together.IsServedOn}
 use Rattle.disk_recovery.proofs.honest.FisLemmas.{flush_is, identify_control, identify_is, identify_kind, identify_moves, request_asks}
-use Rattle.disk_recovery.proofs.honest.FisLemmas.{request_control, request_kind, request_moves}
-use Rattle.disk_recovery.proofs.{honest.PushLemmas.{IsOrderOf, OutTold, flush_of, none_queued}, together.ResetLemmas.resets_none}
-use Rattle.disk_recovery.proofs.{honest.SignLemmas.{fits_last, ledger_more, signed_down}, together.TogetherBegins.steps_alone_on}
+use Rattle.disk_recovery.proofs.honest.{FisLemmas.{request_control, request_kind, request_moves}, PushLemmas.{IsOrderOf, OutTold, flush_of}}
+use Rattle.disk_recovery.proofs.{honest.{PushLemmas.none_queued, SignLemmas.{fits_last, ledger_more, signed_down}}, together.ResetLemmas.resets_none}
+use Rattle.disk_recovery.proofs.together.TogetherBegins.{steps_alone_on}
 
 -- ---- what is plain stays so with another PM Port
 

@@ -1,8 +1,8 @@
 -- For `hosts_begin_anew`. A host whose port refuses nothing of a disk is careful from where both began anew, and joined
 -- with the disk's ledger.
 use Rattle.std.proofs.Common.{◌≡◌, ℕ, ◌<◌, true, List, [], ◌∷◌, ◌++◌, append_assoc, refl, sym, ap, subst, ◌∙◌, inr, Option, Some, None, arith}
-use Rattle.std.specs.{Prelude.is_some, Option.option_map}
 use Rattle.std.proofs.lemmas.{Bool.true≢false, List.append-nil}
+use Rattle.std.specs.{Prelude.is_some, Option.option_map}
 use Rattle.fis_view.specs.{Frames.{IsFrame, Stamped, marked}, Seen.seen}
 use Rattle.slots.specs.{Slots.{Issue, own_issue}, Work.is_queued, declared.{table.Context.Context, work.Work.Work}}
 use Rattle.hba_fbs.specs.{Taking.port_of, Views.{DeviceView, view_of}}
@@ -11,10 +11,9 @@ use Rattle.disk_model.specs.{Ledger.{Ledger, ShowsPage, Signs, Wanted, empty, le
 use Rattle.disk_model.proofs.Door.{after_more, begins_anew, ledger_push}
 use Rattle.hba_laws.specs.{Agreement.{ContextAgrees, IsHistoryOf, work_of_issue, work_of_transfer}, History.{History, Transfer, issued}, Hosts.Host}
 use Rattle.hba_laws.specs.History as event
-use Rattle.disk_simulation.specs.Anew.{HostedOnIsKept, HostedSinceNew, IsAwaited, IsHostedOn, IsKeptOn, IsOpening, OpensAfter}
-use Rattle.disk_simulation.specs.Joined.{IsJoined, JoinsGiven, SentAgrees}
-use Rattle.disk_simulation.specs.{Together.{AtMostOne, IsWaitedUnset, NoneQueued, Replies, Shows, is_sent, told}, Marked.IsHeardAlike}
-use Rattle.disk_simulation.specs.{Same.SlotCommand, Between.IsThere}
+use Rattle.disk_simulation.specs.{Anew.{HostedOnIsKept, HostedSinceNew, IsAwaited, IsHostedOn, IsKeptOn, IsOpening, OpensAfter}, Joined.IsJoined}
+use Rattle.disk_simulation.specs.{Joined.{JoinsGiven, SentAgrees}, Together.{AtMostOne, IsWaitedUnset, NoneQueued, Replies, Shows, is_sent, told}}
+use Rattle.disk_simulation.specs.{Marked.IsHeardAlike, Same.SlotCommand, Between.IsThere}
 use Rattle.disk_simulation.specs.Anew as anew
 use Rattle.disk_simulation.specs.Hosted as since_new
 use Rattle.disk_simulation.proofs.joined.{HeardLemmas.there_by, IssueJoins.{joins_issues, keeps_joined}, JoinLemmas.joins_frames}

@@ -1,23 +1,21 @@
 -- For `hosts_begin_anew`. The signature that ends a device's software reset.
 use Rattle.std.proofs.Common.{◌≡◌, ◌==◌, ◌&&◌, ◌||◌, eqb, ℕ, ◌%◌, Bool, true, false, List, [], ◌∷◌, drop, refl, sym, ap, subst, ◌∙◌, None, Ok, Result}
-use Rattle.std.specs.Prelude.{not, is_some, if◌then◌else◌}
 use Rattle.std.proofs.lemmas.Bool.{and_parts, or_parts, true≢false}
-use Rattle.fis_view.specs.{Table.{D2h, Status, Error, field}, Seen.seen, declared.{view.Fis.Fis, view.FisFault.FisFault}}
+use Rattle.std.specs.Prelude.{not, is_some, if◌then◌else◌}
+use Rattle.fis_view.specs.{Table.{D2h, Status, Error, field}, Seen.seen, declared.view.{Fis.Fis, FisFault.FisFault}}
 use Rattle.fis_view.specs.Table as table
 use Rattle.fis_view.specs.declared.view.Fis.TheVariants as view
 use Rattle.slots.specs.Slots.{own_issue}
 use Rattle.hba_fbs.specs.declared.hearing.Happening.TheVariants as happening
 use Rattle.hba_fbs.specs.{declared.{hearing.Heard.Heard, report.TakeReport.TakeReport}, Hearing.{heard_d2h, heard_fis, quietly, signing}}
-use Rattle.hba_fbs.specs.{Posting.{is_signature, signs}, Status.{after_reset, is_quiet}, Tables.is_sound}
-use Rattle.hba_fbs.specs.Taking.{admitted, heard, heard_now, ignores, is_ignored, is_running, passes_over, port_of, view_after_hearing}
-use Rattle.hba_fbs.specs.Views.{DeviceView, view_of}
-use Rattle.disk_model.specs.{Ends.IsRight, Laws.AnswersFirst}
-use Rattle.disk_model.specs.Ledger.{Accepts, Finishes, Ledger, Refuses, Reply, ShowsPage, Signs, answered, listens_up}
-use Rattle.hba_laws.specs.{Agreement.IsTold, Client.own, Delivering.{by_device, event_heard, touched}, History.History}
-use Rattle.hba_laws.specs.Hosts.{Host, TakesFrame, Took}
-use Rattle.disk_simulation.specs.{Anew.{IsSignedWell, SignatureIsNone}, Joined.IsJoined}
-use Rattle.disk_simulation.specs.{Together.{AtMostAccepts, InTalk, Pages, Queues, Replies, Same, Shows}, Same.SlotCommand}
-use Rattle.disk_simulation.specs.Between.{IsSigned, reset_by}
+use Rattle.hba_fbs.specs.{Posting.{is_signature, signs}, Status.{after_reset, is_quiet}, Tables.is_sound, Taking.{admitted, heard, heard_now}}
+use Rattle.hba_fbs.specs.{Taking.{ignores, is_ignored, is_running, passes_over, port_of, view_after_hearing}, Views.{DeviceView, view_of}}
+use Rattle.disk_model.specs.{Ends.IsRight, Laws.AnswersFirst, Ledger.{Accepts, Finishes, Ledger, Refuses, Reply, ShowsPage, Signs, answered}}
+use Rattle.disk_model.specs.Ledger.{listens_up}
+use Rattle.hba_laws.specs.{Agreement.IsTold, Client.own, Delivering.{by_device, event_heard, touched}, History.History, Hosts.{Host, TakesFrame}}
+use Rattle.hba_laws.specs.Hosts.{Took}
+use Rattle.disk_simulation.specs.{Anew.{IsSignedWell, SignatureIsNone}, Joined.IsJoined, Together.{AtMostAccepts, InTalk, Pages, Queues, Replies}}
+use Rattle.disk_simulation.specs.{Together.{Same, Shows}, Same.SlotCommand, Between.{IsSigned, reset_by}}
 use Rattle.disk_simulation.proofs.{events.AnswerLemmas.{IsBeside, free_beside, life_beside}, joined.HeardLemmas.{heard_if, list_of, own_list}}
 use Rattle.disk_simulation.proofs.joined.JoinLemmas.{asked_same}
 

@@ -1,27 +1,26 @@
 -- For `fises_are_heard_as_told`. What a FIS of a disk is to its device's history at a host port that reports nothing
 -- wrong.
-use Rattle.std.proofs.Common.{◌≡◌, ◌==◌, ◌%◌, ◌/◌, ◌&&◌, eqb, ℕ, ◌-◌, ◌<◌, Bool, true, false, List, [], ◌∷◌, drop, length, refl, sym, ap, subst, ◌∙◌, Option, Some, None, Ok, Err, Result, arith}
+use Rattle.std.proofs.Common.{◌≡◌, ◌==◌, ◌%◌, ◌/◌, ◌&&◌, eqb, ℕ, ◌-◌, ◌<◌, Bool, true, false, List, [], ◌∷◌, drop, length, refl, sym, ap, subst, ◌∙◌}
+use Rattle.std.proofs.{Common.{Option, Some, None, Ok, Err, Result, arith}, lemmas.Bool.{and_from, and_parts, eq-eqb, eqb-true, true≢false}}
+use Rattle.std.proofs.lemmas.{Nat.Bits.bit_at-zero}
 use Rattle.std.specs.{Prelude.{not, nat_lt, if◌then◌else◌, is_some}, Option.option_map}
-use Rattle.std.proofs.lemmas.{Bool.{and_from, and_parts, eq-eqb, eqb-true, true≢false}, Nat.Bits.bit_at-zero}
 use Rattle.fis_view.specs.{Table.{Bits, BufferId, D2h, Offset, Pio, SActive, Setup, Status, field}, Seen.seen, declared.view.Fis.Fis}
 use Rattle.fis_view.specs.declared.view.FisFault.{FisFault}
 use Rattle.fis_view.specs.Table as table
 use Rattle.fis_view.specs.declared.view.Fis.TheVariants as view
 use Rattle.port_errors.specs.declared.cause.DeviceCause.TheVariants as cause
-use Rattle.slots.specs.{Commands.{answer_of, completed, is_short}, Data.{after_arrive, may_activate}}
-use Rattle.slots.specs.Setup.{dma_context, is_outstanding, out_setup, pio_fault, pio_issue, setup_fault, transfer_fault}
-use Rattle.slots.specs.Slots.{DeviceSlots, Issue, has_bit, holds, is_queued_issue, is_short_issue, is_whole_issue, mask_of, match_some, own_issue}
-use Rattle.slots.specs.{Slots.sent_pio, Work.is_queued, declared.{answer.Answered.Answered, answer.SetupError.SetupError, table.Context.Context}}
-use Rattle.slots.specs.declared.work.Work.{Work}
+use Rattle.slots.specs.{Commands.{answer_of, completed, is_short}, Data.{after_arrive, may_activate}, Setup.{dma_context, is_outstanding, out_setup}}
+use Rattle.slots.specs.{Setup.{pio_fault, pio_issue, setup_fault, transfer_fault}, Slots.{DeviceSlots, Issue, has_bit, holds, is_queued_issue}}
+use Rattle.slots.specs.{Slots.{is_short_issue, is_whole_issue, mask_of, match_some, own_issue, sent_pio}, Work.is_queued}
+use Rattle.slots.specs.declared.{answer.{Answered.Answered, SetupError.SetupError}, table.Context.Context, work.Work.Work}
 use Rattle.slots.specs.declared.answer.Answered.TheVariants as answer
 use Rattle.slots.specs.declared.answer.SetupError.TheVariants as refused
 use Rattle.slots.proofs.Door.{has_bit_mask}
-use Rattle.hba_fbs.specs.declared.{hearing.Fault.Fault, hearing.Happening.Happening, hearing.Heard.Heard, report.TakeReport.TakeReport}
-use Rattle.hba_fbs.specs.declared.{report.Wrote.Wrote, state.DeviceState.DeviceState, status.Block.Block}
-use Rattle.hba_fbs.specs.Hearing.{answered, block_of, bus_failed, faulty, heard_bytes, heard_data_of, heard_fis, heard_out, is_admitted, named}
-use Rattle.hba_fbs.specs.{Hearing.{overflowed, quietly, set_up, tag_of}, Status.{after_reset, is_busy, is_error, with_bits, with_file}}
-use Rattle.hba_fbs.specs.{Taking.{admitted, device_cause, heard, heard_now, heard_report, ignores, port_cause, port_of}, Tables.is_sound}
-use Rattle.hba_fbs.specs.Views.{DeviceView, view_of}
+use Rattle.hba_fbs.specs.declared.{hearing.{Fault.Fault, Happening.Happening, Heard.Heard}, report.{TakeReport.TakeReport, Wrote.Wrote}}
+use Rattle.hba_fbs.specs.{declared.{state.DeviceState.DeviceState, status.Block.Block}, Hearing.{answered, block_of, bus_failed, faulty, heard_bytes}}
+use Rattle.hba_fbs.specs.{Hearing.{heard_data_of, heard_fis, heard_out, is_admitted, named, overflowed, quietly, set_up, tag_of}, Status.after_reset}
+use Rattle.hba_fbs.specs.{Status.{is_busy, is_error, with_bits, with_file}, Taking.{admitted, device_cause, heard, heard_now, heard_report, ignores}}
+use Rattle.hba_fbs.specs.{Taking.{port_cause, port_of}, Tables.is_sound, Views.{DeviceView, view_of}}
 use Rattle.hba_fbs.specs.declared.hearing.Fault.TheVariants as fault
 use Rattle.hba_fbs.specs.declared.hearing.Happening.TheVariants as happening
 use Rattle.disk_model.specs.{Ends.{IsFree, IsRight}, Laws.AnswersFirst, Ledger.{Ledger, Reply, ShowsPage}}

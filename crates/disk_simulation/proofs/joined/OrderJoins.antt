@@ -1,32 +1,30 @@
 -- For `port_and_ledger_stay_joined`. What goes out of a host port leaves it joined to a disk's ledger.
-use Rattle.std.proofs.Common.{◌≡◌, eqb, ℕ, ◌<◌, ◌≤◌, ◌%◌, Bool, true, false, List, [], ◌∷◌, ◌++◌, length, set, refl, sym, ap, subst, ◌∙◌, inl, inr, Option, Some, None, Ok, arith, get_or-set_same, get_or-set_other}
+use Rattle.std.proofs.Common.{◌≡◌, eqb, ℕ, ◌<◌, ◌≤◌, ◌%◌, Bool, true, false, List, [], ◌∷◌, ◌++◌, length, set, refl, sym, ap, subst, ◌∙◌, inl, inr}
+use Rattle.std.proofs.{Common.{Option, Some, None, Ok, arith, get_or-set_same, get_or-set_other}, lemmas.Bool.{cases_lt, eq-eqb, eqb-true}}
+use Rattle.std.proofs.lemmas.{Bool.{true≢false, Decides.nat_tests}, List.{get_or_past, length-set, FromFn.{length-map-range_with_len}}}
 use Rattle.std.specs.{Prelude.{◌≢◌, if◌then◌else◌, map}, Option.option_map}
-use Rattle.std.proofs.lemmas.{Bool.{cases_lt, eq-eqb, eqb-true, true≢false}, Bool.Decides.nat_tests, List.{get_or_past, length-set}}
-use Rattle.std.proofs.lemmas.List.FromFn.{length-map-range_with_len}
 use Rattle.fis_view.specs.{Frames.{IsPayload, Stamped}, Seen.seen}
 use Rattle.fis_view.specs.declared.view.Fis.TheVariants as view
 use Rattle.fis_view.proofs.Door.{payload_seen}
-use Rattle.slots.specs.{Commands.{is_slot, sent_issue, with_sent}, Data.{gone_over, moved_on, moved_over, payload_len}}
-use Rattle.slots.specs.Slots.{DeviceSlots, Issue, freed, holds, is_control, issue_at, match_some, own_issue, slots_of, waiting}
-use Rattle.slots.specs.{Setup.{begun, whole_context, with_own_context}, Work.{is_dma, is_queued}, declared.table.Context.Context}
-use Rattle.slots.specs.declared.{work.Kind.{Kind, TheVariants.{QueuedRead, QueuedWrite, DmaIn, DmaOut}}, work.Work.Work}
+use Rattle.slots.specs.{Commands.{is_slot, sent_issue, with_sent}, Data.{gone_over, moved_on, moved_over, payload_len}, Slots.{DeviceSlots, Issue}}
+use Rattle.slots.specs.{Slots.{freed, holds, is_control, issue_at, match_some, own_issue, slots_of, waiting}, Setup.{begun, whole_context}}
+use Rattle.slots.specs.{Setup.with_own_context, Work.{is_dma, is_queued}, declared.{table.Context.Context, work.Kind.{Kind, TheVariants.QueuedRead}}}
+use Rattle.slots.specs.declared.work.{Kind.TheVariants.{QueuedWrite, DmaIn, DmaOut}, Work.Work}
 use Rattle.hba_commands.specs.declared.command.Command as issued_command
 use Rattle.hba_fbs.specs.{Sending.{Data, Gives, Order, Outgoing, data_fis, gathered, outgoing}, Tables.prds_of, Views.{DeviceView, view_of}}
 use Rattle.disk_model.specs.{declared.request.Request.{Request, TheVariants.Queue}, Ends.{Fits, FitsData, FitsRequest, IsAskedFor, IsFree}}
 use Rattle.disk_model.specs.{Ledger.{Ledger, Moving, asks, listens, listens_down, takes_data}, Requests.request_of}
 use Rattle.disk_model.specs.Histories as told_of
 use Rattle.disk_model.proofs.Door.{opens_free}
-use Rattle.hba_laws.specs.{Agreement.{IsHistoryOf, IsTold, IssueAgrees, work_of_transfer}, Client.{By, own}}
-use Rattle.hba_laws.specs.{Delivering.{begun_by, event_sent, is_control_issue, touched_by_out}, History.{Event, History, Transfer, issued}}
-use Rattle.hba_laws.specs.{Hosts.{Does, Gave, Host}, Sound.IsHost, Between.{GoesOut, HasContext, IsOwn}}
+use Rattle.hba_laws.specs.{Agreement.{IsHistoryOf, IsTold, IssueAgrees, work_of_transfer}, Client.{By, own}, Delivering.{begun_by, event_sent}}
+use Rattle.hba_laws.specs.{Delivering.{is_control_issue, touched_by_out}, History.{Event, History, Transfer, issued}, Hosts.{Does, Gave, Host}}
+use Rattle.hba_laws.specs.{Sound.IsHost, Between.{GoesOut, HasContext, IsOwn}}
 use Rattle.hba_laws.specs.History as event
 use Rattle.hba_laws.proofs.Door.{goes_out, is_own, none_waits, own_here, own_one, step}
-use Rattle.disk_simulation.specs.Together.{NothingWaits, QueuesOne, Same, is_sent, AsksOne}
-use Rattle.disk_simulation.specs.Joined.{AreShort, IsAskedBy, IsJoined, JoinsCommands, JoinsData, JoinsGiven, JoinsOthers, SentAgrees}
-use Rattle.disk_simulation.specs.{Same.SlotCommand, Between.IsThere}
-use Rattle.disk_simulation.proofs.{joined.{HeardLemmas.there_by, ShortLemmas.short_down}, together.TogetherLemmas.same_goes_on}
-use Rattle.disk_simulation.proofs.{joined.OutLemmas.begun_none, events.AnswerLemmas.{IsBeside, asks_beside}}
-use Rattle.disk_simulation.proofs.joined.JoinLemmas.{WasSent, asked_same, inactive, set_sent}
+use Rattle.disk_simulation.specs.{Together.{NothingWaits, QueuesOne, Same, is_sent, AsksOne}, Joined.{AreShort, IsAskedBy, IsJoined, JoinsCommands}}
+use Rattle.disk_simulation.specs.{Joined.{JoinsData, JoinsGiven, JoinsOthers, SentAgrees}, Same.SlotCommand, Between.IsThere}
+use Rattle.disk_simulation.proofs.{joined.{HeardLemmas.there_by, ShortLemmas.short_down, OutLemmas.begun_none}, together.TogetherLemmas.same_goes_on}
+use Rattle.disk_simulation.proofs.{events.AnswerLemmas.{IsBeside, asks_beside}, joined.JoinLemmas.{WasSent, asked_same, inactive, set_sent}}
 
 -- ## A command goes out
 

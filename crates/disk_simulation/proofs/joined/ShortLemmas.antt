@@ -1,11 +1,10 @@
 -- For `port_and_ledger_stay_joined`. No DMA Setup whose data moves names more bytes than a Data FIS holds.
 use Rattle.std.proofs.Common.{◌≡◌, ℕ, ◌≤◌, Bool, true, false, List, drop, refl, sym, ap, subst, ◌∙◌, Option, Some, None, Ok, Result}
-use Rattle.fis_view.specs.{Table.{BufferId, Offset, Setup, field}, declared.{view.Fis.Fis, view.FisFault.FisFault}}
+use Rattle.fis_view.specs.{Table.{BufferId, Offset, Setup, field}, declared.view.{Fis.Fis, FisFault.FisFault}}
 use Rattle.fis_view.specs.Table as table
 use Rattle.fis_view.specs.declared.view.Fis.TheVariants as view
-use Rattle.disk_model.specs.{Ends.{IsAskedFor, IsRight}, Laws.{ActivatesRight, CarriesNext, CarriesRight}}
-use Rattle.disk_model.specs.Ledger.{Ledger, Moving, activates, is_auto, listens_up, sends_data, sets_up, takes_data, with_auto}
-use Rattle.disk_model.specs.Between.{after_bytes, is_all, with_bytes}
+use Rattle.disk_model.specs.{Ends.{IsAskedFor, IsRight}, Laws.{ActivatesRight, CarriesNext, CarriesRight}, Ledger.{Ledger, Moving, activates}}
+use Rattle.disk_model.specs.{Ledger.{is_auto, listens_up, sends_data, sets_up, takes_data, with_auto}, Between.{after_bytes, is_all, with_bytes}}
 use Rattle.disk_model.proofs.Door.{bits_up, data_down, goes_by}
 use Rattle.disk_simulation.specs.Joined.{AreShort, IsShort}
 use Rattle.disk_simulation.proofs.together.TogetherLemmas.{set_up_now}

@@ -1,13 +1,12 @@
 -- For `hosts_are_careful`. No DMA Setup of a disk names more bytes than a Data FIS holds.
-use Rattle.std.proofs.Common.{◌≡◌, ◌&&◌, ◌==◌, ℕ, ◌+◌, ◌*◌, ◌%◌, ◌<◌, ◌≤◌, Bool, true, false, List, [], ◌∷◌, ◌++◌, drop, refl, ap, sym, subst, ◌∙◌, Option, Some, None, arith}
+use Rattle.std.proofs.Common.{◌≡◌, ◌&&◌, ◌==◌, ℕ, ◌+◌, ◌*◌, ◌%◌, ◌<◌, ◌≤◌, Bool, true, false, List, [], ◌∷◌, ◌++◌, drop, refl, ap, sym, subst, ◌∙◌}
+use Rattle.std.proofs.{Common.{Option, Some, None, arith}, lemmas.Bool.{and_parts, leb-true}}
 use Rattle.std.specs.Prelude.{nat_le, not}
-use Rattle.std.proofs.lemmas.Bool.{and_parts, leb-true}
 use Rattle.fis_view.specs.{Table.{Count, Setup, field}, Seen.seen}
-use Rattle.disk_model.specs.declared.{plan.DiskPlan.DiskPlan, request.Command.Command, answer.Answer.{Answer, TheVariants.PageData}}
-use Rattle.disk_model.specs.{declared.answer.Fault.Fault, Chunks.{chunk_count, chunk_from, chunk_setup, chunks, fault_of}}
-use Rattle.disk_model.specs.{Disks.{Moment, Started, Writing, opening, pick_turn, picked, read_turn, turn, write_turn}, Anew.IsLinkedOn}
-use Rattle.disk_model.specs.{Histories.{Happening, Plugged, Received, Sent}, Ledger.{IsSize, Moving, ledger}}
-use Rattle.disk_model.specs.{Runs.{IsDiskRun, IsTurn, moment, most_sectors}, Sendings.{Sending, Shows, answer_sent}}
+use Rattle.disk_model.specs.declared.{plan.DiskPlan.DiskPlan, request.Command.Command, answer.{Answer.{Answer, TheVariants.PageData}, Fault.Fault}}
+use Rattle.disk_model.specs.{Chunks.{chunk_count, chunk_from, chunk_setup, chunks, fault_of}, Disks.{Moment, Started, Writing, opening, pick_turn}}
+use Rattle.disk_model.specs.{Disks.{picked, read_turn, turn, write_turn}, Anew.IsLinkedOn, Histories.{Happening, Plugged, Received, Sent}}
+use Rattle.disk_model.specs.{Ledger.{IsSize, Moving, ledger}, Runs.{IsDiskRun, IsTurn, moment, most_sectors}, Sendings.{Sending, Shows, answer_sent}}
 use Rattle.disk_model.specs.Between.{Asked, ChunkPart, Fresh, IsIn, IsQueue, IsReading, IsSized, IsWriting, Moves, SetUp, Stage, TellsSetup, at}
 use Rattle.disk_model.specs.Between.{begun_by}
 use Rattle.disk_model.specs.Anew as link

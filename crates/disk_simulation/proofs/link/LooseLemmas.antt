@@ -1,22 +1,21 @@
 -- For `lines_lead_to_beginning_anew`. What is awaited of a disk that is watched, and the line to it when it is set
 -- aside.
-use Rattle.std.proofs.Common.{◌≡◌, ◌≢◌, ◌==◌, ℕ, true, false, List, [], ◌∷◌, ◌++◌, append_assoc, drop, refl, sym, ap, subst, ◌∙◌, inl, inr, Option, None, Ok, Result}
+use Rattle.std.proofs.Common.{◌≡◌, ◌≢◌, ◌==◌, ℕ, true, false, List, [], ◌∷◌, ◌++◌, append_assoc, drop, refl, sym, ap, subst, ◌∙◌, inl, inr, Option}
+use Rattle.std.proofs.{Common.{None, Ok, Result}, lemmas.{Bool.true≢false, List.{append_cancel_left, append-nil}}}
 use Rattle.std.specs.Prelude.{◌⊎◌, find}
-use Rattle.std.proofs.lemmas.{Bool.true≢false, List.{append_cancel_left, append-nil}}
-use Rattle.fis_view.specs.{Table.{Bits, BufferId, SActive, Setup, field}, Seen.seen, declared.{view.Fis.Fis, view.FisFault.FisFault}}
+use Rattle.fis_view.specs.{Table.{Bits, BufferId, SActive, Setup, field}, Seen.seen, declared.view.{Fis.Fis, FisFault.FisFault}}
 use Rattle.fis_view.specs.declared.view.Fis.TheVariants as view
 use Rattle.hba_fbs.specs.Posting.{signs}
-use Rattle.disk_model.specs.declared.{plan.DiskPlan.DiskPlan, request.Command.Command, request.Request.{Request, TheVariants.{Reset, Queue}}}
-use Rattle.disk_model.specs.Anew.{IsCarefulSince, IsLinkedOn, OwesOnly}
-use Rattle.disk_model.specs.Ends.{AreRight, Fits, FitsAll, FitsData, FitsRequest, IsRight, PageAsked, reports}
-use Rattle.disk_model.specs.{Histories.{Happening, Plugged, Received, Sent}, Laws.{ActivatesRight, SetsUpRight, ShowsFirst, StartsOne}}
+use Rattle.disk_model.specs.declared.{plan.DiskPlan.DiskPlan, request.{Command.Command, Request.{Request, TheVariants.{Reset, Queue}}}}
+use Rattle.disk_model.specs.{Anew.{IsCarefulSince, IsLinkedOn, OwesOnly}, Ends.{AreRight, Fits, FitsAll, FitsData, FitsRequest, IsRight, PageAsked}}
+use Rattle.disk_model.specs.{Ends.reports, Histories.{Happening, Plugged, Received, Sent}, Laws.{ActivatesRight, SetsUpRight, ShowsFirst, StartsOne}}
 use Rattle.disk_model.specs.Ledger.{IsSize, Ledger, Moving, Names, Reply, Signs, Wanted, ledger, ledger_after, listens, listens_up}
 use Rattle.disk_model.specs.{Requests.request_of, Runs.IsDiskRun, Between.FitsOne}
 use Rattle.disk_model.specs.Anew as anew
 use Rattle.disk_model.proofs.Door.{after_more, careful_last, ends_agree_anew, ledger_push, run_before, sent_right}
-use Rattle.disk_simulation.specs.Files.{IsOfDisk}
-use Rattle.disk_simulation.specs.Line.{EachReply, IsFailed, IsLoose, IsNoSignature, IsSigning, IsUnsigned, IsWatchedWell, LinesBegin, NoneSigns}
-use Rattle.disk_simulation.specs.{Line.{PluggingLeavesReset, ToSign, Unsigned}, Watched.{Erred, Fine, IsErred, IsLastError, IsWatched, IsWatchedTo}}
+use Rattle.disk_simulation.specs.{Files.IsOfDisk, Line.{EachReply, IsFailed, IsLoose, IsNoSignature, IsSigning, IsUnsigned, IsWatchedWell}}
+use Rattle.disk_simulation.specs.{Line.{LinesBegin, NoneSigns, PluggingLeavesReset, ToSign, Unsigned}, Watched.{Erred, Fine, IsErred, IsLastError}}
+use Rattle.disk_simulation.specs.Watched.{IsWatched, IsWatchedTo}
 use Rattle.disk_simulation.proofs.{anew.AnewJoins.careful_more, phases.FollowedLemmas.run_to, link.LineLemmas.{no_end, none_signs_push, unsigned_by}}
 use Rattle.disk_simulation.proofs.link.{PlainLemmas.{ResetsNot, erred_now, fits_no_reset, stays_gone, stays_received, stays_up}, SentLemmas.of_disk}
 use Rattle.disk_simulation.proofs.{link.WatchedLemmas.{next_watched, takes_on}, joined.SizeLemmas.{AreEach, each_more, up_each}}

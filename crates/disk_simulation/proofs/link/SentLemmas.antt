@@ -1,9 +1,8 @@
 -- For `lines_lead_to_beginning_anew`. The FISes that a disk sends.
 use Rattle.std.proofs.Common.{◌≡◌, ℕ, List}
 use Rattle.fis_view.specs.{Table.{EStatus, Pio, field, places}, Built.cut, Seen.seen}
-use Rattle.disk_model.specs.declared.answer.Answer.{Answer, TheVariants.{PageFollows, PageData}}
-use Rattle.disk_model.specs.{Sendings.{Sending, SetsUp, Activates, Carries, Shows, answer_sent, page_follows}, declared.plan.DiskPlan.DiskPlan}
-use Rattle.disk_model.specs.Between.{IsTransfer}
+use Rattle.disk_model.specs.{declared.answer.Answer.{Answer, TheVariants.{PageFollows, PageData}}, Sendings.{Sending, SetsUp, Activates, Carries}}
+use Rattle.disk_model.specs.{Sendings.{Shows, answer_sent, page_follows}, declared.plan.DiskPlan.DiskPlan, Between.IsTransfer}
 use Rattle.disk_model.proofs.Door.{sent_by}
 use Rattle.disk_simulation.specs.Files.{DisksSendTheirs, IsOfDisk}
 

@@ -1,15 +1,14 @@
 -- For `disks_are_watched_to_their_errors`. A disk that is watched, at each happening at either end.
-use Rattle.std.proofs.Common.{◌≡◌, ◌≤◌, ◌+◌, ℕ, Bool, length, length-append, arith, true, false, List, [], ◌∷◌, ◌++◌, refl, sym, ap, subst, ◌∙◌, inl, inr}
+use Rattle.std.proofs.Common.{◌≡◌, ◌≤◌, ◌+◌, ℕ, Bool, length, length-append, arith, true, false, List, [], ◌∷◌, ◌++◌, refl, sym, ap, subst, ◌∙◌, inl}
+use Rattle.std.proofs.{Common.inr, lemmas.List.{append-nil}}
 use Rattle.std.specs.Prelude.{◌⊎◌}
-use Rattle.std.proofs.lemmas.List.{append-nil}
 use Rattle.fis_view.specs.Seen.{seen}
-use Rattle.disk_model.specs.{declared.plan.DiskPlan.DiskPlan, Anew.{IsCarefulSince, IsClear, IsLinkedOn}, Ends.reports}
-use Rattle.disk_model.specs.{Histories.{Happening, Received, Sent}, Fronts.IsFront, Ledger.{IsSize, Ledger, Written, ledger}, Runs.IsDiskRun}
+use Rattle.disk_model.specs.{declared.plan.DiskPlan.DiskPlan, Anew.{IsCarefulSince, IsClear, IsLinkedOn}, Ends.reports, Histories.Happening}
+use Rattle.disk_model.specs.{Histories.{Received, Sent}, Fronts.IsFront, Ledger.{IsSize, Ledger, Written, ledger}, Runs.IsDiskRun}
 use Rattle.disk_model.specs.Anew as link
 use Rattle.disk_model.proofs.Door.{ends_agree_anew, host_is_ahead, resting_is_silent}
-use Rattle.disk_simulation.specs.Followed.{IsFollowed}
-use Rattle.disk_simulation.specs.Watched.{ArePlain, Erred, Fine, GavePlain, IsErred, IsErredSince, IsLastError, IsPlain, IsPlainSince, IsWatched}
-use Rattle.disk_simulation.specs.Watched.{IsWatchedTo, WatchedIsAhead, WatchesOn}
+use Rattle.disk_simulation.specs.{Followed.IsFollowed, Watched.{ArePlain, Erred, Fine, GavePlain, IsErred, IsErredSince, IsLastError, IsPlain}}
+use Rattle.disk_simulation.specs.Watched.{IsPlainSince, IsWatched, IsWatchedTo, WatchedIsAhead, WatchesOn}
 use Rattle.disk_simulation.proofs.phases.FollowedLemmas.{IsBefore, follows_failed, follows_linked, one_more, run_to, same_first}
 use Rattle.disk_simulation.proofs.link.PlainLemmas.{Stays, erred_now, erred_writes, plain_no_reset, stays_gone, stays_received, unheard_now}
 

@@ -1,7 +1,6 @@
 -- For `disks_are_watched_to_their_errors`. What is watched, at each FIS of which the port reports nothing wrong.
-use Rattle.std.proofs.Common.{◌≡◌, ◌<◌, false, [], ◌∷◌, refl, sym, ap, ◌∙◌, inl, inr, Option, arith}
+use Rattle.std.proofs.{Common.{◌≡◌, ◌<◌, false, [], ◌∷◌, refl, sym, ap, ◌∙◌, inl, inr, Option, arith}, lemmas.Bool.{true≢false}}
 use Rattle.std.specs.Prelude.{is_some}
-use Rattle.std.proofs.lemmas.Bool.{true≢false}
 use Rattle.port_errors.specs.declared.cause.DeviceCause.{DeviceCause}
 use Rattle.hba_fbs.specs.{Taking.port_of, Views.view_of}
 use Rattle.disk_simulation.specs.{Anew.{IsKeptOn, IsNextRight}, Followed.IsFollowed, Phases.WatchesWhatIsFine, Watched.WatchesOn}

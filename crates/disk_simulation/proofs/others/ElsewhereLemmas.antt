@@ -1,15 +1,14 @@
 -- For `others_leave_a_device`. What is none of a device's leaves its view, and is no event of its history.
 use Rattle.std.proofs.Common.{◌≡◌, ◌≢◌, ℕ, Bool, true, false, List, [], ◌∷◌, refl, sym, ap, subst, ◌∙◌, inl, inr, Option, Some, None, ◌++◌}
-use Rattle.std.specs.Prelude.{if◌then◌else◌, map}
 use Rattle.std.proofs.lemmas.Bool.{cases_eq, ne_eqb}
+use Rattle.std.specs.Prelude.{if◌then◌else◌, map}
 use Rattle.fis_view.specs.Frames.{Stamped}
 use Rattle.slots.specs.{Slots.{Issue, issue_at}, Work.{is_dma, is_read}}
-use Rattle.hba_fbs.specs.declared.{register.Register.{Register, TheVariants.{Ci, Cmd, Fbs}}, report.TakeReport.TakeReport}
-use Rattle.hba_fbs.specs.{Issuing.{aimed, asked, view_issued}, Sending.{Data, Gives, Nothing, Order, Outgoing, Sends, Unreadable, outgoing}}
-use Rattle.hba_fbs.specs.{Taking.{ignores, port_of}, Views.{DeviceView, Port, stopped_view, view_of}, Writing.{cleared_by, is_device, view_after}}
-use Rattle.hba_laws.specs.Client.{By, Stops, own}
-use Rattle.hba_laws.specs.Delivering.{begun_by, by_device, event_sent, event_taken, touched_by_clear, touched_by_out, touched_by_write}
-use Rattle.hba_laws.specs.{History.{Emptied, Event, SetUp}, Hosts.{Flushed, Gave, Host, TakesFrame, Took, Wrote}}
+use Rattle.hba_fbs.specs.{declared.{register.Register.{Register, TheVariants.{Ci, Cmd, Fbs}}, report.TakeReport.TakeReport}, Issuing.{aimed, asked}}
+use Rattle.hba_fbs.specs.{Issuing.view_issued, Sending.{Data, Gives, Nothing, Order, Outgoing, Sends, Unreadable, outgoing}, Taking.ignores}
+use Rattle.hba_fbs.specs.{Taking.port_of, Views.{DeviceView, Port, stopped_view, view_of}, Writing.{cleared_by, is_device, view_after}}
+use Rattle.hba_laws.specs.{Client.{By, Stops, own}, Delivering.{begun_by, by_device, event_sent, event_taken, touched_by_clear, touched_by_out}}
+use Rattle.hba_laws.specs.{Delivering.touched_by_write, History.{Emptied, Event, SetUp}, Hosts.{Flushed, Gave, Host, TakesFrame, Took, Wrote}}
 use Rattle.hba_laws.proofs.Door.{other_below}
 use Rattle.disk_simulation.specs.Elsewhere.{IsForOther, OthersLeaveDevice, WritesElsewhere}
 

@@ -1,27 +1,25 @@
 -- For `devices_are_set_aside`. A device of which no queued command can be done.
-use Rattle.std.proofs.Common.{◌≡◌, ◌≢◌, ◌==◌, ◌&&◌, ◌||◌, ℕ, zero, suc, ◌<◌, Bool, true, false, List, [], ◌∷◌, ◌++◌, refl, sym, ap, subst, ◌∙◌, inl, inr, Option, Some, None}
+use Rattle.std.proofs.Common.{◌≡◌, ◌≢◌, ◌==◌, ◌&&◌, ◌||◌, ℕ, zero, suc, ◌<◌, Bool, true, false, List, [], ◌∷◌, ◌++◌, refl, sym, ap, subst, ◌∙◌, inl}
+use Rattle.std.proofs.{Common.{inr, Option, Some, None}, lemmas.{Bool.{cases_eq, eq-eqb, true≢false}, Nat.Bits.bit_at-zero}}
 use Rattle.std.specs.{Prelude.{◌⊎◌, is_none, is_some, map, not, if◌then◌else◌}, Option.option_map_or}
-use Rattle.std.proofs.lemmas.{Bool.{cases_eq, eq-eqb, true≢false}, Nat.Bits.bit_at-zero}
 use Rattle.fis_view.specs.{Frames.Stamped, Seen.seen}
 use Rattle.port_errors.specs.Errors.{Errors, after_clear, cleared_device, no_errors, without}
 use Rattle.slots.specs.{Slots.{Issue, has_bit, holds, issue_at, match_some}, Work.{is_dma, is_queued, is_read}}
 use Rattle.slots.specs.declared.answer.Answered.TheVariants as answer
 use Rattle.host_memory.specs.Memory.{Memory}
 use Rattle.hba_commands.specs.declared.command.Command as issued_command
-use Rattle.hba_fbs.specs.declared.{hearing.Fault.Fault, hearing.Happening.Happening, hearing.Heard.Heard}
-use Rattle.hba_fbs.specs.declared.{register.Register.{Register, TheVariants.{Ci, Cmd, Fbs}}, report.TakeReport.TakeReport, status.Block.Block}
-use Rattle.hba_fbs.specs.{Bits.dec, Issuing.{aimed, asked, view_issued}, Posting.signs, Registers.falls}
-use Rattle.hba_fbs.specs.Sending.{Data, Gives, Nothing, Order, Outgoing, Sends, Unreadable, outgoing, view_fed, view_sent}
+use Rattle.hba_fbs.specs.declared.{hearing.{Fault.Fault, Happening.Happening, Heard.Heard}, register.Register.{Register, TheVariants.{Ci, Cmd, Fbs}}}
+use Rattle.hba_fbs.specs.{declared.{report.TakeReport.TakeReport, status.Block.Block}, Bits.dec, Issuing.{aimed, asked, view_issued}, Posting.signs}
+use Rattle.hba_fbs.specs.{Registers.falls, Sending.{Data, Gives, Nothing, Order, Outgoing, Sends, Unreadable, outgoing, view_fed, view_sent}}
 use Rattle.hba_fbs.specs.Taking.{admitted, errors_in, errors_with, heard_now, heard_report, ignores, is_ignored, is_running, passes_over, port_cause}
 use Rattle.hba_fbs.specs.{Taking.port_of, Views.{DeviceView, Port, view_of}, Writing.{cleared_by, errors_after, view_after}}
 use Rattle.hba_fbs.specs.declared.hearing.Fault.TheVariants as fault
 use Rattle.hba_fbs.specs.declared.hearing.Happening.TheVariants as happening
-use Rattle.hba_laws.specs.Client.{By, Stops, own}
-use Rattle.hba_laws.specs.Delivering.{begun_by, by_device, event_heard, event_of, event_sent, event_taken, is_control_issue, issued_below, touched}
-use Rattle.hba_laws.specs.Delivering.{touched_by_clear, touched_by_out}
-use Rattle.hba_laws.specs.History.{Carried, Emptied, Event, History, Issued, PioSetUp, Sent, SentControl, SetUp, Transfer, completes, issued, unless}
-use Rattle.hba_laws.specs.{Hosts.{Does, Flushed, Gave, Host, HostEvent, TakesFrame, Took, Wrote}, Isolation.fails_by_bus}
-use Rattle.hba_laws.specs.Between.{history_below, transfer_of, with_issued}
+use Rattle.hba_laws.specs.{Client.{By, Stops, own}, Delivering.{begun_by, by_device, event_heard, event_of, event_sent, event_taken}}
+use Rattle.hba_laws.specs.{Delivering.{is_control_issue, issued_below, touched, touched_by_clear, touched_by_out}, History.{Carried, Emptied, Event}}
+use Rattle.hba_laws.specs.{History.{History, Issued, PioSetUp, Sent, SentControl, SetUp, Transfer, completes, issued, unless}, Hosts.{Does, Flushed}}
+use Rattle.hba_laws.specs.{Hosts.{Gave, Host, HostEvent, TakesFrame, Took, Wrote}, Isolation.fails_by_bus, Between.{history_below, transfer_of}}
+use Rattle.hba_laws.specs.Between.{with_issued}
 use Rattle.hba_laws.proofs.Door.{other_below, own_below_is}
 use Rattle.disk_simulation.specs.Aside.{AreUnqueued, AsideIsKept, Faulty, Halted, IsAside, IssuesNoneQueued, SetsAside, Spared, WritesAside}
 use Rattle.disk_simulation.specs.{Aside.WritesNoneQueued, Elsewhere.IsElsewhere, Together.NoneQueued}

@@ -1,29 +1,28 @@
 -- For `reports_are_honest_in_each_phase`. What is done in each phase, and what the host makes of what comes next.
-use Rattle.std.proofs.Common.{◌≡◌, ◌∙◌, ℕ, ◌<◌, Bool, true, false, List, [], ◌∷◌, ◌++◌, refl, sym, ap, subst, length, inl, inr, Option, Some, None, Ok, Result, arith}
+use Rattle.std.proofs.Common.{◌≡◌, ◌∙◌, ℕ, ◌<◌, Bool, true, false, List, [], ◌∷◌, ◌++◌, refl, sym, ap, subst, length, inl, inr, Option, Some, None}
+use Rattle.std.proofs.{Common.{Ok, Result, arith}, lemmas.Bool.{true≢false}}
 use Rattle.std.specs.Prelude.{◌⊎◌, is_some, if◌then◌else◌}
-use Rattle.std.proofs.lemmas.Bool.{true≢false}
 use Rattle.fis_view.specs.{Frames.{IsFrame, marked}, Marks.IsMarked, Table.{Bits, SActive, Status, field}, Seen.{kind_of, may_have, seen}}
-use Rattle.fis_view.specs.declared.{view.Fis.Fis, view.FisFault.FisFault}
+use Rattle.fis_view.specs.declared.view.{Fis.Fis, FisFault.FisFault}
 use Rattle.fis_view.specs.Table as table
 use Rattle.fis_view.specs.declared.view.Fis.TheVariants as view
 use Rattle.fis_view.proofs.Door.{is_marked}
 use Rattle.port_errors.specs.declared.cause.DeviceCause.TheVariants as cause
 use Rattle.slots.specs.Commands.{completed}
-use Rattle.hba_fbs.specs.{declared.{hearing.Fault.Fault, report.TakeReport.TakeReport}, Hearing.{faulty, heard_fis, named}}
-use Rattle.hba_fbs.specs.{Status.{is_error, with_bits}, Tables.is_sound}
-use Rattle.hba_fbs.specs.{Taking.{admitted, device_cause, heard, heard_now, heard_report, ignores, port_of}, Views.{DeviceView, view_of}}
+use Rattle.hba_fbs.specs.{declared.{hearing.Fault.Fault, report.TakeReport.TakeReport}, Hearing.{faulty, heard_fis, named}, Status.is_error}
+use Rattle.hba_fbs.specs.{Status.with_bits, Tables.is_sound, Taking.{admitted, device_cause, heard, heard_now, heard_report, ignores, port_of}}
+use Rattle.hba_fbs.specs.Views.{DeviceView, view_of}
 use Rattle.hba_fbs.specs.declared.hearing.Fault.TheVariants as fault
 use Rattle.disk_model.specs.{declared.plan.DiskPlan.DiskPlan, Ends.reports, Histories.{Happening, Sent}, Ledger.{IsSize, has_error, ledger}}
 use Rattle.disk_model.specs.Runs.{IsDiskRun}
 use Rattle.hba_laws.specs.{Agreement.IsHistoryOf, Client.own, Delivering.touched, History.History, Hosts.{Host, TakesFrame, Took}, Sound.IsHost}
 use Rattle.disk_simulation.specs.{Anew.{IsHostedOn, IsKeptOn, IsNextRight, IsSignedWell}, Aside.{AsideIsKept, IsAside}, Followed.IsFollowed}
-use Rattle.disk_simulation.specs.{Heard.{IsTakenWell, IsToldSo}, Marked.IsHeardAlike}
-use Rattle.disk_simulation.specs.{Phases.{Apart, AreTogether, EachDoneIsHonest, TakesInEachPhase, Together}, Together.told, Same.SlotCommand}
+use Rattle.disk_simulation.specs.{Heard.{IsTakenWell, IsToldSo}, Marked.IsHeardAlike, Phases.{Apart, AreTogether, EachDoneIsHonest, TakesInEachPhase}}
+use Rattle.disk_simulation.specs.{Phases.Together, Together.told, Same.SlotCommand}
 use Rattle.disk_simulation.specs.Anew as anew
-use Rattle.disk_simulation.proofs.{anew.AnewJoins.hosted_on_is_kept, phases.AsideLemmas.aside_is_kept}
-use Rattle.disk_simulation.proofs.phases.FollowedLemmas.{followed_is_honest, next_or_fails, takes_on}
-use Rattle.disk_simulation.proofs.joined.{HeardLemmas.{error_is, heard_as_told, heard_if}, MarkedLemmas.{bits_by, marks_tell_nothing}}
-use Rattle.disk_simulation.proofs.anew.SignsLemmas.{signature_is_none}
+use Rattle.disk_simulation.proofs.{anew.AnewJoins.hosted_on_is_kept, phases.{AsideLemmas.aside_is_kept, FollowedLemmas.followed_is_honest}}
+use Rattle.disk_simulation.proofs.{phases.FollowedLemmas.{next_or_fails, takes_on}, joined.HeardLemmas.{error_is, heard_as_told, heard_if}}
+use Rattle.disk_simulation.proofs.{joined.MarkedLemmas.{bits_by, marks_tell_nothing}, anew.SignsLemmas.signature_is_none}
 
 pub each_done : EachDoneIsHonest
 each_done plan sectors disk given bytes size run n host new report commands past sound below plain framed from_n (Together base down up followed hosted) takes s t lt here queued set =

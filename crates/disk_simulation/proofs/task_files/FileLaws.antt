@@ -1,22 +1,20 @@
 -- For `task_files_stay_fine`. The task file of a disk that is watched, at each FIS that comes from it and at what goes
 -- to it.
 use Rattle.std.proofs.Common.{◌≡◌, ℕ, ◌<◌, true, false, List, [], ◌∷◌, drop, refl, sym, ap, subst, ◌∙◌, inl, inr, None, Ok, Result, arith}
-use Rattle.std.specs.Prelude.{◌⊎◌, is_some}
 use Rattle.std.proofs.lemmas.{Bool.true≢false, List.append_cancel_left}
-use Rattle.fis_view.specs.{Frames.marked, Seen.seen, declared.{view.Fis.Fis, view.FisFault.FisFault}}
+use Rattle.std.specs.Prelude.{◌⊎◌, is_some}
+use Rattle.fis_view.specs.{Frames.marked, Seen.seen, declared.view.{Fis.Fis, FisFault.FisFault}}
 use Rattle.fis_view.specs.declared.view.Fis.TheVariants as view
-use Rattle.hba_fbs.specs.{declared.{hearing.Heard.Heard, report.TakeReport.TakeReport}, Tables.is_sound}
-use Rattle.hba_fbs.specs.{Taking.{admitted, device_cause, heard_now, heard_report, ignores, port_of, view_after_hearing}, Views.{DeviceView, view_of}}
+use Rattle.hba_fbs.specs.{declared.{hearing.Heard.Heard, report.TakeReport.TakeReport}, Tables.is_sound, Taking.{admitted, device_cause, heard_now}}
+use Rattle.hba_fbs.specs.{Taking.{heard_report, ignores, port_of, view_after_hearing}, Views.{DeviceView, view_of}}
 use Rattle.disk_model.specs.{declared.{plan.DiskPlan.DiskPlan, request.Request.{Request, TheVariants.{Queue, Identify, Flush}}}, Anew.IsClear}
-use Rattle.disk_model.specs.{Ends.{Fits, FitsAll, IsRight}, Histories.{Happening, Plugged, Loaded, Received, Sent}}
-use Rattle.disk_model.specs.{Ledger.{Accepts, Finishes, Ledger, ShowsPage, ledger, ledger_after, listens, listens_down}, Requests.request_of}
-use Rattle.disk_model.specs.Between.{alone}
+use Rattle.disk_model.specs.{Ends.{Fits, FitsAll, IsRight}, Histories.{Happening, Plugged, Loaded, Received, Sent}, Ledger.{Accepts, Finishes}}
+use Rattle.disk_model.specs.{Ledger.{Ledger, ShowsPage, ledger, ledger_after, listens, listens_down}, Requests.request_of, Between.alone}
 use Rattle.disk_model.proofs.Door.{after_more, asks_fits}
 use Rattle.hba_laws.specs.Hosts.{Host, TakesFrame}
-use Rattle.disk_simulation.specs.Anew.{IsNextRight}
-use Rattle.disk_simulation.specs.Files.{BothHaveBegun, FilesStayFine, IsFineFile, IsNextHeard, IsNoRefusal, IsOfDisk, IsUnrefused, NothingIsRefused}
-use Rattle.disk_simulation.specs.{Followed.IsFollowed, Line.{EachReply, IsNoSignature, IsWatchedWell, ToSign, Unsigned}, Marked.IsHeardAlike}
-use Rattle.disk_simulation.specs.Watched.{GavePlain, IsPlain, IsPlainRequest, IsWatched, WatchesOn}
+use Rattle.disk_simulation.specs.{Anew.IsNextRight, Files.{BothHaveBegun, FilesStayFine, IsFineFile, IsNextHeard, IsNoRefusal, IsOfDisk, IsUnrefused}}
+use Rattle.disk_simulation.specs.{Files.NothingIsRefused, Followed.IsFollowed, Line.{EachReply, IsNoSignature, IsWatchedWell, ToSign, Unsigned}}
+use Rattle.disk_simulation.specs.{Marked.IsHeardAlike, Watched.{GavePlain, IsPlain, IsPlainRequest, IsWatched, WatchesOn}}
 use Rattle.disk_simulation.proofs.{task_files.FileLemmas.{IsFineHeard, fine_view, first_heard, right_heard}, phases.FollowedLemmas.next_or_fails}
 use Rattle.disk_simulation.proofs.{link.{LooseLemmas.next_of_disk, MarkedFiles.disk_marked}, joined.MarkedLemmas.marks_tell_nothing}
 use Rattle.disk_simulation.proofs.{joined.HeardLemmas.heard_if, link.{PlainLemmas.{each_push, leaves_taken, leaves_up}, WatchedLemmas.watches_on}}

@@ -1,17 +1,16 @@
 -- For `each_fis_has_its_outcome`. What becomes of a host and of a disk that it watches, at each FIS of the disk.
 use Rattle.std.proofs.Common.{◌≡◌, ◌==◌, ℕ, ◌<◌, Bool, true, false, List, [], ◌∷◌, ◌++◌, refl, sym, ap, ◌∙◌, inl, inr, None, arith}
-use Rattle.std.specs.Prelude.{◌⊎◌, if◌then◌else◌, is_some}
 use Rattle.std.proofs.lemmas.Bool.{true≢false}
+use Rattle.std.specs.Prelude.{◌⊎◌, if◌then◌else◌, is_some}
 use Rattle.fis_view.specs.{Frames.marked, Seen.seen}
 use Rattle.slots.specs.Slots.{DeviceSlots}
-use Rattle.hba_fbs.specs.{declared.{register.Register.TheVariants.Ci, report.TakeReport.TakeReport}, Issuing.{aimed, view_issued}}
-use Rattle.hba_fbs.specs.{Views.{DeviceView, view_of}, Writing.view_after}
+use Rattle.hba_fbs.specs.{declared.{register.Register.TheVariants.Ci, report.TakeReport.TakeReport}, Issuing.{aimed, view_issued}, Views.DeviceView}
+use Rattle.hba_fbs.specs.{Views.view_of, Writing.view_after}
 use Rattle.disk_model.specs.{declared.plan.DiskPlan.DiskPlan, Anew.IsClear, Ends.reports, Histories.{Happening, Received, Sent}, Ledger.ledger}
 use Rattle.hba_laws.specs.{Client.own, Delivering.touched, History.History, Hosts.{Does, Host, Took, Wrote}}
 use Rattle.disk_simulation.specs.{Anew.{IsHostedOn, IsKeptOn}, Aside.{AsideIsKept, IsAside}, Files.{FilesStayFine, IsFineFile, IsNextHeard}}
-use Rattle.disk_simulation.specs.Line.{IsWatchedWell, LinesBegin, Loose, OnLine}
-use Rattle.disk_simulation.specs.Outcomes.{EachTakenHasOutcome, Fails, HasFineFile, IsNextTaken, Loosens, NothingIsGiven, Outcome, Watches}
-use Rattle.disk_simulation.specs.{Phases.AreWatching, Same.SlotCommand}
+use Rattle.disk_simulation.specs.{Line.{IsWatchedWell, LinesBegin, Loose, OnLine}, Outcomes.{EachTakenHasOutcome, Fails, HasFineFile, IsNextTaken}}
+use Rattle.disk_simulation.specs.{Outcomes.{Loosens, NothingIsGiven, Outcome, Watches}, Phases.AreWatching, Same.SlotCommand}
 use Rattle.disk_simulation.specs.Anew as anew
 use Rattle.disk_simulation.proofs.{anew.AnewJoins.hosted_on_is_kept, phases.AsideLemmas.aside_is_kept, task_files.FileLaws.files_stay_fine}
 use Rattle.disk_simulation.proofs.{link.LooseLemmas.{gives_none, lines_begin, not_base}, phases.PhaseLemmas.{error_faults, none_is}}

@@ -1,19 +1,17 @@
 -- For `both_views_go_on_together`. What each event leaves of the answers that are still to come.
-use Rattle.std.proofs.Common.{◌≡◌, ◌==◌, ◌&&◌, eqb, ℕ, Bool, true, false, List, [], ◌∷◌, ◌++◌, refl, sym, ap, subst, ◌∙◌, inl, inr, Option, Some, None, arith}
+use Rattle.std.proofs.Common.{◌≡◌, ◌==◌, ◌&&◌, eqb, ℕ, Bool, true, false, List, [], ◌∷◌, ◌++◌, refl, sym, ap, subst, ◌∙◌, inl, inr, Option, Some}
+use Rattle.std.proofs.{Common.{None, arith}, lemmas.Bool.{cases_Bool, eq-eqb, eqb-true, true≢false, Decides.nat_tests}}
 use Rattle.std.specs.Prelude.{◌≢◌, if◌then◌else◌, drop, find}
-use Rattle.std.proofs.lemmas.{Bool.{cases_Bool, eq-eqb, eqb-true, true≢false}, Bool.Decides.nat_tests}
 use Rattle.fis_view.specs.Table.{BufferId, Setup, field}
 use Rattle.slots.specs.{Slots.match_some, Work.is_queued}
-use Rattle.disk_model.specs.{declared.{request.Command.Command, request.Request.Request}, Ends.{FitsRequest, Rests}}
-use Rattle.disk_model.specs.Laws.{ActivatesRight, AnswersFirst, SetsUpRight, ShowsFirst, StartsOne}
-use Rattle.disk_model.specs.Ledger.{Accepts, Finishes, IdentifyData, Ledger, LogOf, Moving, Names, Refuses, Reply, ShowsPage, Signs, Wanted, answered}
-use Rattle.disk_model.specs.Between.{alone, opened}
+use Rattle.disk_model.specs.{declared.request.{Command.Command, Request.Request}, Ends.{FitsRequest, Rests}, Laws.{ActivatesRight, AnswersFirst}}
+use Rattle.disk_model.specs.{Laws.{SetsUpRight, ShowsFirst, StartsOne}, Ledger.{Accepts, Finishes, IdentifyData, Ledger, LogOf, Moving, Names}}
+use Rattle.disk_model.specs.{Ledger.{Refuses, Reply, ShowsPage, Signs, Wanted, answered}, Between.{alone, opened}}
 use Rattle.disk_model.specs.declared.request.Request.TheVariants as asked
 use Rattle.hba_laws.specs.History.{Answered, Carried, History, Issued, PioSetUp, Sent, Transfer, completes, is_at, is_set_up, issued, unless}
 use Rattle.hba_laws.specs.History.{waiting_in}
-use Rattle.disk_simulation.specs.Answers.{IsAlone, IsIdle}
-use Rattle.disk_simulation.specs.Together.{AtMostAccepts, AtMostOne, InTalk, IsOwnReply, IsWaited, IsWaitedUnset, NothingWaits, Pages, Queues}
-use Rattle.disk_simulation.specs.Together.{Replies, Shows}
+use Rattle.disk_simulation.specs.{Answers.{IsAlone, IsIdle}, Together.{AtMostAccepts, AtMostOne, InTalk, IsOwnReply, IsWaited, IsWaitedUnset}}
+use Rattle.disk_simulation.specs.Together.{NothingWaits, Pages, Queues, Replies, Shows}
 
 -- ## The command that waits
 

@@ -1,44 +1,41 @@
 -- For `writes_are_accepted`. The port takes every write of a tick.
-use Rattle.std.proofs.Common.{◌≡◌, ℕ, ◌+◌, ◌*◌, ◌<◌, ◌≤◌, Bool, true, false, ◌&&◌, nat_lt, List, [], ◌∷◌, length, replicate, refl, sym, ◌∙◌, ap, subst, inl, inr, arith, Option, Some, None}
+use Rattle.std.proofs.Common.{◌≡◌, ℕ, ◌+◌, ◌*◌, ◌<◌, ◌≤◌, Bool, true, false, ◌&&◌, nat_lt, List, [], ◌∷◌, length, replicate, refl, sym, ◌∙◌, ap}
+use Rattle.std.proofs.{Common.{subst, inl, inr, arith, Option, Some, None}, lemmas.Bool.{cases_Bool, cases_eq, cases_lt, false≢true, le-ltb}}
+use Rattle.std.proofs.lemmas.{Bool.{or_parts, true≢false, Decides.nat_tests}, List.{get_or-replicate, get_or_past, length-replicate}}
 use Rattle.std.specs.{Prelude.{◌||◌, ◌==◌, ◌%◌, if◌then◌else◌, is_some, not}, List.list_any}
-use Rattle.std.proofs.lemmas.{Bool.{cases_Bool, cases_eq, cases_lt, false≢true, le-ltb, or_parts, true≢false}, Bool.Decides.nat_tests}
-use Rattle.std.proofs.lemmas.List.{get_or-replicate, get_or_past, length-replicate}
 use Rattle.fis_view.specs.declared.build.H2dFields.{H2dFields}
 use Rattle.host_memory.specs.{Memory.{IsHostMemory, Memory}, Place.total_of}
 use Rattle.hba_commands.specs.{Commands.is_proper, Requests.{request_of, work_of}, Writing.{header_for, total_if_usable}}
 use Rattle.slots.specs.{Table.IsTable, Slots.{Issue, has_bit, issue_at, match_some, no_own_slots, own_issue}}
 use Rattle.hba_fbs.specs.{declared.{register.Register.TheVariants.{Is, Cmd, Fbs}, registers.Registers.Registers}, Offsets.register_at}
-use Rattle.hba_fbs.specs.{Registers.{falls, own_refusal, written}, Views.{DeviceView, Flushes, Port}, Sending.outgoing}
-use Rattle.hba_fbs.specs.Writing.{Accepts, slots_refusal, write_refusal}
+use Rattle.hba_fbs.specs.{Registers.{falls, own_refusal, written}, Views.{DeviceView, Flushes, Port}, Sending.outgoing, Writing.Accepts}
+use Rattle.hba_fbs.specs.Writing.{slots_refusal, write_refusal}
 use Rattle.hba_laws.specs.{Client.{Touches, own}, Delivering.touches_after, History.{Transfer, issued}}
 use Rattle.hba_laws.proofs.Door.{some_inj}
-use Rattle.hba_driver.specs.declared.{effect.Effect.Effect, mode.Mode.{Mode, TheVariants.{Switching, CommandBased}}}
-use Rattle.hba_driver.specs.declared.{order.Order.{Order, TheVariants.{AwaitSignature, Scan, Clear, Watch}}, path.Path.Path}
-use Rattle.hba_driver.specs.declared.path.Stage.{Stage, TheVariants.{Identify, ReadLog, AssertReset, ReleaseReset, AwaitReset}}
-use Rattle.hba_driver.specs.{declared.request.Outcome.TheVariants.Done, Seeing.Sight, declared.{slot.Phase.TheVariants.Ended, turn.Act.Act}}
-use Rattle.hba_driver.specs.Accepted.{AreAccepted, TurnAccepts, TurnsAccept, WritesAreAccepted}
-use Rattle.hba_driver.specs.Drivers.{holds as entry_holds, Driver, Entry, entry_at, is_issued, rephase, rephased}
-use Rattle.hba_driver.specs.Effects.{ActsAll, IsRuled, buffer_prd, clearing, effects_of, issuing, opening_write, order_effects, prds_with}
-use Rattle.hba_driver.specs.Effects.{restart_write, sending, stage_effects, table_of}
-use Rattle.hba_driver.specs.Events.{AreDriven, IsSoundHostIn, events_over, opening_host_in, shared_by}
-use Rattle.hba_driver.specs.HostTurns.{Does, DoesAll, Host, HostTurn, Took, Pushed, Ticked, sight_in}
-use Rattle.hba_driver.specs.{Orders.{control, control_port, identify_fields, is_queued, log_fields, order_fields, request_fields}, Paths.stage_fields}
-use Rattle.hba_driver.specs.{Served.{IsServed, RunServes}, Sights.{file_shown, px_cmd, px_fbs}}
-use Rattle.hba_driver.specs.Ticks.{done_ended, due, effects, effects_due, is_done, seen, turn}
-use Rattle.hba_driver.specs.Turns.{control_beside, device_of, is_issued_of_other, may_go, may_go_to, path_beside}
-use Rattle.hba_driver.specs.Between.{AreFit, Due, From, IsFit, IsFree, IsIssuedAt, IsOnWayIn, IsUpIn, MayEnd, Runs, Waiting, beside}
+use Rattle.hba_driver.specs.declared.{effect.Effect.Effect, mode.Mode.{Mode, TheVariants.{Switching, CommandBased}}, order.Order.Order}
+use Rattle.hba_driver.specs.declared.{order.Order.TheVariants.{AwaitSignature, Scan, Clear, Watch}, path.{Path.Path, Stage.Stage}}
+use Rattle.hba_driver.specs.declared.path.Stage.TheVariants.{Identify, ReadLog, AssertReset, ReleaseReset, AwaitReset}
+use Rattle.hba_driver.specs.{declared.{request.Outcome.TheVariants.Done, slot.Phase.TheVariants.Ended, turn.Act.Act}, Seeing.Sight}
+use Rattle.hba_driver.specs.{Accepted.{AreAccepted, TurnAccepts, TurnsAccept, WritesAreAccepted}, Drivers.{holds as entry_holds, Driver, Entry}}
+use Rattle.hba_driver.specs.{Drivers.{entry_at, is_issued, rephase, rephased}, Effects.{ActsAll, IsRuled, buffer_prd, clearing, effects_of, issuing}}
+use Rattle.hba_driver.specs.{Effects.{opening_write, order_effects, prds_with, restart_write, sending, stage_effects, table_of}, Events.AreDriven}
+use Rattle.hba_driver.specs.{Events.{IsSoundHostIn, events_over, opening_host_in, shared_by}, HostTurns.{Does, DoesAll, Host, HostTurn, Took, Pushed}}
+use Rattle.hba_driver.specs.{HostTurns.{Ticked, sight_in}, Orders.{control, control_port, identify_fields, is_queued, log_fields, order_fields}}
+use Rattle.hba_driver.specs.{Orders.request_fields, Paths.stage_fields, Served.{IsServed, RunServes}, Sights.{file_shown, px_cmd, px_fbs}}
+use Rattle.hba_driver.specs.{Ticks.{done_ended, due, effects, effects_due, is_done, seen, turn}, Turns.{control_beside, device_of}}
+use Rattle.hba_driver.specs.{Turns.{is_issued_of_other, may_go, may_go_to, path_beside}, Between.{AreFit, Due, From, IsFit, IsFree, IsIssuedAt}}
+use Rattle.hba_driver.specs.Between.{IsOnWayIn, IsUpIn, MayEnd, Runs, Waiting, beside}
 use Rattle.hba_driver.specs.declared.effect.Effect.TheVariants as effect
 use Rattle.hba_driver.specs.declared.turn.Act.TheVariants as act
 use Rattle.hba_driver.proofs.{events.DrivenLemmas.{not_below, tick_is}, ticks.DueLemmas.{MayGo, PlanGoes, goes_turn, runs_then, turn_alone}}
 use Rattle.hba_driver.proofs.{issued.EndingLemmas.{clear_taken, is_accepted, stop_taken}, events.EventLemmas.sound_beside}
 use Rattle.hba_driver.proofs.{accepted.FitLemmas.{fit_rephased, fit_turn}, requests.HistoryLemmas.back_of, issued.IssueLemmas.told_of}
 use Rattle.hba_driver.proofs.{issued.IssuingLemmas.slot_of_issue, ticks.LifeLemmas.{due_seen, entry_of_rephased, keeps_seen, length_of_rephased}}
-use Rattle.hba_driver.proofs.events.OpenLemmas.{opens_taken, restart_taken, stays_gives, stays_took, up_of, zero_either}
-use Rattle.hba_driver.proofs.issued.{ServedLemmas.{bit_on, may_end_in, not_done, seen_served, turns_serve}, ServingLemmas.not_busy}
-use Rattle.hba_driver.proofs.events.SoundLemmas.{hosts_stay_sound, sound_turn}
-use Rattle.hba_driver.proofs.issued.TickingLemmas.{else_entry, free_order, free_slot, not_both, request_port, step_dev}
-use Rattle.hba_driver.proofs.calls.SubmitLemmas.{none_conflict}
-use Rattle.hba_driver.proofs.accepted.UpLemmas.{Issues, MayAim, Placed, alone_by, free_by, issuing_taken, same_alone, same_free, sntf_step}
+use Rattle.hba_driver.proofs.{events.OpenLemmas.{opens_taken, restart_taken, stays_gives, stays_took, up_of, zero_either}, issued.ServedLemmas.bit_on}
+use Rattle.hba_driver.proofs.issued.{ServedLemmas.{may_end_in, not_done, seen_served, turns_serve}, ServingLemmas.not_busy}
+use Rattle.hba_driver.proofs.{events.SoundLemmas.{hosts_stay_sound, sound_turn}, issued.TickingLemmas.{else_entry, free_order, free_slot, not_both}}
+use Rattle.hba_driver.proofs.{issued.TickingLemmas.{request_port, step_dev}, calls.SubmitLemmas.none_conflict, accepted.UpLemmas.{Issues, MayAim}}
+use Rattle.hba_driver.proofs.accepted.UpLemmas.{Placed, alone_by, free_by, issuing_taken, same_alone, same_free, sntf_step}
 
 -- ---- what an act leaves, if the port takes it
 

@@ -1,22 +1,21 @@
 -- For `writes_are_accepted`. The port is open: it takes the writes with which the driver issues a command, and the
 -- command is issued.
-use Rattle.std.proofs.Common.{◌≡◌, ℕ, ◌+◌, ◌-◌, ◌*◌, ◌/◌, ◌^◌, ◌<◌, ◌≤◌, Bool, true, false, cond, ◌&&◌, nat_le, bit_or, w32, List, length, refl, sym, ◌∙◌, ap, subst, inl, inr, arith, Option, Some, None, [], ◌∷◌}
-use Rattle.std.specs.{Prelude.{MatchOption, if◌then◌else◌, ◌==◌, ◌%◌, not, is_none, is_some, ◌||◌}, Bool.beq, Int.bit_at}
-use Rattle.std.specs.{Int.Bits.{and_zero_l, or_zero_l}, Option.option_or}
-use Rattle.std.proofs.lemmas.{Bool.{and_parts, cases_eq, cases_lt, false≢true, lt-ltb, true≢false}, Bool.Decides.nat_tests, List.get_or_past}
-use Rattle.std.proofs.lemmas.{Nat.{and_comm, pow_below}, Nat.Bits.{and_pow, bit_at-pow_same, bit_at-zero, bit_at_lowest, bit_at_not}}
+use Rattle.std.proofs.Common.{◌≡◌, ℕ, ◌+◌, ◌-◌, ◌*◌, ◌/◌, ◌^◌, ◌<◌, ◌≤◌, Bool, true, false, cond, ◌&&◌, nat_le, bit_or, w32, List, length, refl, sym}
+use Rattle.std.proofs.{Common.{◌∙◌, ap, subst, inl, inr, arith, Option, Some, None, [], ◌∷◌}, lemmas.Bool.{and_parts, cases_eq, cases_lt, false≢true}}
+use Rattle.std.proofs.lemmas.{Bool.{lt-ltb, true≢false, Decides.nat_tests}, List.get_or_past, Nat.{and_comm, pow_below, Bits.and_pow}}
+use Rattle.std.proofs.lemmas.Nat.Bits.{bit_at-pow_same, bit_at-zero, bit_at_lowest, bit_at_not}
+use Rattle.std.specs.{Prelude.{MatchOption, if◌then◌else◌, ◌==◌, ◌%◌, not, is_none, is_some, ◌||◌}, Bool.beq, Int.{bit_at, Bits.and_zero_l}}
+use Rattle.std.specs.{Int.Bits.or_zero_l, Option.option_or}
 use Rattle.fis_view.specs.declared.build.H2dFields.{H2dFields}
 use Rattle.host_memory.specs.{Memory.Memory, Place.total_of, declared.table.Prd.Prd}
-use Rattle.hba_commands.specs.declared.command.Command.{Command}
-use Rattle.hba_commands.specs.{Commands.{cfis_at, command_at, command_in, command_under, has_table, is_proper, total_at}, Headers.header_at}
-use Rattle.hba_commands.specs.{Requests.{request_at, request_of, work_of}, Writing.header_for}
-use Rattle.slots.specs.Slots.{holds as issue_holds, Issue, Slots, has_bit, issue_at, lowest, new_issue, own_issue, slots_of}
-use Rattle.slots.specs.Table.{IsIssue, IsTable}
+use Rattle.hba_commands.specs.{declared.command.Command.Command, Commands.{cfis_at, command_at, command_in, command_under, has_table, is_proper}}
+use Rattle.hba_commands.specs.{Commands.total_at, Headers.header_at, Requests.{request_at, request_of, work_of}, Writing.header_for}
+use Rattle.slots.specs.{Slots.{holds as issue_holds, Issue, Slots, has_bit, issue_at, lowest, new_issue, own_issue, slots_of}, Table.IsIssue}
+use Rattle.slots.specs.Table.{IsTable}
 use Rattle.slots.proofs.Door.{lowest_is}
 use Rattle.hba_fbs.specs.declared.{error.WriteError.WriteError, register.Register.TheVariants.{Sact, Ci, Sntf, Fbs}, registers.Registers.Registers}
-use Rattle.hba_fbs.specs.Bits.{without}
-use Rattle.hba_fbs.specs.Issuing.{aimed, any_beside, any_slot, asked, is_bad, is_beside, is_busy, issue_with, named_in, names_other, view_issued}
-use Rattle.hba_fbs.specs.{Offsets.register_at, Registers.{own_refusal, running_if, written}, Views.{DeviceView, Port, view_of}}
+use Rattle.hba_fbs.specs.{Bits.without, Issuing.{aimed, any_beside, any_slot, asked, is_bad, is_beside, is_busy, issue_with, named_in, names_other}}
+use Rattle.hba_fbs.specs.{Issuing.view_issued, Offsets.register_at, Registers.{own_refusal, running_if, written}, Views.{DeviceView, Port, view_of}}
 use Rattle.hba_fbs.specs.Writing.{Accepts, apart_refusal, is_apart, refusal_of, slots_refusal, view_after, view_cleared, write_refusal}
 use Rattle.hba_fbs.specs.declared.error.WriteError.TheVariants as refusal
 use Rattle.hba_fbs.proofs.Door.{aimed_chosen, aimed_first}
@@ -26,7 +25,7 @@ use Rattle.hba_driver.specs.{declared.{effect.Effect.Effect, mode.Mode.{Mode, Th
 use Rattle.hba_driver.specs.{Effects.{Acts, ActsAll, issuing, table_of}, Modes.is_switching, Sights.{px_ci, px_fbs, px_sact, px_sntf}}
 use Rattle.hba_driver.specs.Between.{IsIssuedAt, IsUpIn}
 use Rattle.hba_driver.specs.declared.effect.Effect.TheVariants as effect
-use Rattle.hba_driver.proofs.{events.DrivenLemmas.{no_dec, refusal_is}, issued.IssuingLemmas.{bit_other, bit_same}, events.OpenLemmas.taken}
+use Rattle.hba_driver.proofs.{events.{DrivenLemmas.{no_dec, refusal_is}, OpenLemmas.taken}, issued.IssuingLemmas.{bit_other, bit_same}}
 
 -- ---- small facts
 

@@ -1,31 +1,29 @@
 -- For `frames_are_addressed`. Each frame that goes out has the PM Port of its device.
-use Rattle.std.proofs.Common.{◌≡◌, ◌≢◌, ℕ, ◌<◌, Bool, true, false, ◌&&◌, List, [], ◌∷◌, length, refl, sym, ◌∙◌, ap, subst, inl, inr, arith, Option, Some, None}
+use Rattle.std.proofs.Common.{◌≡◌, ◌≢◌, ℕ, ◌<◌, Bool, true, false, ◌&&◌, List, [], ◌∷◌, length, refl, sym, ◌∙◌, ap, subst, inl, inr, arith, Option}
+use Rattle.std.proofs.{Common.{Some, None}, lemmas.Bool.{and_parts, cases_Bool, cases_eq, cases_lt, eqb-true, false≢true, lt-ltb, true≢false}}
+use Rattle.std.proofs.lemmas.List.{get_or-replicate, get_or_past, length-replicate, FromFn.{get_or-map-range_with_len, length-map-range_with_len}}
+use Rattle.std.proofs.lemmas.{Nat.Bits.bit_at-zero}
 use Rattle.std.specs.{Prelude.{◌==◌, ◌%◌, if◌then◌else◌, is_some, replicate, slice_index, cond}, Option.option_or}
-use Rattle.std.proofs.lemmas.Bool.{and_parts, cases_Bool, cases_eq, cases_lt, eqb-true, false≢true, lt-ltb, true≢false}
-use Rattle.std.proofs.lemmas.List.{get_or-replicate, get_or_past, length-replicate}
-use Rattle.std.proofs.lemmas.{List.FromFn.{get_or-map-range_with_len, length-map-range_with_len}, Nat.Bits.bit_at-zero}
 use Rattle.fis_view.specs.{Frames.Stamped, Table.H2d}
 use Rattle.fis_view.proofs.Door.{port_bits, port_field}
 use Rattle.host_memory.specs.Memory.{Memory}
-use Rattle.hba_commands.specs.declared.command.Command.{Command}
-use Rattle.hba_commands.specs.{Commands.{cfis_at, command_at, command_in, command_under, has_table, is_proper, suits, total_at}, Headers.header_at}
-use Rattle.hba_commands.specs.Requests.{kind_of, request_at, request_in, work_of}
+use Rattle.hba_commands.specs.{declared.command.Command.Command, Commands.{cfis_at, command_at, command_in, command_under, has_table, is_proper}}
+use Rattle.hba_commands.specs.{Commands.{suits, total_at}, Headers.header_at, Requests.{kind_of, request_at, request_in, work_of}}
 use Rattle.slots.specs.{Data.payload, Slots.{DeviceSlots, Issue, context_of, has_bit, issue_at, match_some, no_own_slots, own_issue, slots_of}}
 use Rattle.slots.specs.{Table.IsIssue, Between.Owns}
 use Rattle.hba_fbs.specs.declared.error.WriteError.TheVariants as refusal
-use Rattle.hba_fbs.specs.declared.{register.Register.{Register, TheVariants.{Cmd, Ci, Fbs}}, report.TakeReport.TakeReport}
-use Rattle.hba_fbs.specs.{Issuing.{aimed, asked, commands_with, issue_with, view_issued}, Offsets.register_at, Registers.falls}
-use Rattle.hba_fbs.specs.{Sending.{Data, Gives, Nothing, Order, Outgoing, Unreadable, outgoing}, Taking.{ignores, port_of}}
-use Rattle.hba_fbs.specs.Views.{DeviceView, Port, last_command, stopped_view, view_of}
-use Rattle.hba_fbs.specs.Writing.{Accepts, cleared_by, commands_after, is_device, refusal_of, view_after}
+use Rattle.hba_fbs.specs.{declared.{register.Register.{Register, TheVariants.{Cmd, Ci, Fbs}}, report.TakeReport.TakeReport}, Issuing.{aimed, asked}}
+use Rattle.hba_fbs.specs.{Issuing.{commands_with, issue_with, view_issued}, Offsets.register_at, Registers.falls, Sending.{Data, Gives, Nothing}}
+use Rattle.hba_fbs.specs.{Sending.{Order, Outgoing, Unreadable, outgoing}, Taking.{ignores, port_of}, Views.{DeviceView, Port, last_command}}
+use Rattle.hba_fbs.specs.{Views.{stopped_view, view_of}, Writing.{Accepts, cleared_by, commands_after, is_device, refusal_of, view_after}}
 use Rattle.hba_laws.specs.Between.{KeepsOwn}
 use Rattle.hba_laws.proofs.Door.{asked_free, data_is, is_own, keeps_fed, keeps_moved, keeps_sent, order_filled, order_is, own_in, own_issued}
 use Rattle.hba_laws.proofs.Door.{some_inj, the}
-use Rattle.hba_driver.specs.{declared.effect.Effect.Effect, Addressed.{AreAddressed, FramesAreAddressed, IsAddressed}, declared.mode.Mode.Mode}
-use Rattle.hba_driver.specs.{Effects.{Acts, ActsAll, IsRuled, Tries}, Events.{IsSoundHostIn, opening_host_in}}
-use Rattle.hba_driver.specs.{HostTurns.{Does, DoesAll, Host, HostTurn, Took, Pushed, Ticked, sight_in}, Ticks.effects, Between.AreOfTheir}
+use Rattle.hba_driver.specs.{declared.{effect.Effect.Effect, mode.Mode.Mode}, Addressed.{AreAddressed, FramesAreAddressed, IsAddressed}, Effects.Acts}
+use Rattle.hba_driver.specs.{Effects.{ActsAll, IsRuled, Tries}, Events.{IsSoundHostIn, opening_host_in}, HostTurns.{Does, DoesAll, Host, HostTurn}}
+use Rattle.hba_driver.specs.{HostTurns.{Took, Pushed, Ticked, sight_in}, Ticks.effects, Between.AreOfTheir}
 use Rattle.hba_driver.specs.declared.effect.Effect.TheVariants as effect
-use Rattle.hba_driver.proofs.{events.DrivenLemmas.tried_at, issued.IssuingLemmas.aimed_is, events.SoundLemmas.{hosts_stay_sound, sound_turn}}
+use Rattle.hba_driver.proofs.{events.{DrivenLemmas.tried_at, SoundLemmas.{hosts_stay_sound, sound_turn}}, issued.IssuingLemmas.aimed_is}
 use Rattle.hba_driver.proofs.goes_on.StopLemmas.{either}
 
 -- ---- the command in a slot

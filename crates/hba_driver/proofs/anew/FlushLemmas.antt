@@ -1,14 +1,13 @@
 -- For `turns_tend`. A device that is flushed is not in software reset afterwards.
-use Rattle.std.proofs.Common.{◌≡◌, ℕ, ◌<◌, Bool, false, List, [], ◌∷◌, sym, subst, inl, inr, refl, Option, Some, None, ◌++◌}
+use Rattle.std.proofs.{Common.{◌≡◌, ℕ, ◌<◌, Bool, false, List, [], ◌∷◌, sym, subst, inl, inr, refl, Option, Some, None, ◌++◌}, lemmas.Bool.cases_eq}
 use Rattle.std.specs.Prelude.{MatchOption, ◌==◌}
-use Rattle.std.proofs.lemmas.Bool.{cases_eq}
 use Rattle.host_memory.specs.Memory.{Memory}
-use Rattle.hba_fbs.specs.declared.{register.Register.{Register, TheVariants.{Cmd, Ci, Fbs}}, error.WriteError.WriteError}
-use Rattle.hba_fbs.specs.{Issuing.{aimed, view_issued}, Offsets.register_at, Registers.falls, Views.{DeviceView, Port, stopped_view, view_of}}
-use Rattle.hba_fbs.specs.Writing.{Accepts, cleared_by, is_device, view_after, write_refusal}
-use Rattle.hba_driver.specs.declared.{effect.Effect.Effect, mode.Mode.Mode, order.Order.TheVariants.Clear, turn.Act.Act}
-use Rattle.hba_driver.specs.{Effects.{Acts, ActsAll, Tries, effects_of, emptying, order_command, order_effects}, HostTurns.{Does, Host, Ticked}}
-use Rattle.hba_driver.specs.{Steady.IsFlushTick, Tended.IsUnreset, Ticks.effects_due}
+use Rattle.hba_fbs.specs.{declared.{register.Register.{Register, TheVariants.{Cmd, Ci, Fbs}}, error.WriteError.WriteError}, Issuing.aimed}
+use Rattle.hba_fbs.specs.{Issuing.view_issued, Offsets.register_at, Registers.falls, Views.{DeviceView, Port, stopped_view, view_of}, Writing.Accepts}
+use Rattle.hba_fbs.specs.Writing.{cleared_by, is_device, view_after, write_refusal}
+use Rattle.hba_driver.specs.{declared.{effect.Effect.Effect, mode.Mode.Mode, order.Order.TheVariants.Clear, turn.Act.Act}, Effects.{Acts, ActsAll}}
+use Rattle.hba_driver.specs.{Effects.{Tries, effects_of, emptying, order_command, order_effects}, HostTurns.{Does, Host, Ticked}, Steady.IsFlushTick}
+use Rattle.hba_driver.specs.{Tended.IsUnreset, Ticks.effects_due}
 use Rattle.hba_driver.specs.declared.effect.Effect.TheVariants as effect
 use Rattle.hba_driver.proofs.goes_on.StopLemmas.{either}
 

@@ -1,14 +1,13 @@
 -- For `resets_are_issued`. The driver's side of the tick that issues a software reset.
-use Rattle.std.proofs.Common.{◌≡◌, ℕ, true, false, refl, sym, ◌∙◌, ap, subst, inl, inr, Option, Some}
+use Rattle.std.proofs.{Common.{◌≡◌, ℕ, true, false, refl, sym, ◌∙◌, ap, subst, inl, inr, Option, Some}, lemmas.Bool.cases_Bool}
 use Rattle.std.specs.Prelude.{◌||◌}
-use Rattle.std.proofs.lemmas.Bool.{cases_Bool}
 use Rattle.slots.specs.Slots.{match_some}
-use Rattle.hba_driver.specs.declared.path.Stage.{Stage, TheVariants.{Identify, AssertReset, ReadLog, ReleaseReset, AwaitReset}}
-use Rattle.hba_driver.specs.declared.{path.TaskFile.TaskFile, plan.Plan.Plan, slot.Phase.{Phase, TheVariants.{Aside, Ended}}, turn.Act.Act}
-use Rattle.hba_driver.specs.{Drivers.{Driver, has_ended_in, is_aside_in, is_issued_in, waits_in}, HostTurns.{Host, Ticked, sight_in}}
-use Rattle.hba_driver.specs.{Resetting.{EachResetIsDriven, IsSetDriven}, Sights.file_shown, Steady.{IsCalmAct, detects}}
-use Rattle.hba_driver.specs.Tended.{Awaits, Fine, Identifies, IsAtStage, IsBeingReset, IsTendedBy, Logs, Releases, Spoilt, TendsOn, WorksOn}
-use Rattle.hba_driver.specs.Ticks.{after_tick, due, plan_after, seen, turn}
+use Rattle.hba_driver.specs.declared.path.{Stage.{Stage, TheVariants.{Identify, AssertReset, ReadLog, ReleaseReset, AwaitReset}}, TaskFile.TaskFile}
+use Rattle.hba_driver.specs.{declared.{plan.Plan.Plan, slot.Phase.{Phase, TheVariants.{Aside, Ended}}, turn.Act.Act}, Drivers.{Driver, has_ended_in}}
+use Rattle.hba_driver.specs.{Drivers.{is_aside_in, is_issued_in, waits_in}, HostTurns.{Host, Ticked, sight_in}, Resetting.EachResetIsDriven}
+use Rattle.hba_driver.specs.{Resetting.IsSetDriven, Sights.file_shown, Steady.{IsCalmAct, detects}, Tended.{Awaits, Fine, Identifies, IsAtStage}}
+use Rattle.hba_driver.specs.{Tended.{IsBeingReset, IsTendedBy, Logs, Releases, Spoilt, TendsOn, WorksOn}, Ticks.{after_tick, due, plan_after, seen}}
+use Rattle.hba_driver.specs.Ticks.{turn}
 use Rattle.hba_driver.specs.declared.turn.Act.TheVariants as act
 use Rattle.hba_driver.proofs.{steady.SteadyTurns.acted_plan, anew.{TendedLemmas.{at_stage, stage_is, unworked}, TendedTurns.turn_tended}}
 

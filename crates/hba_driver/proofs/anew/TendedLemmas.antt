@@ -1,19 +1,18 @@
 -- For `turns_tend`. What a calm tick leaves of the plan of a device that is together with its disk.
 use Rattle.std.proofs.Common.{◌≡◌, ℕ, ◌⊎◌, Bool, true, false, List, get_or, set, refl, sym, ◌∙◌, ap, subst, inl, inr, Option, Some, None}
-use Rattle.std.specs.{Prelude.{if◌then◌else◌, not, slice_index_or}, Option.{option_map, option_or}}
 use Rattle.std.proofs.lemmas.Bool.{cases_eq, true≢false}
+use Rattle.std.specs.{Prelude.{if◌then◌else◌, not, slice_index_or}, Option.{option_map, option_or}}
 use Rattle.slots.specs.Slots.{lowest_below, match_some}
-use Rattle.hba_driver.specs.declared.{mode.Mode.{Mode, TheVariants.{Switching, CommandBased}}, order.Order.Order, path.Path.Path}
-use Rattle.hba_driver.specs.declared.path.Recovery.{Recovery, TheVariants.{Log, Reset}}
-use Rattle.hba_driver.specs.declared.path.Stage.{Stage, TheVariants.{Identify, ReadLog, AssertReset, ReleaseReset, AwaitReset}}
-use Rattle.hba_driver.specs.declared.{path.TaskFile.TaskFile, plan.Device.{Device, TheVariants.{Absent, Ready, Unusable, Recovering}}, plan.Plan.Plan}
-use Rattle.hba_driver.specs.{Seeing.Sight, declared.{turn.Act.Act, turn.Turn.Turn}, Drivers.{Entry, device_at}}
-use Rattle.hba_driver.specs.{Paths.{first_stage, next_stage, stage_fields}, Steady.{IsAskedOf, IsCalmAct, IsFine, IsSteadyPlan, detects}}
-use Rattle.hba_driver.specs.Tended.{Awaits, Fine, Identifies, IsAskedOn, IsAsking, IsAtStage, IsBegun, IsReleasing, IsStepless, IsTendedBy}
-use Rattle.hba_driver.specs.{Tended.{IsTendedPlan, IsUnworked, Logs, Releases, Spoilt, WorksOn}, Ticks.plan_after}
-use Rattle.hba_driver.specs.Turns.{advanced, allowed, control_news, control_seen, device_due, device_or_request, device_seen, device_turn, early_due}
-use Rattle.hba_driver.specs.Turns.{found_of, is_back, is_due, is_in_reset, met_path, met_stage, path_due, path_met, plain_turn, request_due}
-use Rattle.hba_driver.specs.{Turns.{stage_due, stage_for, turn_of}, Between.{DueOf, PlanKeeps}}
+use Rattle.hba_driver.specs.declared.{mode.Mode.{Mode, TheVariants.{Switching, CommandBased}}, order.Order.Order, path.{Path.Path, Recovery.Recovery}}
+use Rattle.hba_driver.specs.declared.path.{Recovery.TheVariants.{Log, Reset}, Stage.{Stage, TheVariants.{Identify, ReadLog, AssertReset}}}
+use Rattle.hba_driver.specs.declared.{path.{Stage.TheVariants.{ReleaseReset, AwaitReset}, TaskFile.TaskFile}, plan.Device.Device}
+use Rattle.hba_driver.specs.{declared.{plan.{Device.TheVariants.{Absent, Ready, Unusable, Recovering}, Plan.Plan}, turn.Act.Act}, Seeing.Sight}
+use Rattle.hba_driver.specs.{declared.turn.Turn.Turn, Drivers.{Entry, device_at}, Paths.{first_stage, next_stage, stage_fields}, Steady.IsAskedOf}
+use Rattle.hba_driver.specs.{Steady.{IsCalmAct, IsFine, IsSteadyPlan, detects}, Tended.{Awaits, Fine, Identifies, IsAskedOn, IsAsking, IsAtStage}}
+use Rattle.hba_driver.specs.Tended.{IsBegun, IsReleasing, IsStepless, IsTendedBy, IsTendedPlan, IsUnworked, Logs, Releases, Spoilt, WorksOn}
+use Rattle.hba_driver.specs.{Ticks.plan_after, Turns.{advanced, allowed, control_news, control_seen, device_due, device_or_request, device_seen}}
+use Rattle.hba_driver.specs.Turns.{device_turn, early_due, found_of, is_back, is_due, is_in_reset, met_path, met_stage, path_due, path_met}
+use Rattle.hba_driver.specs.{Turns.{plain_turn, request_due, stage_due, stage_for, turn_of}, Between.{DueOf, PlanKeeps}}
 use Rattle.hba_driver.specs.declared.turn.Act.TheVariants as act
 use Rattle.hba_driver.proofs.ticks.DueLemmas.{allowed_by, early_by, goes_control, goes_device, order_allowed_by, request_by, turn_by}
 use Rattle.hba_driver.proofs.steady.SteadyLemmas.{Beside, Plainly, act_beside, act_keeps, beside_same, control_beside, device_beside, equal_is}

@@ -1,27 +1,24 @@
 -- For `turns_tend`. What a turn leaves of the driver's plan and requests for a device that is together with its disk.
-use Rattle.std.proofs.Common.{◌≡◌, ◌≢◌, ℕ, ◌<◌, ◌⊎◌, ◌||◌, Bool, true, false, List, set, refl, sym, ◌∙◌, ap, subst, inl, inr, arith, Option, Some, None}
-use Rattle.std.proofs.lemmas.{Bool.false≢true, List.FromFn.get_or-map-range_with_len}
+use Rattle.std.proofs.Common.{◌≡◌, ◌≢◌, ℕ, ◌<◌, ◌⊎◌, ◌||◌, Bool, true, false, List, set, refl, sym, ◌∙◌, ap, subst, inl, inr, arith, Option, Some}
+use Rattle.std.proofs.{Common.None, lemmas.{Bool.false≢true, List.FromFn.get_or-map-range_with_len}}
 use Rattle.host_memory.specs.Memory.{Memory}
 use Rattle.slots.specs.Slots.{has_bit, issue_at}
 use Rattle.hba_fbs.specs.Views.{Port, view_of}
 use Rattle.hba_laws.proofs.Door.{some_inj}
-use Rattle.hba_driver.specs.declared.{mode.Mode.Mode, path.Path.Path, path.Recovery.TheVariants.Reset, path.TaskFile.TaskFile}
-use Rattle.hba_driver.specs.declared.{plan.Device.TheVariants.Ready, path.Stage.TheVariants.AssertReset, plan.Plan.Plan}
-use Rattle.hba_driver.specs.{declared.{request.Completion.Completion, request.Request.Request}, Seeing.Sight}
-use Rattle.hba_driver.specs.declared.{slot.Phase.{Phase, TheVariants.{Aside, Ended}}, turn.Act.Act}
-use Rattle.hba_driver.specs.Drivers.{Driver, Entry, device_at, entry_at, has_ended_in, is_issued, is_issued_in, new_driver, waits, waits_in}
-use Rattle.hba_driver.specs.{Events.IsSoundHost, HostTurns.{Does, Host, HostTurn, Ticked, Submitted, Polled, sight_in}, Laws.{Goes, Keeps}}
-use Rattle.hba_driver.specs.Sights.{file_shown, sight_of}
+use Rattle.hba_driver.specs.declared.{mode.Mode.Mode, path.{Path.Path, Recovery.TheVariants.Reset, TaskFile.TaskFile}, plan.Device.TheVariants.Ready}
+use Rattle.hba_driver.specs.declared.{path.Stage.TheVariants.AssertReset, plan.Plan.Plan, request.{Completion.Completion, Request.Request}}
+use Rattle.hba_driver.specs.{Seeing.Sight, declared.{slot.Phase.{Phase, TheVariants.{Aside, Ended}}, turn.Act.Act}, Drivers.{Driver, Entry}}
+use Rattle.hba_driver.specs.{Drivers.{device_at, entry_at, has_ended_in, is_issued, is_issued_in, new_driver, waits, waits_in}, Events.IsSoundHost}
+use Rattle.hba_driver.specs.{HostTurns.{Does, Host, HostTurn, Ticked, Submitted, Polled, sight_in}, Laws.{Goes, Keeps}, Sights.{file_shown, sight_of}}
 use Rattle.hba_driver.specs.Steady.{HasSignature, IsCalmTick, IsFine, IsFlushTick, IsOpenAt, IsSteady, IsSteadyTurn, IsSwitching, slot_in, slot_of}
-use Rattle.hba_driver.specs.Submits.{after_submit, submit_refusal}
-use Rattle.hba_driver.specs.Tended.{AreTended, Fine, IsAskedOn, IsAtStage, IsBegun, IsLiveAt, IsReleasing, IsStepless, IsSteplessTurn, IsTended}
-use Rattle.hba_driver.specs.{Tended.{IsTendedPlan, TendsOn, TurnsTend}, Ticks.{after_tick, done_ended, due, seen, turn}, Turns.{is_in_reset, turn_of}}
-use Rattle.hba_driver.specs.Between.{Due, PollFacts}
+use Rattle.hba_driver.specs.{Submits.{after_submit, submit_refusal}, Tended.{AreTended, Fine, IsAskedOn, IsAtStage, IsBegun, IsLiveAt, IsReleasing}}
+use Rattle.hba_driver.specs.{Tended.{IsStepless, IsSteplessTurn, IsTended, IsTendedPlan, TendsOn, TurnsTend}, Ticks.{after_tick, done_ended, due}}
+use Rattle.hba_driver.specs.{Ticks.{seen, turn}, Turns.{is_in_reset, turn_of}, Between.{Due, PollFacts}}
 use Rattle.hba_driver.specs.declared.turn.Act.TheVariants as act
 use Rattle.hba_driver.proofs.{ends.DoneLemmas.free_slot, ticks.DueLemmas.{due_turn, goes_turn}, requests.HistoryLemmas.{freed, poll_facts}}
-use Rattle.hba_driver.proofs.{ticks.LifeLemmas.keeps_tick, anew.FlushLemmas.flush_unreset}
-use Rattle.hba_driver.proofs.steady.SteadyTurns.{Alone, IsKind, acted_plan, alone_fewer, alone_keep, alone_submit, fewer_by, flush_steady}
-use Rattle.hba_driver.proofs.{steady.SteadyTurns.{opens_steady, signed_by}, anew.TendedLemmas.{PlanTends, recovering_ready, turn_tends}}
+use Rattle.hba_driver.proofs.{ticks.LifeLemmas.keeps_tick, anew.FlushLemmas.flush_unreset, steady.SteadyTurns.{Alone, IsKind, acted_plan}}
+use Rattle.hba_driver.proofs.steady.SteadyTurns.{alone_fewer, alone_keep, alone_submit, fewer_by, flush_steady, opens_steady, signed_by}
+use Rattle.hba_driver.proofs.anew.TendedLemmas.{PlanTends, recovering_ready, turn_tends}
 
 -- ---- requests that go on
 

@@ -1,15 +1,14 @@
 -- For `Driver::tick`. A tick that does not act leaves the driver as it was.
-use Rattle.std.proofs.Common.{◌≡◌, ℕ, Bool, true, false, List, length, refl, ap, ◌∙◌, inl, inr, Option, Some, None}
+use Rattle.std.proofs.{Common.{◌≡◌, ℕ, Bool, true, false, List, length, refl, ap, ◌∙◌, inl, inr, Option, Some, None}, lemmas.Bool.or_parts}
+use Rattle.std.proofs.lemmas.Bool.{false≢true, true≢false, cases_Bool}
 use Rattle.std.specs.{Prelude.{if◌then◌else◌, ◌&&◌, not, ◌||◌}, Option.{is_some, option_map}}
-use Rattle.std.proofs.lemmas.Bool.{or_parts, false≢true, true≢false, cases_Bool}
 use Rattle.slots.specs.Slots.{has_bit, match_some}
-use Rattle.hba_driver.specs.declared.{order.Order.{Order, TheVariants.{AwaitSignature, Scan, Watch}}, path.Path.Path}
-use Rattle.hba_driver.specs.declared.{path.Stage.{Stage, TheVariants.{Identify, ReadLog, AssertReset, ReleaseReset}}, plan.Plan.Plan}
-use Rattle.hba_driver.specs.{declared.request.Outcome.TheVariants.Done, Seeing.Sight, declared.{slot.Phase.TheVariants.Ended, turn.Act.Act}}
-use Rattle.hba_driver.specs.{declared.{turn.Logged.Logged, turn.Turn.Turn}, Drivers.{Driver, Entry}}
-use Rattle.hba_driver.specs.Ticks.{acts, any_done, done_ended, due, is_done, logged_ended, seen, turn}
-use Rattle.hba_driver.specs.Turns.{advanced, awaits, awaits_reset, control_news, control_seen, device_news, device_seen, is_back, is_in_reset, is_out}
-use Rattle.hba_driver.specs.Turns.{logged_by, met, met_order, met_path, met_stage, path_met, path_news, turn_of, watches}
+use Rattle.hba_driver.specs.declared.{order.Order.{Order, TheVariants.{AwaitSignature, Scan, Watch}}, path.{Path.Path, Stage.Stage}}
+use Rattle.hba_driver.specs.declared.{path.Stage.TheVariants.{Identify, ReadLog, AssertReset, ReleaseReset}, plan.Plan.Plan}
+use Rattle.hba_driver.specs.{declared.{request.Outcome.TheVariants.Done, slot.Phase.TheVariants.Ended, turn.{Act.Act, Logged.Logged}}, Seeing.Sight}
+use Rattle.hba_driver.specs.{declared.turn.Turn.Turn, Drivers.{Driver, Entry}, Ticks.{acts, any_done, done_ended, due, is_done, logged_ended, seen}}
+use Rattle.hba_driver.specs.{Ticks.turn, Turns.{advanced, awaits, awaits_reset, control_news, control_seen, device_news, device_seen, is_back}}
+use Rattle.hba_driver.specs.Turns.{is_in_reset, is_out, logged_by, met, met_order, met_path, met_stage, path_met, path_news, turn_of, watches}
 use Rattle.hba_driver.specs.declared.path.Stage.TheVariants as stage
 use Rattle.hba_driver.proofs.{ticks.DueLemmas.turn_by, calls.ScanLemmas.none_rephased}
 

@@ -5,16 +5,14 @@ use Rattle.host_memory.specs.{Memory.{IsHostMemory, Memory, client_start}, Place
 use Rattle.host_memory.proofs.Door.{place_inside}
 use Rattle.slots.specs.Slots.{has_bit}
 use Rattle.hba_fbs.specs.{declared.report.TakeReport.TakeReport, Taking.port_of}
-use Rattle.hba_laws.specs.Client.{AreWithin, IsKept, IsReading, Touches, own}
-use Rattle.hba_laws.specs.{Delivering.{AreReadAsIssued, HaveTables, IsClient, IsDelivered, ReportsDone, touched, touches_after}, History.Transfer}
-use Rattle.hba_laws.specs.Hosts.{HostEvent, TakesFrame}
+use Rattle.hba_laws.specs.{Client.{AreWithin, IsKept, IsReading, Touches, own}, Delivering.{AreReadAsIssued, HaveTables, IsClient, IsDelivered}}
+use Rattle.hba_laws.specs.{Delivering.{ReportsDone, touched, touches_after}, History.Transfer, Hosts.{HostEvent, TakesFrame}}
 use Rattle.hba_laws.specs.Hosts as event
 use Rattle.hba_laws.specs.Sound as sound
 use Rattle.hba_laws.proofs.Door.{client_is_touched, completes_once, data_is_within, done_is_completed, done_reads_stand, histories_are_parts}
 use Rattle.hba_laws.proofs.Door.{spared_tables_read}
-use Rattle.hba_driver.specs.declared.mode.Mode.{Mode}
-use Rattle.hba_driver.specs.Delivered.{HasCome, HostDelivers, IsAtItsPlace, IssuesAreApart, TookDelivers, TurnsDeliver, byte_at, touches_of}
-use Rattle.hba_driver.specs.{Drivers.new_driver_in, Events.{IsSoundHostIn, events_over, opening_host_in, shared_by}}
+use Rattle.hba_driver.specs.{declared.mode.Mode.Mode, Delivered.{HasCome, HostDelivers, IsAtItsPlace, IssuesAreApart, TookDelivers, TurnsDeliver}}
+use Rattle.hba_driver.specs.{Delivered.{byte_at, touches_of}, Drivers.new_driver_in, Events.{IsSoundHostIn, events_over, opening_host_in, shared_by}}
 use Rattle.hba_driver.specs.{HostTurns.{Does, DoesAll, Host, HostTurn, Took}, Served.{IsIssueOf, IsServed, RunServes}, Submits.end_of}
 use Rattle.hba_driver.specs.Between.{HaveGoodPrds}
 use Rattle.hba_driver.proofs.{issued.ApartLemmas.issues_apart, delivery.InsideLemmas.{as_long, good_since, issue_inside, one_owner}}

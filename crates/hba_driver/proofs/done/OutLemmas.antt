@@ -1,40 +1,38 @@
 -- For `done_is_true`. What is issued for a device stays issued until the device completes it or is flushed.
-use Rattle.std.proofs.Common.{◌≡◌, ◌≢◌, ℕ, ◌+◌, ◌*◌, ◌<◌, Bool, true, false, cond, eqb, ◌&&◌, List, [], ◌∷◌, ◌++◌, drop, refl, sym, ◌∙◌, ap, subst, inl, inr, arith, Option, Some, None}
+use Rattle.std.proofs.Common.{◌≡◌, ◌≢◌, ℕ, ◌+◌, ◌*◌, ◌<◌, Bool, true, false, cond, eqb, ◌&&◌, List, [], ◌∷◌, ◌++◌, drop, refl, sym, ◌∙◌, ap, subst}
+use Rattle.std.proofs.{Common.{inl, inr, arith, Option, Some, None}, lemmas.Bool.{eqb-true, false≢true, lt-ltb, ne_eqb, or_parts, true≢false}}
+use Rattle.std.proofs.lemmas.Bool.Decides.{nat_tests}
 use Rattle.std.specs.{Prelude.{MatchOption, if◌then◌else◌, ◌==◌, ◌%◌, is_some, map, not, slice_index}, List.{list_all, list_any}, Option.option_map}
-use Rattle.std.proofs.lemmas.{Bool.{eqb-true, false≢true, lt-ltb, ne_eqb, or_parts, true≢false}, Bool.Decides.nat_tests}
 use Rattle.fis_view.specs.{Frames.Stamped, Seen.seen}
 use Rattle.host_memory.specs.Memory.{Memory}
 use Rattle.hba_commands.specs.declared.command.Command.{Command}
-use Rattle.slots.specs.{Slots.{Issue, has_bit, holds, is_control, is_pio, issue_at, match_some, own_issue, slots_of}, Table.IsTable}
-use Rattle.slots.specs.{Work.{is_dma, is_read}, declared.work.Work.Work}
+use Rattle.slots.specs.{Slots.{Issue, has_bit, holds, is_control, is_pio, issue_at, match_some, own_issue, slots_of}, Table.IsTable, Work.is_dma}
+use Rattle.slots.specs.{Work.is_read, declared.work.Work.Work}
 use Rattle.slots.specs.declared.answer.Answered.TheVariants as answer
 use Rattle.hba_fbs.specs.declared.error.WriteError.TheVariants as refusal
 use Rattle.hba_fbs.specs.declared.{hearing.Happening.Happening, register.Register.{Register, TheVariants.{Cmd, Ci, Fbs}}}
-use Rattle.hba_fbs.specs.declared.{registers.Registers.Registers, report.TakeReport.TakeReport, status.Block.Block}
-use Rattle.hba_fbs.specs.{Issuing.{aimed, asked, issue_with, view_issued}, Offsets.register_at, Registers.falls}
-use Rattle.hba_fbs.specs.{Sending.{Outgoing, gathered, outgoing}, Tables.prds_of, Taking.{admitted, heard_now, ignores, port_of}}
-use Rattle.hba_fbs.specs.{Views.{DeviceView, Port, stopped_view, view_of}, Writing.{Accepts, refusal_of, view_after, view_cleared, write_refusal}}
-use Rattle.hba_fbs.specs.Bits.{dec}
+use Rattle.hba_fbs.specs.{declared.{registers.Registers.Registers, report.TakeReport.TakeReport, status.Block.Block}, Issuing.{aimed, asked}}
+use Rattle.hba_fbs.specs.{Issuing.{issue_with, view_issued}, Offsets.register_at, Registers.falls, Sending.{Outgoing, gathered, outgoing}}
+use Rattle.hba_fbs.specs.{Tables.prds_of, Taking.{admitted, heard_now, ignores, port_of}, Views.{DeviceView, Port, stopped_view, view_of}}
+use Rattle.hba_fbs.specs.{Writing.{Accepts, refusal_of, view_after, view_cleared, write_refusal}, Bits.dec}
 use Rattle.hba_fbs.specs.declared.hearing.Happening.TheVariants as happening
 use Rattle.hba_fbs.specs.Sending as out
 use Rattle.port_errors.specs.Errors.{cleared_device}
-use Rattle.hba_laws.specs.{Agreement.{AreHistoriesOf, work_of_issue, work_of_transfer}, Client.{By, Touches, own}}
-use Rattle.hba_laws.specs.Delivering.{ReportsDone, begun_by, by_device, completes_now, event_heard, event_of, event_sent, event_taken}
-use Rattle.hba_laws.specs.Delivering.{is_control_issue, touched, touched_by_out}
-use Rattle.hba_laws.specs.History.{Answered, Carried, Emptied, Event, History, Issued, Named, PioSetUp, Sent, SentControl, SetUp, Transfer, completes}
-use Rattle.hba_laws.specs.{History.{issued, unless}, Hosts.TakesFrame}
+use Rattle.hba_laws.specs.{Agreement.{AreHistoriesOf, work_of_issue, work_of_transfer}, Client.{By, Touches, own}, Delivering.{ReportsDone, begun_by}}
+use Rattle.hba_laws.specs.Delivering.{by_device, completes_now, event_heard, event_of, event_sent, event_taken, is_control_issue, touched}
+use Rattle.hba_laws.specs.{Delivering.touched_by_out, History.{Answered, Carried, Emptied, Event, History, Issued, Named, PioSetUp, Sent}}
+use Rattle.hba_laws.specs.{History.{SentControl, SetUp, Transfer, completes, issued, unless}, Hosts.TakesFrame}
 use Rattle.hba_laws.specs.Hosts as event
 use Rattle.hba_laws.proofs.Door.{asked_free, done_is_completed, histories_step, is_own, own_below, own_in, own_issued, some_inj, the_transfer}
-use Rattle.hba_driver.specs.declared.{effect.Effect.Effect, mode.Mode.{Mode, TheVariants.{Switching, CommandBased}}, turn.Act.Act}
-use Rattle.hba_driver.specs.Effects.{Acts, ActsAll, Tries, clearing, effects_of, issuing, opening_write, opening_writes}
-use Rattle.hba_driver.specs.{Events.{IsSoundHostIn, shared_by}, HostTurns.{Does, Host, Took, Pushed}, Laws.flushes, Paths.{reads_page, stage_fields}}
-use Rattle.hba_driver.specs.{Served.IsServed, Sights.{px_fbs, px_is}, Ticks.effects_due, Between.{HasOut, IsIssuedAt, MayClear, MayEnd}}
+use Rattle.hba_driver.specs.{declared.{effect.Effect.Effect, mode.Mode.{Mode, TheVariants.{Switching, CommandBased}}, turn.Act.Act}, Effects.Acts}
+use Rattle.hba_driver.specs.{Effects.{ActsAll, Tries, clearing, effects_of, issuing, opening_write, opening_writes}, Events.IsSoundHostIn}
+use Rattle.hba_driver.specs.{Events.shared_by, HostTurns.{Does, Host, Took, Pushed}, Laws.flushes, Paths.{reads_page, stage_fields}, Served.IsServed}
+use Rattle.hba_driver.specs.{Sights.{px_fbs, px_is}, Ticks.effects_due, Between.{HasOut, IsIssuedAt, MayClear, MayEnd}}
 use Rattle.hba_driver.specs.declared.effect.Effect.TheVariants as effect
 use Rattle.hba_driver.specs.declared.turn.Act.TheVariants as act
-use Rattle.hba_driver.proofs.events.DrivenLemmas.{no_dec, tried_at}
-use Rattle.hba_driver.proofs.calls.EffectLemmas.{all_at, issuing_pass, order_pass, restarts_pass, sending_pass}
-use Rattle.hba_driver.proofs.{issued.EndingLemmas.{is_accepted, may_then, only_cleared}, requests.StandLemmas.both, issued.TickingLemmas.is_calm}
-use Rattle.hba_driver.proofs.events.TurnLemmas.{sound_shared}
+use Rattle.hba_driver.proofs.{events.DrivenLemmas.{no_dec, tried_at}, calls.EffectLemmas.{all_at, issuing_pass, order_pass, restarts_pass}}
+use Rattle.hba_driver.proofs.{calls.EffectLemmas.sending_pass, issued.EndingLemmas.{is_accepted, may_then, only_cleared}, requests.StandLemmas.both}
+use Rattle.hba_driver.proofs.{issued.TickingLemmas.is_calm, events.TurnLemmas.sound_shared}
 
 -- ---- a command that only its device completes
 

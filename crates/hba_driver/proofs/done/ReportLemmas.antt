@@ -1,19 +1,18 @@
 -- For `done_was_reported`. What is known of the report of a request stays known in each turn.
 use Rattle.std.proofs.Common.{◌≡◌, ◌≢◌, ℕ, ◌<◌, ◌⊎◌, Bool, true, false, List, refl, sym, ◌∙◌, ap, subst, inl, inr, arith, Some, None}
-use Rattle.std.specs.{Prelude.{◌==◌, ◌||◌}, List.list_any}
 use Rattle.std.proofs.lemmas.Bool.{cases_Bool, false≢true, true≢false}
+use Rattle.std.specs.{Prelude.{◌==◌, ◌||◌}, List.list_any}
 use Rattle.slots.specs.Slots.{issue_at}
 use Rattle.hba_fbs.specs.{declared.report.TakeReport.TakeReport, Views.Port}
 use Rattle.hba_laws.proofs.Door.{own_in, some_inj}
-use Rattle.hba_driver.specs.{declared.{mode.Mode.Mode, request.Outcome.TheVariants.Done}, Seeing.Sight}
-use Rattle.hba_driver.specs.{declared.slot.Phase.{Phase, TheVariants.{Waits, Issued, Aside, Ended}}, Done.completes}
-use Rattle.hba_driver.specs.Drivers.{AreRequests, Driver, Entry, entry_at, has_ended, has_ended_in, is_aside_in, is_issued_in, rephased, waits_in}
-use Rattle.hba_driver.specs.HostTurns.{Does, Host, HostTurn, Took, Pushed, Ticked, Submitted, issued_in_tick, sight_in}
-use Rattle.hba_driver.specs.{Laws.{Goes, GoesOn, flushes}, Sights.file_shown, Ticks.{after_tick, due, effects}}
-use Rattle.hba_driver.specs.Between.{AllStand, Fresh, HasOut, IsOnWayIn, Reports, Stands, ticks}
+use Rattle.hba_driver.specs.{declared.{mode.Mode.Mode, request.Outcome.TheVariants.Done, slot.Phase.{Phase, TheVariants.Waits}}, Seeing.Sight}
+use Rattle.hba_driver.specs.{declared.slot.Phase.TheVariants.{Issued, Aside, Ended}, Done.completes, Drivers.{AreRequests, Driver, Entry, entry_at}}
+use Rattle.hba_driver.specs.{Drivers.{has_ended, has_ended_in, is_aside_in, is_issued_in, rephased, waits_in}, HostTurns.{Does, Host, HostTurn, Took}}
+use Rattle.hba_driver.specs.{HostTurns.{Pushed, Ticked, Submitted, issued_in_tick, sight_in}, Laws.{Goes, GoesOn, flushes}, Sights.file_shown}
+use Rattle.hba_driver.specs.{Ticks.{after_tick, due, effects}, Between.{AllStand, Fresh, HasOut, IsOnWayIn, Reports, Stands, ticks}}
 use Rattle.hba_driver.specs.declared.turn.Act.TheVariants as act
-use Rattle.hba_driver.proofs.{requests.ComeLemmas.comes_from, ends.DoneLemmas.done_is_free, requests.HistoryLemmas.requests_turn}
-use Rattle.hba_driver.proofs.{done.OutLemmas.{out_pushed, out_same, out_took}, ticks.ServeLemmas.ticks_serve, requests.StandLemmas.in_slots}
+use Rattle.hba_driver.proofs.{requests.{ComeLemmas.comes_from, HistoryLemmas.requests_turn}, ends.DoneLemmas.done_is_free, done.OutLemmas.out_pushed}
+use Rattle.hba_driver.proofs.{done.OutLemmas.{out_same, out_took}, ticks.ServeLemmas.ticks_serve, requests.StandLemmas.in_slots}
 use Rattle.hba_driver.proofs.done.TrueLemmas.{IssuesIt, WentOut, ended_same, issued_act, issued_is, none_some, out_tick, tick_issues, wider, went_out}
 
 -- ---- a request in its slot

@@ -1,15 +1,14 @@
 -- For `done_was_reported`. Over turns of the host, what ends as Done was reported, and was submitted as it is.
-use Rattle.std.proofs.Common.{◌≡◌, ℕ, ◌⊎◌, true, List, [], ◌∷◌, refl, sym, ◌∙◌, ap, subst, inl, inr, Some}
+use Rattle.std.proofs.{Common.{◌≡◌, ℕ, ◌⊎◌, true, List, [], ◌∷◌, refl, sym, ◌∙◌, ap, subst, inl, inr, Some}, lemmas.Bool.{and_parts, eqb-true}}
+use Rattle.std.proofs.lemmas.Bool.{false≢true}
 use Rattle.std.specs.Prelude.{◌==◌}
-use Rattle.std.proofs.lemmas.Bool.{and_parts, eqb-true, false≢true}
 use Rattle.host_memory.specs.Memory.{IsHostMemory, Memory}
 use Rattle.slots.specs.Slots.{has_bit}
 use Rattle.hba_fbs.specs.{declared.report.TakeReport.TakeReport, Taking.port_of}
-use Rattle.hba_driver.specs.declared.{mode.Mode.Mode, request.Completion.Completion, request.Outcome.TheVariants.Done, request.Request.Request}
-use Rattle.hba_driver.specs.{declared.slot.Phase.{Phase, TheVariants.{Waits, Issued, Ended}}, Drivers.{Entry, entry_at, rephased}}
-use Rattle.hba_driver.specs.{Events.opening_host_in, HostTurns.{Does, DoesAll, Host, HostTurn, Took, Pushed, Submitted, Polled}}
-use Rattle.hba_driver.specs.{Reported.{DoneWasReported, IsTurnOf, WasReported}, Submits.new_entry}
-use Rattle.hba_driver.specs.Between.{AllStand, Fresh, IsOnWayIn, PollFacts, Reports, Stands}
+use Rattle.hba_driver.specs.declared.{mode.Mode.Mode, request.{Completion.Completion, Outcome.TheVariants.Done, Request.Request}, slot.Phase.Phase}
+use Rattle.hba_driver.specs.{declared.slot.Phase.TheVariants.{Waits, Issued, Ended}, Drivers.{Entry, entry_at, rephased}, Events.opening_host_in}
+use Rattle.hba_driver.specs.{HostTurns.{Does, DoesAll, Host, HostTurn, Took, Pushed, Submitted, Polled}, Reported.{DoneWasReported, IsTurnOf}}
+use Rattle.hba_driver.specs.{Reported.WasReported, Submits.new_entry, Between.{AllStand, Fresh, IsOnWayIn, PollFacts, Reports, Stands}}
 use Rattle.hba_driver.proofs.accepted.AcceptLemmas as accept
 use Rattle.hba_driver.proofs.{accepted.AcceptLemmas.{way_opens, way_turn}, requests.{ComeLemmas.comes_from, HistoryLemmas.poll_facts}}
 use Rattle.hba_driver.proofs.done.ReportLemmas.{all_wider, turn_stands}

@@ -1,15 +1,14 @@
 -- For `errors_are_named`. A request ends as failed by its device only if the device's log names it.
-use Rattle.std.proofs.Common.{◌≡◌, ℕ, Bool, true, false, ◌&&◌, List, refl, sym, ◌∙◌, ap, Option, Some, None, arith}
+use Rattle.std.proofs.{Common.{◌≡◌, ℕ, Bool, true, false, ◌&&◌, List, refl, sym, ◌∙◌, ap, Option, Some, None, arith}, lemmas.Bool.{false≢true}}
+use Rattle.std.proofs.lemmas.Bool.{true≢false, Decides.nat_tests}
 use Rattle.std.specs.Prelude.{if◌then◌else◌, ◌==◌}
-use Rattle.std.proofs.lemmas.{Bool.{false≢true, true≢false}, Bool.Decides.nat_tests}
 use Rattle.slots.specs.Slots.{match_some}
-use Rattle.hba_driver.specs.declared.{path.Path.Path, path.Stage.{Stage, TheVariants.ReadLog}, path.TaskFile.TaskFile, plan.Plan.Plan}
+use Rattle.hba_driver.specs.declared.{path.{Path.Path, Stage.{Stage, TheVariants.ReadLog}, TaskFile.TaskFile}, plan.Plan.Plan}
 use Rattle.hba_driver.specs.{declared.{request.Outcome.{Outcome, TheVariants.{Aborted, DeviceError, Done}}, sight.ErrorLog.ErrorLog}, Seeing.Sight}
-use Rattle.hba_driver.specs.declared.{slot.Phase.{Phase, TheVariants.{Waits, Issued, Aside, Ended}}, turn.Logged.Logged}
-use Rattle.hba_driver.specs.Drivers.{Driver, Entry, entry_at, has_ended, has_ended_in, is_aside, is_aside_in, rephase, rephase_all, rephased}
-use Rattle.hba_driver.specs.Faults.{ErrorsAreNamed, IsNamedBy}
-use Rattle.hba_driver.specs.Ticks.{after_tick, done_ended, is_aside_of, is_done, is_named, is_named_of, log_outcome, logged_ended, seen, turn}
-use Rattle.hba_driver.specs.Turns.{control_seen, is_back, logged_by, turn_of}
+use Rattle.hba_driver.specs.{declared.{slot.Phase.{Phase, TheVariants.{Waits, Issued, Aside, Ended}}, turn.Logged.Logged}, Drivers.{Driver, Entry}}
+use Rattle.hba_driver.specs.Drivers.{entry_at, has_ended, has_ended_in, is_aside, is_aside_in, rephase, rephase_all, rephased}
+use Rattle.hba_driver.specs.{Faults.{ErrorsAreNamed, IsNamedBy}, Ticks.{after_tick, done_ended, is_aside_of, is_done, is_named, is_named_of}}
+use Rattle.hba_driver.specs.{Ticks.{log_outcome, logged_ended, seen, turn}, Turns.{control_seen, is_back, logged_by, turn_of}}
 use Rattle.hba_driver.proofs.{ends.DoneLemmas.{IsOwnEnd, acted_end, end_same, end_turned, seen_some, some_at}, ticks.DueLemmas.turn_by}
 use Rattle.hba_driver.proofs.ticks.LifeLemmas.{entry_of_rephased}
 

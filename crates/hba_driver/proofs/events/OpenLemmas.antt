@@ -1,22 +1,21 @@
 -- For `hosts_stay_sound`. The registers of a port that its driver opens and starts again: frames leave them, and the
 -- port takes each of these writes.
-use Rattle.std.proofs.Common.{◌≡◌, ℕ, zero, suc, ◌+◌, ◌<◌, ◌≤◌, Bool, true, false, ◌&&◌, nat_lt, List, refl, sym, ◌∙◌, ap, subst, inl, inr, arith, Option, Some, None}
+use Rattle.std.proofs.Common.{◌≡◌, ℕ, zero, suc, ◌+◌, ◌<◌, ◌≤◌, Bool, true, false, ◌&&◌, nat_lt, List, refl, sym, ◌∙◌, ap, subst, inl, inr, arith}
+use Rattle.std.proofs.{Common.{Option, Some, None}, lemmas.Bool.{cases_Bool, false≢true, true≢false}}
 use Rattle.std.specs.{Prelude.{◌||◌, ◌==◌, if◌then◌else◌, not, MatchOption}, Bool.beq, Option.option_or}
-use Rattle.std.proofs.lemmas.Bool.{cases_Bool, false≢true, true≢false}
 use Rattle.fis_view.specs.{Frames.Stamped, Seen.seen, declared.view.Fis.Fis}
 use Rattle.fis_view.specs.declared.view.Fis.TheVariants as view
 use Rattle.host_memory.specs.Memory.{Memory}
 use Rattle.slots.specs.Slots.{has_bit}
-use Rattle.hba_fbs.specs.declared.{error.WriteError.WriteError, hearing.Heard.Heard}
-use Rattle.hba_fbs.specs.declared.{register.Register.{Register, TheVariants.{Clb, Clbu, Fb, Fbu, Is, Cmd, Fbs}}, registers.Registers.Registers}
-use Rattle.hba_fbs.specs.{declared.report.TakeReport.TakeReport, Offsets.register_at, Posting.posted}
-use Rattle.hba_fbs.specs.Registers.{cmd_refusal, falls, is_area_outside, is_list_outside, own_refusal, running_if, written}
-use Rattle.hba_fbs.specs.{Sending.{Gives, Nothing, Outgoing, Unreadable}, Taking.{admitted, heard_now, ignores, port_of, posted_of, settled}}
-use Rattle.hba_fbs.specs.{Views.{Port, view_of}, Writing.{Accepts, refusal_of, slots_refusal, write_refusal}}
+use Rattle.hba_fbs.specs.declared.{error.WriteError.WriteError, hearing.Heard.Heard, register.Register.{Register, TheVariants.{Clb, Clbu, Fb, Fbu}}}
+use Rattle.hba_fbs.specs.declared.{register.Register.TheVariants.{Is, Cmd, Fbs}, registers.Registers.Registers, report.TakeReport.TakeReport}
+use Rattle.hba_fbs.specs.{Offsets.register_at, Posting.posted, Registers.{cmd_refusal, falls, is_area_outside, is_list_outside, own_refusal}}
+use Rattle.hba_fbs.specs.{Registers.{running_if, written}, Sending.{Gives, Nothing, Outgoing, Unreadable}, Taking.{admitted, heard_now, ignores}}
+use Rattle.hba_fbs.specs.{Taking.{port_of, posted_of, settled}, Views.{Port, view_of}, Writing.{Accepts, refusal_of, slots_refusal, write_refusal}}
 use Rattle.hba_fbs.specs.declared.error.WriteError.TheVariants as refusal
-use Rattle.hba_driver.specs.{declared.mode.Mode.{Mode, TheVariants.{Switching, CommandBased}}, Accepted.IsAccepted}
-use Rattle.hba_driver.specs.{Effects.{Acts, Tries, opening_write, restart_write}, Events.AreDriven, HostTurns.{Does, Host, Took}}
-use Rattle.hba_driver.specs.{Modes.{enabled, is_switching}, Between.IsUpIn}
+use Rattle.hba_driver.specs.{declared.mode.Mode.{Mode, TheVariants.{Switching, CommandBased}}, Accepted.IsAccepted, Effects.{Acts, Tries}}
+use Rattle.hba_driver.specs.{Effects.{opening_write, restart_write}, Events.AreDriven, HostTurns.{Does, Host, Took}, Modes.{enabled, is_switching}}
+use Rattle.hba_driver.specs.Between.{IsUpIn}
 use Rattle.hba_driver.proofs.events.DrivenLemmas.{past, refusal_is}
 
 -- ---- what the registers are

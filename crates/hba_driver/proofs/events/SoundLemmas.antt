@@ -1,26 +1,25 @@
 -- For `hosts_stay_sound`. What holds for port, driver and memory together when they open, and after each turn.
-use Rattle.std.proofs.Common.{◌≡◌, ℕ, ◌+◌, ◌<◌, ◌≤◌, Bool, true, List, [], ◌∷◌, length, drop, replicate, get_or, refl, sym, ◌∙◌, ap, subst, inl, inr, arith, Option, Some, None}
+use Rattle.std.proofs.Common.{◌≡◌, ℕ, ◌+◌, ◌<◌, ◌≤◌, Bool, true, List, [], ◌∷◌, length, drop, replicate, get_or, refl, sym, ◌∙◌, ap, subst, inl, inr}
+use Rattle.std.proofs.{Common.{arith, Option, Some, None}, lemmas.{Bool.{cases_Bool, cases_lt, false≢true}, List.{get_or-replicate, get_or_past}}}
+use Rattle.std.proofs.lemmas.List.{length-drop, length-replicate}
 use Rattle.std.specs.{Prelude.{is_none, not}, List.list_all, Option.option_or}
-use Rattle.std.proofs.lemmas.{Bool.{cases_Bool, cases_lt, false≢true}, List.{get_or-replicate, get_or_past, length-drop, length-replicate}}
 use Rattle.fis_view.specs.{Seen.seen, declared.view.Fis.Fis}
 use Rattle.host_memory.specs.Memory.{IsHostMemory, Memory, is_memory_size, zeroed}
 use Rattle.slots.specs.Slots.{match_some}
-use Rattle.hba_fbs.specs.{declared.{registers.Registers.Registers, report.TakeReport.TakeReport}, Sending.outgoing}
-use Rattle.hba_fbs.specs.{Taking.{PostsIn, admitted, ignores, port_of, row_for}, Views.Port}
+use Rattle.hba_fbs.specs.{declared.{registers.Registers.Registers, report.TakeReport.TakeReport}, Sending.outgoing, Taking.{PostsIn, admitted}}
+use Rattle.hba_fbs.specs.{Taking.{ignores, port_of, row_for}, Views.Port}
 use Rattle.hba_laws.specs.Hosts as event
 use Rattle.hba_laws.proofs.Door.{client_lens, opens_sound}
 use Rattle.hba_driver.specs.declared.{effect.Effect.Effect, mode.Mode.Mode, path.TaskFile.TaskFile, turn.Act.Act, plan.Device.TheVariants.Absent}
-use Rattle.hba_driver.specs.{declared.{plan.Plan.Plan, request.Request.Request}, Drivers.{AreRequests, Driver, Entry, entry_at}}
-use Rattle.hba_driver.specs.Effects.{ActsAll, IsRuled, is_effect, opening_write, restart_write}
-use Rattle.hba_driver.specs.Events.{AreDriven, HostsAreSound, IsSoundHostIn, KnowsNone, opening_host_in, shared_by}
-use Rattle.hba_driver.specs.HostTurns.{AreHosts, Does, DoesAll, Host, HostTurn, IsHost, Took, Pushed, Ticked, Submitted, Polled, Put, sight_in}
-use Rattle.hba_driver.specs.{Sights.file_shown, Submits.{after_poll, lowest_ended, next_slot}, Ticks.{after_tick, effects, effects_due, turn}}
-use Rattle.hba_driver.specs.Between.{Way}
+use Rattle.hba_driver.specs.{declared.{plan.Plan.Plan, request.Request.Request}, Drivers.{AreRequests, Driver, Entry, entry_at}, Effects.ActsAll}
+use Rattle.hba_driver.specs.{Effects.{IsRuled, is_effect, opening_write, restart_write}, Events.{AreDriven, HostsAreSound, IsSoundHostIn, KnowsNone}}
+use Rattle.hba_driver.specs.{Events.{opening_host_in, shared_by}, HostTurns.{AreHosts, Does, DoesAll, Host, HostTurn, IsHost, Took, Pushed, Ticked}}
+use Rattle.hba_driver.specs.{HostTurns.{Submitted, Polled, Put, sight_in}, Sights.file_shown, Submits.{after_poll, lowest_ended, next_slot}}
+use Rattle.hba_driver.specs.{Ticks.{after_tick, effects, effects_due, turn}, Between.Way}
 use Rattle.hba_driver.proofs.events.DrivenLemmas.{SamePlace, driven_open, mode_ticked, none_ticked, past, started_effects, tick_is}
 use Rattle.hba_driver.proofs.events.EventLemmas.{Left, beside_area, left_effects, same_sizes, sized, sized_effect}
-use Rattle.hba_driver.proofs.requests.HistoryLemmas.{free_below, requests_turn}
-use Rattle.hba_driver.proofs.events.OpenLemmas.{Stays, opens_taken, restart_taken, stays_driven, stays_gives, stays_port, stays_took}
-use Rattle.hba_driver.proofs.{requests.StandLemmas.{both, runs}, calls.SubmitLemmas.is_taken}
+use Rattle.hba_driver.proofs.{requests.HistoryLemmas.{free_below, requests_turn}, events.OpenLemmas.{Stays, opens_taken, restart_taken, stays_driven}}
+use Rattle.hba_driver.proofs.{events.OpenLemmas.{stays_gives, stays_port, stays_took}, requests.StandLemmas.{both, runs}, calls.SubmitLemmas.is_taken}
 
 -- ---- what a frame leaves of memory
 

@@ -1,7 +1,7 @@
 -- For `turns_are_events`. Each list of turns is a list of events, and tells the same.
-use Rattle.std.proofs.Common.{◌≡◌, ℕ, ◌<◌, ◌≤◌, Bool, true, false, ◌&&◌, List, [], ◌∷◌, ◌++◌, length, replicate, refl, sym, ◌∙◌, ap, subst, inl, inr, arith, Option, Some, None}
+use Rattle.std.proofs.Common.{◌≡◌, ℕ, ◌<◌, ◌≤◌, Bool, true, false, ◌&&◌, List, [], ◌∷◌, ◌++◌, length, replicate, refl, sym, ◌∙◌, ap, subst, inl, inr}
+use Rattle.std.proofs.{Common.{arith, Option, Some, None}, lemmas.{Bool.cases_lt, Grind.flat_map-append}}
 use Rattle.std.specs.{Prelude.not, List.{flat_map, list_all}, Option.option_or}
-use Rattle.std.proofs.lemmas.{Bool.cases_lt, Grind.flat_map-append}
 use Rattle.host_memory.specs.Memory.{IsHostMemory, Memory}
 use Rattle.slots.specs.Slots.{match_some}
 use Rattle.hba_fbs.specs.{declared.{error.WriteError.WriteError, register.Register.Register}, Offsets.register_at, Views.Port, Writing.write_refusal}
@@ -9,18 +9,16 @@ use Rattle.hba_laws.specs.{Delivering.AreFramed, Hosts.{HostEvent, Runs}}
 use Rattle.hba_laws.specs.Hosts as event
 use Rattle.hba_laws.specs.Sound as sound
 use Rattle.hba_driver.specs.declared.{effect.Effect.Effect, mode.Mode.Mode, plan.Device.TheVariants.Absent, request.Request.Request}
-use Rattle.hba_driver.specs.{declared.request.SubmitError.SubmitError, Drivers.{Driver, device_at}}
-use Rattle.hba_driver.specs.Effects.{ActsAll, IsRuled, is_effect, opening_write, opening_writes}
-use Rattle.hba_driver.specs.Events.{EachRunTells, IsSoundHostIn, KnowsNone, TurnsAreEvents, events_of, events_of_effect, events_of_effects}
-use Rattle.hba_driver.specs.Events.{events_over, gave, pushed_by, put, put_by, shared_by, taken_by, took, wrote_to}
-use Rattle.hba_driver.specs.HostTurns.{Does, DoesAll, Host, HostTurn, Took, Pushed, Ticked, Submitted, Polled, Put, sight_in}
+use Rattle.hba_driver.specs.{declared.request.SubmitError.SubmitError, Drivers.{Driver, device_at}, Effects.{ActsAll, IsRuled, is_effect}}
+use Rattle.hba_driver.specs.{Effects.{opening_write, opening_writes}, Events.{EachRunTells, IsSoundHostIn, KnowsNone, TurnsAreEvents, events_of}}
+use Rattle.hba_driver.specs.Events.{events_of_effect, events_of_effects, events_over, gave, pushed_by, put, put_by, shared_by, taken_by, took}
+use Rattle.hba_driver.specs.{Events.wrote_to, HostTurns.{Does, DoesAll, Host, HostTurn, Took, Pushed, Ticked, Submitted, Polled, Put, sight_in}}
 use Rattle.hba_driver.specs.{Requests.device_refusal, Sights.file_shown, Submits.{next_slot, submit_refusal}, Ticks.effects, Between.beside}
 use Rattle.hba_driver.specs.declared.effect.Effect.TheVariants as effect
 use Rattle.hba_driver.specs.declared.request.SubmitError.TheVariants as refusal
-use Rattle.hba_driver.proofs.{events.DrivenLemmas.tick_is, calls.EffectLemmas.all_at}
-use Rattle.hba_driver.proofs.events.EventLemmas.{Good, beside_area, beside_same, does_store, good_effect, good_effects, good_none, good_one}
-use Rattle.hba_driver.proofs.{events.EventLemmas.{good_then, sized_effect, sound_beside, wants_area}, requests.HistoryLemmas.free_below}
-use Rattle.hba_driver.proofs.{events.SoundLemmas.sound_turn, requests.StandLemmas.both, calls.SubmitLemmas.is_taken}
+use Rattle.hba_driver.proofs.{events.{DrivenLemmas.tick_is, EventLemmas.{Good, beside_area, beside_same, does_store}}, calls.EffectLemmas.all_at}
+use Rattle.hba_driver.proofs.events.EventLemmas.{good_effect, good_effects, good_none, good_one, good_then, sized_effect, sound_beside, wants_area}
+use Rattle.hba_driver.proofs.{requests.{HistoryLemmas.free_below, StandLemmas.both}, events.SoundLemmas.sound_turn, calls.SubmitLemmas.is_taken}
 
 -- ---- a tick
 

@@ -1,7 +1,7 @@
 -- For `port_goes_on`. A host port goes on over every list of turns from its opening.
-use Rattle.std.proofs.Common.{◌≡◌, ℕ, ◌^◌, max, min, Bool, true, false, ◌&&◌, bit_or, bit_and, List, [], ◌∷◌, refl, sym, ◌∙◌, ap, subst, inl, inr, arith, Option, Some, None}
+use Rattle.std.proofs.Common.{◌≡◌, ℕ, ◌^◌, max, min, Bool, true, false, ◌&&◌, bit_or, bit_and, List, [], ◌∷◌, refl, sym, ◌∙◌, ap, subst, inl, inr}
+use Rattle.std.proofs.{Common.{arith, Option, Some, None}, lemmas.{Bool.{cases_Bool, true≢false}, Nat.Bits.{bit_at_and, bit_at_or}}}
 use Rattle.std.specs.{Prelude.{◌==◌, not, is_some, slice_set}, Int.bit_at, Option.option_map_or}
-use Rattle.std.proofs.lemmas.{Bool.{cases_Bool, true≢false}, Nat.Bits.{bit_at_and, bit_at_or}}
 use Rattle.fis_view.specs.{Frames.Stamped, Seen.seen as seen_in, declared.view.Fis.Fis}
 use Rattle.fis_view.specs.declared.view.Fis.TheVariants as view
 use Rattle.host_memory.specs.Memory.{IsHostMemory, Memory}
@@ -10,28 +10,26 @@ use Rattle.port_errors.specs.Interrupts.{device_interrupts}
 use Rattle.port_errors.specs.declared.cause.DeviceCause.TheVariants as cause
 use Rattle.slots.specs.Slots.{has_bit, match_some}
 use Rattle.hba_fbs.specs.declared.error.WriteError.TheVariants as refusal
-use Rattle.hba_fbs.specs.declared.{hearing.Fault.Fault, hearing.Heard.Heard, register.Register.{Register, TheVariants.{Is, Cmd, Fbs}}}
+use Rattle.hba_fbs.specs.declared.{hearing.{Fault.Fault, Heard.Heard}, register.Register.{Register, TheVariants.{Is, Cmd, Fbs}}}
 use Rattle.hba_fbs.specs.{declared.{registers.Registers.Registers, report.TakeReport.TakeReport}, Bits.{bit, dec, ufs}, Offsets.register_at}
 use Rattle.hba_fbs.specs.{Posting.posted, Reading.value_of, Registers.{falls, written}, Sending.{Gives, Nothing, Outgoing, Unreadable, outgoing}}
-use Rattle.hba_fbs.specs.Taking.{admitted, fault_interrupts, heard_now, ignores, port_cause, port_of, posted_of, settled, stops_with}
-use Rattle.hba_fbs.specs.{Views.{Port, view_of}, Writing.{errors_after, refusal_of}}
+use Rattle.hba_fbs.specs.{Taking.{admitted, fault_interrupts, heard_now, ignores, port_cause, port_of, posted_of, settled, stops_with}, Views.Port}
+use Rattle.hba_fbs.specs.{Views.view_of, Writing.{errors_after, refusal_of}}
 use Rattle.hba_fbs.specs.declared.hearing.Fault.TheVariants as fault
 use Rattle.hba_laws.specs.{Delivering.touches_after, Isolation.fails_by_bus}
 use Rattle.hba_laws.proofs.Door.{spared_tables_read}
-use Rattle.hba_driver.specs.{declared.{effect.Effect.Effect, mode.Mode.TheVariants.Switching, path.TaskFile.TaskFile}, Seeing.Sight}
-use Rattle.hba_driver.specs.{declared.turn.Act.Act, Drivers.Driver, Effects.{Acts, ActsAll, Tries}}
-use Rattle.hba_driver.specs.Events.{IsSoundHost, events_over, opening_host, shared_by}
+use Rattle.hba_driver.specs.{declared.{effect.Effect.Effect, mode.Mode.TheVariants.Switching, path.TaskFile.TaskFile, turn.Act.Act}, Seeing.Sight}
+use Rattle.hba_driver.specs.{Drivers.Driver, Effects.{Acts, ActsAll, Tries}, Events.{IsSoundHost, events_over, opening_host, shared_by}}
 use Rattle.hba_driver.specs.{HostTurns.{Does, DoesAll, Host, HostTurn, Took, Pushed, Ticked, Submitted, Polled, sight_in}, Served.RunServes}
-use Rattle.hba_driver.specs.{Sights.{file_shown, shown, sight_of}, Submits.{after_poll, lowest_ended}}
-use Rattle.hba_driver.specs.Ticks.{acted, after_tick, due, effects, plan_after, seen}
-use Rattle.hba_driver.specs.Going.{AreOfControl, GoesOn, IsOfControl, NothingStops, PortsGoOn, leaves_port}
-use Rattle.hba_driver.specs.Between.{Due, IsCalm, IsGoing, IsOfControlIn, IsOnWay, NoFatal}
+use Rattle.hba_driver.specs.{Sights.{file_shown, shown, sight_of}, Submits.{after_poll, lowest_ended}, Ticks.{acted, after_tick, due, effects}}
+use Rattle.hba_driver.specs.{Ticks.{plan_after, seen}, Going.{AreOfControl, GoesOn, IsOfControl, NothingStops, PortsGoOn, leaves_port}, Between.Due}
+use Rattle.hba_driver.specs.Between.{IsCalm, IsGoing, IsOfControlIn, IsOnWay, NoFatal}
 use Rattle.hba_driver.specs.declared.effect.Effect.TheVariants as effect
 use Rattle.hba_driver.specs.declared.turn.Act.TheVariants as act
 use Rattle.hba_driver.proofs.{accepted.AcceptLemmas.{way_opens, way_turn}, events.DrivenLemmas.{restarted_cleared, restarted_ordered, tried_at}}
 use Rattle.hba_driver.proofs.{ticks.{DueLemmas.goes_turn, LifeLemmas.due_seen}, goes_on.{PageLemmas.page_turn, ReadLemmas.can_read}}
-use Rattle.hba_driver.proofs.{modes.RowMode.{faultless_as, spares_as, started_mode}, issued.ServedLemmas.turns_serve}
-use Rattle.hba_driver.proofs.{goes_on.StopLemmas.{either, nothing_stops}, modes.SwitchLemmas.sight_is}
+use Rattle.hba_driver.proofs.{modes.RowMode.{faultless_as, spares_as, started_mode}, issued.ServedLemmas.turns_serve, goes_on.StopLemmas.either}
+use Rattle.hba_driver.proofs.{goes_on.StopLemmas.nothing_stops, modes.SwitchLemmas.sight_is}
 
 -- ---- bit HBFS, 29, of PxIS
 

@@ -1,7 +1,7 @@
 -- For `port_goes_on`. What a device sends stops the port only by a host bus error.
 use Rattle.std.proofs.Common.{◌≡◌, ◌≢◌, ℕ, ◌-◌, ◌<◌, Bool, true, false, ◌&&◌, List, length, refl, sym, ◌∙◌, ap, inl, inr, arith, Option, Some, None}
-use Rattle.std.specs.Prelude.{◌==◌, ◌%◌, ◌||◌, if◌then◌else◌, not, is_some, nat_lt, slice_index, Result, Ok, Err}
 use Rattle.std.proofs.lemmas.Bool.{cases_Bool, false≢true, ne_eqb, true≢false}
+use Rattle.std.specs.Prelude.{◌==◌, ◌%◌, ◌||◌, if◌then◌else◌, not, is_some, nat_lt, slice_index, Result, Ok, Err}
 use Rattle.fis_view.specs.{Seen.seen, Table.field, declared.view.Fis.Fis}
 use Rattle.fis_view.specs.Table as table
 use Rattle.fis_view.specs.declared.view.Fis.TheVariants as view
@@ -11,20 +11,18 @@ use Rattle.slots.specs.{Commands.answer_of, Data.{after_arrive, may_activate, pa
 use Rattle.slots.specs.{Slots.{DeviceSlots, context_of, match_some, own_issue, sent_pio, slots_of}, declared.answer.Answered.Answered}
 use Rattle.slots.specs.declared.{answer.SetupError.SetupError, table.Context.Context}
 use Rattle.slots.specs.declared.answer.Answered.TheVariants as answer
-use Rattle.hba_fbs.specs.declared.{hearing.Fault.Fault, hearing.Happening.Happening, hearing.Heard.Heard, report.Wrote.Wrote}
-use Rattle.hba_fbs.specs.declared.{state.DeviceState.DeviceState, status.Block.Block}
-use Rattle.hba_fbs.specs.Hearing.{answer_fault, bad_fault, faulty, heard_activate, heard_bits, heard_bytes, heard_d2h, heard_data_of, heard_fis}
-use Rattle.hba_fbs.specs.Hearing.{heard_out, heard_pio, heard_register, set_up}
-use Rattle.hba_fbs.specs.Sending.{Nothing, Outgoing, data_due, data_with, next_receiver, next_to_send, order_due, outgoing}
-use Rattle.hba_fbs.specs.{Status.{is_busy, is_error, with_file}, Tables.{is_sound, sound_command}}
-use Rattle.hba_fbs.specs.Taking.{admitted, heard, heard_now, ignores, is_running, port_cause, port_of, stops_with}
+use Rattle.hba_fbs.specs.declared.{hearing.{Fault.Fault, Happening.Happening, Heard.Heard}, report.Wrote.Wrote, state.DeviceState.DeviceState}
+use Rattle.hba_fbs.specs.{declared.status.Block.Block, Hearing.{answer_fault, bad_fault, faulty, heard_activate, heard_bits, heard_bytes, heard_d2h}}
+use Rattle.hba_fbs.specs.{Hearing.{heard_data_of, heard_fis, heard_out, heard_pio, heard_register, set_up}, Sending.{Nothing, Outgoing, data_due}}
+use Rattle.hba_fbs.specs.{Sending.{data_with, next_receiver, next_to_send, order_due, outgoing}, Status.{is_busy, is_error, with_file}}
+use Rattle.hba_fbs.specs.{Tables.{is_sound, sound_command}, Taking.{admitted, heard, heard_now, ignores, is_running, port_cause, port_of, stops_with}}
 use Rattle.hba_fbs.specs.Views.{DeviceView, Port, view_of}
 use Rattle.hba_fbs.specs.declared.hearing.Fault.TheVariants as fault
 use Rattle.hba_laws.specs.Hosts as event
 use Rattle.hba_laws.specs.{Isolation.{fails_by_bus, stops_port}, Sound.IsHost, Between.{HasContext, IsOwn}}
 use Rattle.hba_laws.proofs.Door.{is_own}
-use Rattle.hba_driver.specs.Orders.{control_port}
-use Rattle.hba_driver.specs.Going.{CanBeRead, FaultsNeverStop, IsOfControl, IsReport, NothingStops, SparesPort, SwitchesIfStarted}
+use Rattle.hba_driver.specs.{Orders.control_port, Going.{CanBeRead, FaultsNeverStop, IsOfControl, IsReport, NothingStops, SparesPort}}
+use Rattle.hba_driver.specs.Going.{SwitchesIfStarted}
 use Rattle.hba_driver.proofs.modes.ModeLemmas.{stops_as}
 
 -- what holds for both values holds for the choice

@@ -1,32 +1,29 @@
 -- For `turns_serve`. What a write of PxCI issues, if one slot has its command.
-use Rattle.std.proofs.Common.{◌≡◌, ◌≢◌, ℕ, zero, suc, ◌+◌, ◌*◌, ◌^◌, ◌<◌, ◌≤◌, ◌⊎◌, Bool, true, false, cond, eqb, List, ◌++◌, length, refl, sym, ◌∙◌, ap, subst, inl, inr, arith, Option, Some, None}
+use Rattle.std.proofs.Common.{◌≡◌, ◌≢◌, ℕ, zero, suc, ◌+◌, ◌*◌, ◌^◌, ◌<◌, ◌≤◌, ◌⊎◌, Bool, true, false, cond, eqb, List, ◌++◌, length, refl, sym, ◌∙◌}
+use Rattle.std.proofs.{Common.{ap, subst, inl, inr, arith, Option, Some, None}, lemmas.Bool.{and_parts, cases_Bool, cases_eq, cases_lt, eqb-true}}
+use Rattle.std.proofs.lemmas.{Bool.{false≢true, or_parts, true≢false, Decides.nat_tests}, List.{get_or_past, FromFn.{get_or-map-range_with_len}}}
+use Rattle.std.proofs.lemmas.{List.FromFn.{length-map-range_with_len}, Nat.Bits.{bit_at-pow_other, bit_at-pow_same, bit_at-zero}}
 use Rattle.std.specs.{Prelude.{if◌then◌else◌, ◌&&◌, ◌||◌, ◌==◌, ◌%◌, not, is_none, is_some, nat_lt}, Option.{option_map, option_or}}
-use Rattle.std.proofs.lemmas.{Bool.{and_parts, cases_Bool, cases_eq, cases_lt, eqb-true, false≢true, or_parts, true≢false}, Bool.Decides.nat_tests}
-use Rattle.std.proofs.lemmas.{List.get_or_past, List.FromFn.{get_or-map-range_with_len, length-map-range_with_len}}
-use Rattle.std.proofs.lemmas.Nat.Bits.{bit_at-pow_other, bit_at-pow_same, bit_at-zero}
 use Rattle.host_memory.specs.{Memory.Memory, Place.total_of, Reading.{first_fault, have_overlap, prds_at, read_fault}, declared.table.Prd.Prd}
 use Rattle.host_memory.specs.declared.table.PrdError.{PrdError, TheVariants.{OutsideStructure, Overlap}}
-use Rattle.hba_commands.specs.declared.command.Command.{Command}
-use Rattle.hba_commands.specs.{Commands.{cfis_at, command_at, command_in, command_under, has_table, is_proper, total_at}, Headers.header_at}
-use Rattle.hba_commands.specs.{Requests.{request_at, request_of, work_of}, Writing.header_for}
+use Rattle.hba_commands.specs.{declared.command.Command.Command, Commands.{cfis_at, command_at, command_in, command_under, has_table, is_proper}}
+use Rattle.hba_commands.specs.{Commands.total_at, Headers.header_at, Requests.{request_at, request_of, work_of}, Writing.header_for}
 use Rattle.fis_view.specs.{Built.{IsBuilt, cut, h2d_given}, Table.{H2d, PmPort, places}, declared.build.H2dFields.H2dFields}
 use Rattle.slots.specs.{Slots.{Issue, has_bit, issue_at, lowest, owned_by, own_issue, slots_of, holds as issue_holds}, declared.work.Work.Work}
 use Rattle.slots.proofs.Door.{none_below}
-use Rattle.hba_fbs.specs.declared.{error.WriteError.WriteError, register.Register.TheVariants.Ci}
-use Rattle.hba_fbs.specs.Issuing.{aimed, any_beside, any_slot, asked, commands_with, is_bad, is_beside, is_busy, named_in, names_other}
-use Rattle.hba_fbs.specs.{Registers.own_refusal, Tables.{is_readable, prds_of}, Views.{Port, last_command}}
-use Rattle.hba_fbs.specs.Writing.{apart_refusal, commands_after, is_apart, refusal_of, slots_refusal}
+use Rattle.hba_fbs.specs.{declared.{error.WriteError.WriteError, register.Register.TheVariants.Ci}, Issuing.{aimed, any_beside, any_slot, asked}}
+use Rattle.hba_fbs.specs.{Issuing.{commands_with, is_bad, is_beside, is_busy, named_in, names_other}, Registers.own_refusal, Tables.is_readable}
+use Rattle.hba_fbs.specs.{Tables.prds_of, Views.{Port, last_command}, Writing.{apart_refusal, commands_after, is_apart, refusal_of, slots_refusal}}
 use Rattle.hba_fbs.specs.declared.error.WriteError.TheVariants as refusal
 use Rattle.hba_fbs.proofs.Door.{own_at}
-use Rattle.hba_laws.specs.{Agreement.{AreHistoriesOf, work_of_issue, work_of_transfer}, Client.{IsKept, Touches, own}}
-use Rattle.hba_laws.specs.{Delivering.{issued_below, issued_in, touched}, History.{History, Transfer, issued}}
-use Rattle.hba_laws.specs.Between.{history_below, transfer_of, with_issued}
+use Rattle.hba_laws.specs.{Agreement.{AreHistoriesOf, work_of_issue, work_of_transfer}, Client.{IsKept, Touches, own}, Delivering.issued_below}
+use Rattle.hba_laws.specs.{Delivering.{issued_in, touched}, History.{History, Transfer, issued}, Between.{history_below, transfer_of, with_issued}}
 use Rattle.hba_laws.specs.Hosts as event
 use Rattle.hba_laws.specs.Sound as sound
 use Rattle.hba_laws.proofs.Door.{histories_step, other_below, own_app, own_below_is, own_in, some_inj, stands_readable}
 use Rattle.hba_driver.specs.{declared.path.Path.Path, Drivers.{Driver, Entry, entry_at}, Effects.table_of, Orders.request_fields, Paths.stage_fields}
-use Rattle.hba_driver.specs.{declared.mode.Mode.{Mode, TheVariants.{Switching, CommandBased}}, Modes.is_switching}
-use Rattle.hba_driver.specs.{Served.{AreOfOne, HasItsTable, HaveCommands, IsBuiltOf, IsFisOf, IsIssueOf, IsServed}, Between.{Asked, From, New}}
+use Rattle.hba_driver.specs.{declared.mode.Mode.{Mode, TheVariants.{Switching, CommandBased}}, Modes.is_switching, Served.{AreOfOne, HasItsTable}}
+use Rattle.hba_driver.specs.{Served.{HaveCommands, IsBuiltOf, IsFisOf, IsIssueOf, IsServed}, Between.{Asked, From, New}}
 
 -- ---- the command that stands in a slot
 

@@ -1,48 +1,46 @@
 -- For `turns_serve`. After each turn everything that is issued is the driver's, and the turn serves what is issued.
-use Rattle.std.proofs.Common.{◌≡◌, ℕ, ◌+◌, ◌<◌, ◌≤◌, Bool, true, false, ◌&&◌, ◌||◌, List, [], ◌∷◌, ◌++◌, length, replicate, set, refl, sym, ◌∙◌, ap, subst, inl, inr, arith, Option, Some, None}
+use Rattle.std.proofs.Common.{◌≡◌, ℕ, ◌+◌, ◌<◌, ◌≤◌, Bool, true, false, ◌&&◌, ◌||◌, List, [], ◌∷◌, ◌++◌, length, replicate, set, refl, sym, ◌∙◌, ap}
+use Rattle.std.proofs.{Common.{subst, inl, inr, arith, Option, Some, None}, lemmas.Bool.{cases_Bool, cases_eq, cases_lt, false≢true, le-ltb}}
+use Rattle.std.proofs.lemmas.{Bool.{or_parts, true≢false, Decides.nat_tests}, List.{get_or-replicate, get_or-set_other, get_or_past}}
+use Rattle.std.proofs.lemmas.List.{length-replicate, length-set}
 use Rattle.std.specs.{Prelude.{if◌then◌else◌, ◌==◌, ◌%◌, is_some, map, max, min, not, nat_le, nat_lt}, List.list_any}
-use Rattle.std.proofs.lemmas.{Bool.{cases_Bool, cases_eq, cases_lt, false≢true, le-ltb, or_parts, true≢false}, Bool.Decides.nat_tests}
-use Rattle.std.proofs.lemmas.List.{get_or-replicate, get_or-set_other, get_or_past, length-replicate, length-set}
 use Rattle.fis_view.specs.Seen.{seen as seen_in}
 use Rattle.host_memory.specs.{Memory.{IsHostMemory, Memory}, Reading.{AgreeFrom, share_byte, shares_with}, declared.table.Prd.Prd}
 use Rattle.hba_commands.specs.{declared.command.Command.Command, Headers.header_place}
 use Rattle.slots.specs.{Slots.{Issue, has_bit, holds as issue_holds, issue_at}, Work.{is_dma, is_read as work_reads}}
 use Rattle.slots.proofs.Door.{lowest_is}
-use Rattle.hba_fbs.specs.{declared.report.TakeReport.TakeReport, Sending.{Outgoing, gathered, outgoing}, Tables.prds_of}
-use Rattle.hba_fbs.specs.{Taking.{admitted, ignores, port_of, row_for}, Views.{Port, last_command}}
+use Rattle.hba_fbs.specs.{declared.report.TakeReport.TakeReport, Sending.{Outgoing, gathered, outgoing}, Tables.prds_of, Taking.{admitted, ignores}}
+use Rattle.hba_fbs.specs.{Taking.{port_of, row_for}, Views.{Port, last_command}}
 use Rattle.hba_fbs.specs.Sending as out
-use Rattle.hba_laws.specs.Client.{AreApart, By, IsKept, Puts, Touches, own}
-use Rattle.hba_laws.specs.Delivering.{SparesTables, begun_by, event_taken, is_control_issue, touched, touched_by_out}
-use Rattle.hba_laws.specs.{History.{Sent, SentControl, SetUp, Transfer, issued}, Hosts.HostEvent, Between.NoneIssues}
+use Rattle.hba_laws.specs.{Client.{AreApart, By, IsKept, Puts, Touches, own}, Delivering.{SparesTables, begun_by, event_taken, is_control_issue}}
+use Rattle.hba_laws.specs.{Delivering.{touched, touched_by_out}, History.{Sent, SentControl, SetUp, Transfer, issued}, Hosts.HostEvent}
+use Rattle.hba_laws.specs.Between.{NoneIssues}
 use Rattle.hba_laws.specs.Hosts as event
 use Rattle.hba_laws.specs.Sound as sound
 use Rattle.hba_laws.proofs.Door.{gives_commands, opens_untold, out_none, took_none}
 use Rattle.hba_driver.specs.declared.{mode.Mode.{Mode, TheVariants.{Switching, CommandBased}}, plan.Device.{Device, TheVariants.Absent}}
-use Rattle.hba_driver.specs.declared.{request.Completion.Completion, request.Outcome.TheVariants.Done, request.Request.Request}
-use Rattle.hba_driver.specs.{declared.{request.SubmitError.SubmitError, request.Work.Work}, Seeing.Sight}
-use Rattle.hba_driver.specs.declared.{slot.Phase.{Phase, TheVariants.{Aside, Ended}}, turn.Turn.Turn}
-use Rattle.hba_driver.specs.Drivers.{Driver, Entry, device_at, entry_at, has_ended, has_ended_in, holds, is_aside, is_aside_in, is_issued}
-use Rattle.hba_driver.specs.{Drivers.{is_issued_in, new_driver_in, rephase, rephased}, Effects.{buffer_prd, table_of}}
-use Rattle.hba_driver.specs.Events.{IsSoundHostIn, events_of, events_over, opening_host_in, shared_by}
-use Rattle.hba_driver.specs.{HostTurns.{Does, DoesAll, Host, HostTurn, Took, Pushed, Ticked, Submitted, Polled, Put, sight_in}, Modes.is_switching}
-use Rattle.hba_driver.specs.{Orders.{is_flush, is_queued}, Requests.{device_refusal, is_bad_count, is_bad_prd}}
-use Rattle.hba_driver.specs.Served.{AreBounded, HasCommand, HaveCommands, HasSize, IsBounded, IsFisOf, IsIssueOf, IsServed, RunServes, TurnsServe}
-use Rattle.hba_driver.specs.{Served.AreOfOne, Sights.{file_shown, sight_of}}
-use Rattle.hba_driver.specs.Submits.{after_submit, end_of, lowest_ended, new_entry, new_head, next_slot, submit_refusal}
-use Rattle.hba_driver.specs.{Ticks.{after_tick, done_ended, is_done, seen, turn}, Between.{From, IsFree, MayEnd, PollFacts, beside}}
+use Rattle.hba_driver.specs.declared.request.{Completion.Completion, Outcome.TheVariants.Done, Request.Request, SubmitError.SubmitError, Work.Work}
+use Rattle.hba_driver.specs.{Seeing.Sight, declared.{slot.Phase.{Phase, TheVariants.{Aside, Ended}}, turn.Turn.Turn}, Drivers.{Driver, Entry}}
+use Rattle.hba_driver.specs.Drivers.{device_at, entry_at, has_ended, has_ended_in, holds, is_aside, is_aside_in, is_issued, is_issued_in}
+use Rattle.hba_driver.specs.{Drivers.{new_driver_in, rephase, rephased}, Effects.{buffer_prd, table_of}, Events.{IsSoundHostIn, events_of}}
+use Rattle.hba_driver.specs.{Events.{events_over, opening_host_in, shared_by}, HostTurns.{Does, DoesAll, Host, HostTurn, Took, Pushed, Ticked}}
+use Rattle.hba_driver.specs.{HostTurns.{Submitted, Polled, Put, sight_in}, Modes.is_switching, Orders.{is_flush, is_queued}, Requests.device_refusal}
+use Rattle.hba_driver.specs.{Requests.{is_bad_count, is_bad_prd}, Served.{AreBounded, HasCommand, HaveCommands, HasSize, IsBounded, IsFisOf}}
+use Rattle.hba_driver.specs.{Served.{IsIssueOf, IsServed, RunServes, TurnsServe, AreOfOne}, Sights.{file_shown, sight_of}, Submits.after_submit}
+use Rattle.hba_driver.specs.{Submits.{end_of, lowest_ended, new_entry, new_head, next_slot, submit_refusal}, Ticks.{after_tick, done_ended, is_done}}
+use Rattle.hba_driver.specs.{Ticks.{seen, turn}, Between.{From, IsFree, MayEnd, PollFacts, beside}}
 use Rattle.hba_driver.specs.declared.request.SubmitError.TheVariants as refusal
 use Rattle.hba_driver.specs.declared.request.Work.TheVariants as work
-use Rattle.hba_driver.proofs.{issued.ApartLemmas.{issues_apart, kept_device, puts_spare}, ends.DoneLemmas.free_slot}
-use Rattle.hba_driver.proofs.{events.DrivenLemmas.{not_below, turn_opens}, ticks.DueLemmas.goes_turn}
-use Rattle.hba_driver.proofs.{events.EventLemmas.{beside_area, beside_same, does_store, sound_beside}, issued.EndingLemmas.{each_act, may_end}}
-use Rattle.hba_driver.proofs.requests.HistoryLemmas.{back_of, free_below, free_other, freed, poll_facts}
-use Rattle.hba_driver.proofs.issued.IssueLemmas.{calm_event, command_stays, rest_none, rest_then, spares_by, told_at}
-use Rattle.hba_driver.proofs.{ticks.LifeLemmas.{due_seen, entry_of_rephased, keeps_seen, slots_seen, unaside_stays}, calls.RequestLemmas.set_cases}
-use Rattle.hba_driver.proofs.issued.ServingLemmas.{Follows, Goes, beside_table, from_moves, moves_goes, not_busy, served_moves}
-use Rattle.hba_driver.proofs.events.SoundLemmas.{sound_host, sound_turn}
-use Rattle.hba_driver.proofs.requests.StandLemmas.{agree_turn, header_area, in_slots, posted_beside, runs, same_memory, same_written, table_area}
-use Rattle.hba_driver.proofs.{calls.SubmitLemmas.is_taken, issued.TickingLemmas.{IsOurs, Needs}}
-use Rattle.hba_driver.proofs.events.TurnLemmas.{first_none, framed_over, sound_shared, submit_open}
+use Rattle.hba_driver.proofs.{issued.ApartLemmas.{issues_apart, kept_device, puts_spare}, ends.DoneLemmas.free_slot, events.DrivenLemmas.not_below}
+use Rattle.hba_driver.proofs.{events.{DrivenLemmas.turn_opens, EventLemmas.{beside_area, beside_same, does_store}}, ticks.DueLemmas.goes_turn}
+use Rattle.hba_driver.proofs.{events.EventLemmas.sound_beside, issued.EndingLemmas.{each_act, may_end}, requests.HistoryLemmas.{back_of, free_below}}
+use Rattle.hba_driver.proofs.{requests.HistoryLemmas.{free_other, freed, poll_facts}, issued.IssueLemmas.{calm_event, command_stays, rest_none}}
+use Rattle.hba_driver.proofs.{issued.IssueLemmas.{rest_then, spares_by, told_at}, ticks.LifeLemmas.{due_seen, entry_of_rephased, keeps_seen}}
+use Rattle.hba_driver.proofs.{ticks.LifeLemmas.{slots_seen, unaside_stays}, calls.RequestLemmas.set_cases, issued.ServingLemmas.{Follows, Goes}}
+use Rattle.hba_driver.proofs.{issued.ServingLemmas.{beside_table, from_moves, moves_goes, not_busy, served_moves}, events.SoundLemmas.sound_host}
+use Rattle.hba_driver.proofs.{events.SoundLemmas.sound_turn, requests.StandLemmas.{agree_turn, header_area, in_slots, posted_beside, runs}}
+use Rattle.hba_driver.proofs.{requests.StandLemmas.{same_memory, same_written, table_area}, calls.SubmitLemmas.is_taken, issued.TickingLemmas.IsOurs}
+use Rattle.hba_driver.proofs.{issued.TickingLemmas.Needs, events.TurnLemmas.{first_none, framed_over, sound_shared, submit_open}}
 
 -- ---- what a tick sees
 

@@ -1,14 +1,15 @@
 -- For `turns_serve`. After each effect of a tick, everything that is issued is still the driver's.
-use Rattle.std.proofs.Common.{◌≡◌, ◌≢◌, ℕ, ◌+◌, ◌*◌, ◌^◌, ◌<◌, ◌⊎◌, Bool, true, false, cond, List, [], ◌∷◌, ◌++◌, length, replicate, refl, sym, ◌∙◌, ap, subst, inl, inr, arith, append_assoc, Option, Some, None}
+use Rattle.std.proofs.Common.{◌≡◌, ◌≢◌, ℕ, ◌+◌, ◌*◌, ◌^◌, ◌<◌, ◌⊎◌, Bool, true, false, cond, List, [], ◌∷◌, ◌++◌, length, replicate, refl, sym, ◌∙◌}
+use Rattle.std.proofs.{Common.{ap, subst, inl, inr, arith, append_assoc, Option, Some, None}, lemmas.Bool.{cases_lt, eq-eqb, true≢false}}
+use Rattle.std.proofs.lemmas.{List.length-replicate}
 use Rattle.std.specs.Prelude.{MatchOption, is_some}
-use Rattle.std.proofs.lemmas.{Bool.{cases_lt, eq-eqb, true≢false}, List.length-replicate}
 use Rattle.host_memory.specs.{Memory.{IsHostMemory, Memory}, Reading.LieApart, declared.table.Prd.Prd}
 use Rattle.hba_commands.specs.{Headers.header_place, declared.command.Command.Command}
 use Rattle.slots.specs.Slots.{Issue, issue_at, match_some}
 use Rattle.fis_view.specs.declared.build.H2dFields.{H2dFields}
 use Rattle.hba_fbs.specs.{declared.{error.WriteError.WriteError, register.Register.{Register, TheVariants.{Cmd, Ci, Fbs}}}, Issuing.{aimed, asked}}
-use Rattle.hba_fbs.specs.{Offsets.register_at, Registers.falls, Tables.prds_of, Views.Port}
-use Rattle.hba_fbs.specs.Writing.{Accepts, cleared_by, commands_after, write_refusal}
+use Rattle.hba_fbs.specs.{Offsets.register_at, Registers.falls, Tables.prds_of, Views.Port, Writing.{Accepts, cleared_by, commands_after}}
+use Rattle.hba_fbs.specs.Writing.{write_refusal}
 use Rattle.hba_laws.specs.{Client.{By, IsKept, Stops, Touches, own}, Delivering.{SparesTables, touched, touched_by_clear, touched_by_write}}
 use Rattle.hba_laws.specs.{History.{Emptied, Transfer, issued}, Hosts.HostEvent, Between.{NoneIssues, NotIssue}}
 use Rattle.hba_laws.specs.Hosts as event
@@ -16,15 +17,13 @@ use Rattle.hba_laws.specs.Sound as sound
 use Rattle.hba_laws.proofs.Door.{clear_none, falls_none, the}
 use Rattle.hba_driver.specs.{declared.{effect.Effect.Effect, path.Path.Path}, Drivers.{Driver, Entry, IsPath, entry_at, is_issued, rephased}}
 use Rattle.hba_driver.specs.{Effects.{Acts, Tries, is_effect, prds_with, table_of}, Events.{events_of_effect, wrote_to}, Orders.request_fields}
-use Rattle.hba_driver.specs.{declared.mode.Mode.Mode, Modes.is_switching}
-use Rattle.hba_driver.specs.Served.{AreBounded, AreOfOne, HasCommand, HaveCommands, IsBounded, IsBuiltOf, IsFisOf, IsServed}
-use Rattle.hba_driver.specs.Between.{From, IsFree, beside}
+use Rattle.hba_driver.specs.{declared.mode.Mode.Mode, Modes.is_switching, Served.{AreBounded, AreOfOne, HasCommand, HaveCommands, IsBounded}}
+use Rattle.hba_driver.specs.{Served.{IsBuiltOf, IsFisOf, IsServed}, Between.{From, IsFree, beside}}
 use Rattle.hba_driver.specs.declared.effect.Effect.TheVariants as effect
-use Rattle.hba_driver.proofs.events.{DrivenLemmas.refusal_is, EventLemmas.{beside_area, beside_same, does_store}}
-use Rattle.hba_driver.proofs.issued.IssueLemmas.{Rest, calm_event, command_stays, rest_then, spares_by, told_of}
-use Rattle.hba_driver.proofs.issued.IssuingLemmas.{MayIssue, Standing, ci_served, kept_below}
-use Rattle.hba_driver.proofs.requests.StandLemmas.{Same, few_prds, header_area, in_slots, late, lt_of, same_act, same_beside, same_written}
-use Rattle.hba_driver.proofs.requests.StandLemmas.{table_area}
+use Rattle.hba_driver.proofs.{events.{DrivenLemmas.refusal_is, EventLemmas.{beside_area, beside_same, does_store}}, issued.IssueLemmas.Rest}
+use Rattle.hba_driver.proofs.issued.{IssueLemmas.{calm_event, command_stays, rest_then, spares_by, told_of}, IssuingLemmas.{MayIssue, Standing}}
+use Rattle.hba_driver.proofs.{issued.IssuingLemmas.{ci_served, kept_below}, requests.StandLemmas.{Same, few_prds, header_area, in_slots, late, lt_of}}
+use Rattle.hba_driver.proofs.requests.StandLemmas.{same_act, same_beside, same_written, table_area}
 
 -- ---- the driver goes on
 

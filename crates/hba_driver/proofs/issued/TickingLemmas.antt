@@ -1,7 +1,8 @@
 -- For `turns_serve`. After a tick, everything that is issued is still the driver's.
-use Rattle.std.proofs.Common.{◌≡◌, ◌≢◌, ℕ, ◌+◌, ◌*◌, ◌^◌, ◌<◌, ◌⊎◌, Bool, true, false, ◌&&◌, List, [], ◌∷◌, ◌++◌, length, set, refl, sym, ◌∙◌, ap, subst, inl, inr, arith, Option, Some, None}
+use Rattle.std.proofs.Common.{◌≡◌, ◌≢◌, ℕ, ◌+◌, ◌*◌, ◌^◌, ◌<◌, ◌⊎◌, Bool, true, false, ◌&&◌, List, [], ◌∷◌, ◌++◌, length, set, refl, sym, ◌∙◌, ap}
+use Rattle.std.proofs.{Common.{subst, inl, inr, arith, Option, Some, None}, lemmas.Bool.{cases_eq, false≢true, ne_eqb, true≢false}}
+use Rattle.std.proofs.lemmas.List.{get_or-set_other, get_or-set_same, length-set}
 use Rattle.std.specs.{Prelude.{MatchOption, if◌then◌else◌, not, ◌%◌, ◌==◌}, List.list_all, Option.option_map}
-use Rattle.std.proofs.lemmas.{Bool.{cases_eq, false≢true, ne_eqb, true≢false}, List.{get_or-set_other, get_or-set_same, length-set}}
 use Rattle.fis_view.specs.declared.build.H2dFields.{H2dFields}
 use Rattle.host_memory.specs.{Memory.{IsHostMemory, Memory}, declared.table.Prd.Prd}
 use Rattle.hba_commands.specs.Requests.{request_of, work_of}
@@ -12,31 +13,28 @@ use Rattle.hba_fbs.specs.{declared.{register.Register.Register, registers.Regist
 use Rattle.hba_laws.specs.{History.Transfer, Hosts.HostEvent}
 use Rattle.hba_laws.specs.Hosts as event
 use Rattle.hba_laws.proofs.Door.{some_inj}
-use Rattle.hba_driver.specs.declared.{effect.Effect.Effect, mode.Mode.{Mode, TheVariants.{Switching, CommandBased}}}
-use Rattle.hba_driver.specs.declared.order.Order.{Order}
-use Rattle.hba_driver.specs.declared.order.Order.TheVariants.{ResetOn, ResetOff, AwaitSignature, CountPorts, SetMask, Enable, Open, Scan, Clear, Detect, Watch}
-use Rattle.hba_driver.specs.declared.{path.Path.Path, path.Stage.{Stage, TheVariants.{Identify, ReadLog, AssertReset, ReleaseReset}}}
-use Rattle.hba_driver.specs.{declared.path.TaskFile.TaskFile, Seeing.Sight, declared.request.Outcome.TheVariants.{Aborted, Removed}}
-use Rattle.hba_driver.specs.declared.{request.Work.Work, slot.Head.Head, slot.Phase.{Phase, TheVariants.{Issued, Aside, Ended}}, turn.Act.Act}
-use Rattle.hba_driver.specs.Drivers.{Driver, Entry, IsPath, entry_at, is_issued, is_issued_in, is_read, rephase, rephase_all, rephased, waits}
-use Rattle.hba_driver.specs.Drivers.{waits_in}
-use Rattle.hba_driver.specs.Effects.{ActsAll, IsRuled, effects_of, is_effect, issuing, opening_write, opening_writes, order_command, order_effects}
-use Rattle.hba_driver.specs.{Effects.{prds_with, restart_write, restart_writes, sending, stage_effects}, Events.{events_of_effect, events_of_effects}}
+use Rattle.hba_driver.specs.declared.{effect.Effect.Effect, mode.Mode.{Mode, TheVariants.{Switching, CommandBased}}, order.Order.Order}
+use Rattle.hba_driver.specs.declared.order.Order.TheVariants.{ResetOn, ResetOff, AwaitSignature, CountPorts, SetMask, Enable, Open, Scan, Clear}
+use Rattle.hba_driver.specs.declared.{order.Order.TheVariants.{Detect, Watch}, path.{Path.Path, Stage.{Stage, TheVariants.{Identify, ReadLog}}}}
+use Rattle.hba_driver.specs.{declared.path.{Stage.TheVariants.{AssertReset, ReleaseReset}, TaskFile.TaskFile}, Seeing.Sight}
+use Rattle.hba_driver.specs.declared.{request.{Outcome.TheVariants.{Aborted, Removed}, Work.Work}, slot.{Head.Head, Phase.Phase}}
+use Rattle.hba_driver.specs.{declared.{slot.Phase.TheVariants.{Issued, Aside, Ended}, turn.Act.Act}, Drivers.{Driver, Entry, IsPath, entry_at}}
+use Rattle.hba_driver.specs.{Drivers.{is_issued, is_issued_in, is_read, rephase, rephase_all, rephased, waits, waits_in}, Effects.{ActsAll, IsRuled}}
+use Rattle.hba_driver.specs.Effects.{effects_of, is_effect, issuing, opening_write, opening_writes, order_command, order_effects, prds_with}
+use Rattle.hba_driver.specs.{Effects.{restart_write, restart_writes, sending, stage_effects}, Events.{events_of_effect, events_of_effects}}
 use Rattle.hba_driver.specs.{Modes.is_switching, Orders.{control_port, order_fields, request_fields, work_fields}, Paths.{reads_page, stage_fields}}
-use Rattle.hba_driver.specs.Sights.{px_ci, px_fbs, px_sact, px_sntf}
-use Rattle.hba_driver.specs.Ticks.{acted, effects_due, entries_after, is_aside_of, is_open_of, plan_after, plan_without, removed, stage_ended, unless}
-use Rattle.hba_driver.specs.Between.{Due, From, IsFree, MayStep, Waiting, beside}
+use Rattle.hba_driver.specs.{Sights.{px_ci, px_fbs, px_sact, px_sntf}, Ticks.{acted, effects_due, entries_after, is_aside_of, is_open_of, plan_after}}
+use Rattle.hba_driver.specs.{Ticks.{plan_without, removed, stage_ended, unless}, Between.{Due, From, IsFree, MayStep, Waiting, beside}}
 use Rattle.hba_driver.specs.declared.effect.Effect.TheVariants as effect
 use Rattle.hba_driver.specs.declared.path.Stage.TheVariants as stage
 use Rattle.hba_driver.specs.declared.request.Work.TheVariants as work
 use Rattle.hba_driver.specs.declared.turn.Act.TheVariants as act
-use Rattle.hba_driver.proofs.{events.DrivenLemmas.{SamePlace, en_chosen, place_effect}, calls.EffectLemmas.all_at}
-use Rattle.hba_driver.proofs.{events.EventLemmas.{beside_same, same_sizes, sized_effect, sound_beside}, requests.HistoryLemmas.back_of}
-use Rattle.hba_driver.proofs.issued.IssuingLemmas.{MayIssue, Standing}
-use Rattle.hba_driver.proofs.ticks.LifeLemmas.{entry_of_rephased, keeps_removed, keeps_staged, length_of_rephased, length_staged}
-use Rattle.hba_driver.proofs.calls.RequestLemmas.{set_cases}
-use Rattle.hba_driver.proofs.issued.ServingLemmas.{Follows, Goes, ci_goes, command_goes, empties_goes, first_goes, flush_goes, from_moves, is_ci}
-use Rattle.hba_driver.proofs.{issued.ServingLemmas.{moves_goes, write_goes}, requests.StandLemmas.{both, lt_of}}
+use Rattle.hba_driver.proofs.{events.{DrivenLemmas.{SamePlace, en_chosen, place_effect}, EventLemmas.beside_same}, calls.EffectLemmas.all_at}
+use Rattle.hba_driver.proofs.{events.EventLemmas.{same_sizes, sized_effect, sound_beside}, requests.HistoryLemmas.back_of}
+use Rattle.hba_driver.proofs.{issued.IssuingLemmas.{MayIssue, Standing}, ticks.LifeLemmas.{entry_of_rephased, keeps_removed, keeps_staged}}
+use Rattle.hba_driver.proofs.{ticks.LifeLemmas.{length_of_rephased, length_staged}, calls.RequestLemmas.set_cases, issued.ServingLemmas.Follows}
+use Rattle.hba_driver.proofs.issued.ServingLemmas.{Goes, ci_goes, command_goes, empties_goes, first_goes, flush_goes, from_moves, is_ci, moves_goes}
+use Rattle.hba_driver.proofs.{issued.ServingLemmas.write_goes, requests.StandLemmas.{both, lt_of}}
 
 -- ---- lists of effects
 

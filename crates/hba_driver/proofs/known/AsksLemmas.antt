@@ -1,9 +1,8 @@
 -- For `commands_are_meant` and `none_is_stale` of `pm_world`. What holds for a host of a run, from the opening on and
 -- after each turn. It follows that the commands of requests go out to known devices, each with the PM Port of its
 -- device.
-use Rattle.std.proofs.Common.{◌≡◌, ℕ, ◌<◌, Bool, true, false, refl, sym, ◌∙◌, subst, Some}
+use Rattle.std.proofs.{Common.{◌≡◌, ℕ, ◌<◌, Bool, true, false, refl, sym, ◌∙◌, subst, Some}, lemmas.Bool.true_from_ne_false}
 use Rattle.std.specs.Prelude.{◌%◌, slice_index}
-use Rattle.std.proofs.lemmas.Bool.{true_from_ne_false}
 use Rattle.fis_view.specs.Frames.{Stamped}
 use Rattle.host_memory.specs.Memory.{IsHostMemory, Memory}
 use Rattle.hba_driver.specs.{Events.opening_host, HostTurns.{Does, Host, HostTurn, Pushed}, Known.{is_request, known_after}, Between.IsAsking}

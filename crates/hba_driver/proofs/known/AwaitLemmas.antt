@@ -1,24 +1,23 @@
 -- For `devices_are_known`. While slot 30 awaits the data of an IDENTIFY DEVICE, and none has come, it still does so
 -- after each turn.
 use Rattle.std.proofs.Common.{◌≡◌, ℕ, Bool, true, false, ◌&&◌, List, [], ◌∷◌, length, refl, sym, ◌∙◌, ap, subst, inl, inr, arith, Option, Some, None}
-use Rattle.std.specs.{Prelude.{if◌then◌else◌, ◌==◌, not}, List.list_all, Option.option_or}
 use Rattle.std.proofs.lemmas.{Bool.{cases_eq, cases_lt, eq-eqb, eqb-true, false≢true, true≢false}, List.get_or_past}
 use Rattle.std.proofs.lemmas.List.FromFn.{get_or-map-range_with_len, length-map-range_with_len}
+use Rattle.std.specs.{Prelude.{if◌then◌else◌, ◌==◌, not}, List.list_all, Option.option_or}
 use Rattle.fis_view.specs.{Frames.Stamped, Seen.seen, declared.view.Fis.Fis}
 use Rattle.host_memory.specs.Memory.{Memory}
 use Rattle.hba_commands.specs.{declared.command.Command.Command, Commands.command_at}
 use Rattle.rx_area.specs.declared.area.Posted.{Posted}
 use Rattle.slots.specs.{Slots.{has_bit, match_some, slots_of}, Table.IsTable}
 use Rattle.hba_fbs.specs.declared.error.WriteError.TheVariants as refusal
-use Rattle.hba_fbs.specs.declared.{hearing.Heard.Heard, register.Register.{Register, TheVariants.Ci}, report.TakeReport.TakeReport}
-use Rattle.hba_fbs.specs.{declared.report.Wrote.Wrote, Issuing.{asked, commands_with}, Offsets.register_at, Sending.{Outgoing, outgoing}}
-use Rattle.hba_fbs.specs.Tables.{is_sound}
-use Rattle.hba_fbs.specs.Taking.{admitted, heard, heard_now, heard_report, heard_view, ignores, place_in, port_of, row_for, wrote_by}
-use Rattle.hba_fbs.specs.{Views.{DeviceView, Port, last_command, view_of}, Writing.{commands_after, refusal_of, write_refusal}}
+use Rattle.hba_fbs.specs.declared.{hearing.Heard.Heard, register.Register.{Register, TheVariants.Ci}, report.{TakeReport.TakeReport, Wrote.Wrote}}
+use Rattle.hba_fbs.specs.{Issuing.{asked, commands_with}, Offsets.register_at, Sending.{Outgoing, outgoing}, Tables.is_sound, Taking.admitted}
+use Rattle.hba_fbs.specs.{Taking.{heard, heard_now, heard_report, heard_view, ignores, place_in, port_of, row_for, wrote_by}, Views.DeviceView}
+use Rattle.hba_fbs.specs.{Views.{Port, last_command, view_of}, Writing.{commands_after, refusal_of, write_refusal}}
 use Rattle.hba_fbs.specs.Sending as out
 use Rattle.hba_laws.proofs.Door.{data_is_own, is_own}
-use Rattle.hba_driver.specs.{declared.effect.Effect.Effect, Effects.{Acts, ActsAll, Tries}, HostTurns.{Host, Pushes, Took, Tooks}}
-use Rattle.hba_driver.specs.{Known.{identifies, is_identify, is_identity}, Between.{IsAwaited, IsShort}}
+use Rattle.hba_driver.specs.{declared.effect.Effect.Effect, Effects.{Acts, ActsAll, Tries}, HostTurns.{Host, Pushes, Took, Tooks}, Known.identifies}
+use Rattle.hba_driver.specs.{Known.{is_identify, is_identity}, Between.{IsAwaited, IsShort}}
 use Rattle.hba_driver.specs.declared.effect.Effect.TheVariants as effect
 use Rattle.hba_driver.proofs.{events.DrivenLemmas.tried_at, known.IdentityLemmas.{is_here, short_fed, short_sent, stays_heard}}
 

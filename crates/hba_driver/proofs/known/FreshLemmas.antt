@@ -1,8 +1,8 @@
 -- For `devices_are_known`. The tick that issues IDENTIFY DEVICE leaves it in slot 30, with none of its bytes come.
-use Rattle.std.proofs.Common.{◌≡◌, ℕ, suc, ◌/◌, ◌^◌, ◌<◌, Bool, true, false, ◌&&◌, List, ◌∷◌, length, replicate, refl, sym, ◌∙◌, ap, subst, inl, inr, arith, Option, Some, None}
-use Rattle.std.specs.{Prelude.{◌==◌, ◌%◌}, List.{list_all, range_with_len}, Option.option_or}
-use Rattle.std.proofs.lemmas.{Bool.cases_lt, List.{get_or_past, get_or-replicate, length-replicate}}
+use Rattle.std.proofs.Common.{◌≡◌, ℕ, suc, ◌/◌, ◌^◌, ◌<◌, Bool, true, false, ◌&&◌, List, ◌∷◌, length, replicate, refl, sym, ◌∙◌, ap, subst, inl, inr}
+use Rattle.std.proofs.{Common.{arith, Option, Some, None}, lemmas.{Bool.cases_lt, List.{get_or_past, get_or-replicate, length-replicate}}}
 use Rattle.std.proofs.lemmas.List.FromFn.{get_or-map-range_with_len, length-map-range_with_len}
+use Rattle.std.specs.{Prelude.{◌==◌, ◌%◌}, List.{list_all, range_with_len}, Option.option_or}
 use Rattle.fis_view.specs.declared.build.H2dFields.{H2dFields}
 use Rattle.host_memory.specs.Memory.{IsHostMemory, Memory}
 use Rattle.hba_commands.specs.{Commands.cfis_at, Requests.{request_at, request_of, work_of}, Writing.total_if_usable}
@@ -13,9 +13,8 @@ use Rattle.hba_fbs.specs.Writing.{commands_after}
 use Rattle.hba_laws.proofs.Door.{own_in}
 use Rattle.hba_driver.specs.{declared.mode.Mode.TheVariants.Switching, Effects.{ActsAll, prds_with, sending, table_of}, Known.is_identify}
 use Rattle.hba_driver.specs.{Orders.identify_fields, Sights.px_ci, Between.{IsAwaited, IsIssuedAt, IsUp}}
-use Rattle.hba_driver.proofs.{accepted.AcceptLemmas.{buffer_usable, identify_proper}, events.DrivenLemmas.tried_at}
-use Rattle.hba_driver.proofs.accepted.UpLemmas.{Issues, Placed, Ready, asks, ci_taken, command_placed, fbs_step, issuing_taken, no_bit, placed_as}
-use Rattle.hba_driver.proofs.accepted.UpLemmas.{same_free}
+use Rattle.hba_driver.proofs.{accepted.{AcceptLemmas.{buffer_usable, identify_proper}, UpLemmas.{Issues, Placed}}, events.DrivenLemmas.tried_at}
+use Rattle.hba_driver.proofs.accepted.UpLemmas.{Ready, asks, ci_taken, command_placed, fbs_step, issuing_taken, no_bit, placed_as, same_free}
 
 -- ---- none of the bytes came
 

@@ -1,23 +1,22 @@
 -- For `devices_are_known`. The IDENTIFY DEVICE of a device stays in slot 30 until data of it came, whatever the device
 -- sends and whatever goes out.
-use Rattle.std.proofs.Common.{List, ◌≡◌, ◌≢◌, ℕ, ◌<◌, Bool, true, false, ◌&&◌, set, length, refl, sym, ◌∙◌, ap, subst, inl, inr, Option, Some, None, get_or-set_other, get_or-set_same}
+use Rattle.std.proofs.Common.{List, ◌≡◌, ◌≢◌, ℕ, ◌<◌, Bool, true, false, ◌&&◌, set, length, refl, sym, ◌∙◌, ap, subst, inl, inr, Option, Some, None}
+use Rattle.std.proofs.{Common.{get_or-set_other, get_or-set_same}, lemmas.{List.get_or_past, Bool.{cases_eq, cases_lt, eq-eqb, false≢true, ne_eqb}}}
+use Rattle.std.proofs.lemmas.Bool.{true≢false}
 use Rattle.std.specs.{Prelude.{if◌then◌else◌, ◌==◌, ◌-◌, is_some, nat_lt, not, is_ok, Result, Ok, Err}, Option.option_map}
-use Rattle.std.proofs.lemmas.{List.get_or_past, Bool.{cases_eq, cases_lt, eq-eqb, false≢true, ne_eqb, true≢false}}
 use Rattle.fis_view.specs.Table as table
 use Rattle.fis_view.specs.{Table.field, declared.view.Fis.Fis}
 use Rattle.fis_view.specs.declared.view.Fis.TheVariants as view
 use Rattle.slots.specs.Commands.{after_complete, after_sent, answer_for, answer_of, answered_as, is_done, is_slot, sent_issue, with_sent}
 use Rattle.slots.specs.Data.{after_activate, after_arrive, after_payload, arrive_answer, gone_over, may_activate, moved_over, payload, payload_len}
 use Rattle.slots.specs.Setup.{after_setup_pio, begun, dma_context, new_context, out_setup, pio_fault, pio_issue, setup_fault, whole_context}
-use Rattle.slots.specs.Setup.{with_own_context}
-use Rattle.slots.specs.Slots.{DeviceSlots, Issue, freed, has_bit, holds, is_control, is_done_issue, is_pio, is_queued_issue, is_whole_issue}
-use Rattle.slots.specs.{Slots.{match_some, own_issue, sent_pio, waiting}, Work.{is_dma, is_queued, is_read, needs_all}}
-use Rattle.slots.specs.declared.{answer.Answered.Answered, answer.SetupError.SetupError, table.Context.Context}
-use Rattle.slots.specs.declared.work.Kind.{Kind, TheVariants.{PioIn, Control}}
+use Rattle.slots.specs.{Setup.with_own_context, Slots.{DeviceSlots, Issue, freed, has_bit, holds, is_control, is_done_issue, is_pio, is_queued_issue}}
+use Rattle.slots.specs.{Slots.{is_whole_issue, match_some, own_issue, sent_pio, waiting}, Work.{is_dma, is_queued, is_read, needs_all}}
+use Rattle.slots.specs.declared.{answer.{Answered.Answered, SetupError.SetupError}, table.Context.Context, work.Kind.{Kind, TheVariants.PioIn}}
+use Rattle.slots.specs.declared.work.Kind.TheVariants.{Control}
 use Rattle.slots.specs.declared.answer.Answered.TheVariants as answer
 use Rattle.port_errors.specs.declared.cause.DeviceCause.TheVariants as cause
-use Rattle.hba_fbs.specs.declared.{hearing.Happening.Happening, hearing.Heard.Heard, report.Wrote.Wrote, state.DeviceState.DeviceState}
-use Rattle.hba_fbs.specs.declared.status.Block.{Block}
+use Rattle.hba_fbs.specs.declared.{hearing.{Happening.Happening, Heard.Heard}, report.Wrote.Wrote, state.DeviceState.DeviceState, status.Block.Block}
 use Rattle.hba_fbs.specs.Hearing.{answered, block_ended, bus_failed, ended, faulty, heard_activate, heard_bits, heard_bytes, heard_d2h, heard_data}
 use Rattle.hba_fbs.specs.Hearing.{heard_data_of, heard_fis, heard_out, heard_pio, heard_register, heard_setup, moved, overflowed, quietly, set_up}
 use Rattle.hba_fbs.specs.{Status.{is_busy, is_error, is_quiet, with_file}, Taking.wrote_by}

@@ -1,18 +1,16 @@
 -- For `devices_are_known`. A device that is not known stays unknown in a tick, unless its IDENTIFY DEVICE came back.
-use Rattle.std.proofs.Common.{◌≡◌, ◌≢◌, ℕ, zero, suc, Bool, true, false, ◌&&◌, List, [], ◌∷◌, map, get_or, set, refl, sym, ◌∙◌, ap, subst, inl, inr, Option, Some, None}
+use Rattle.std.proofs.Common.{◌≡◌, ◌≢◌, ℕ, zero, suc, Bool, true, false, ◌&&◌, List, [], ◌∷◌, map, get_or, set, refl, sym, ◌∙◌, ap, subst, inl, inr}
+use Rattle.std.proofs.{Common.{Option, Some, None}, lemmas.Bool.{and_parts, eq-eqb, eqb-true, false≢true, true≢false}}
 use Rattle.std.specs.{Prelude.{if◌then◌else◌, ◌==◌, nat_lt}, Option.option_map}
-use Rattle.std.proofs.lemmas.Bool.{and_parts, eq-eqb, eqb-true, false≢true, true≢false}
 use Rattle.slots.specs.Slots.{match_some}
-use Rattle.hba_driver.specs.declared.{order.Order.{Order, TheVariants.{CountPorts, Scan, Clear, Detect}}, path.Path.Path}
-use Rattle.hba_driver.specs.declared.path.Recovery.TheVariants.{Log, Reset}
-use Rattle.hba_driver.specs.declared.{path.Stage.{Stage, TheVariants.{Identify, ReadLog, AssertReset, AwaitReset}}, path.TaskFile.TaskFile}
-use Rattle.hba_driver.specs.declared.{plan.Device.{Device, TheVariants.{Absent, Starting, Ready, Unusable, Recovering}}, plan.Plan.Plan}
-use Rattle.hba_driver.specs.{declared.{request.Outcome.TheVariants.{Aborted, Done, PortError, Removed}, sight.ErrorLog.ErrorLog}, Seeing.Sight}
-use Rattle.hba_driver.specs.declared.{slot.Head.Head, slot.Phase.{Phase, TheVariants.{Aside, Ended, Issued}}, turn.Act.Act, turn.Logged.Logged}
-use Rattle.hba_driver.specs.declared.turn.Turn.{Turn}
-use Rattle.hba_driver.specs.Drivers.{Driver, Entry, device_at, entry_at, is_issued, is_issued_in, rephase, rephase_all, rephased, waits}
-use Rattle.hba_driver.specs.Paths.{first_stage, next_stage, recovery, reset_if_there}
-use Rattle.hba_driver.specs.Ticks.{acted, after_tick, done_ended, entries_after, from_reset, is_aside_of, is_done, is_named_of, is_open, is_open_of}
+use Rattle.hba_driver.specs.declared.{order.Order.{Order, TheVariants.{CountPorts, Scan, Clear, Detect}}, path.{Path.Path, Recovery.TheVariants.Log}}
+use Rattle.hba_driver.specs.declared.path.{Recovery.TheVariants.Reset, Stage.{Stage, TheVariants.{Identify, ReadLog, AssertReset, AwaitReset}}}
+use Rattle.hba_driver.specs.declared.{path.TaskFile.TaskFile, plan.Device.{Device, TheVariants.{Absent, Starting, Ready, Unusable, Recovering}}}
+use Rattle.hba_driver.specs.declared.{plan.Plan.Plan, request.Outcome.TheVariants.{Aborted, Done, PortError, Removed}, sight.ErrorLog.ErrorLog}
+use Rattle.hba_driver.specs.{Seeing.Sight, declared.{slot.{Head.Head, Phase.{Phase, TheVariants.{Aside, Ended, Issued}}}, turn.Act.Act}}
+use Rattle.hba_driver.specs.{declared.turn.{Logged.Logged, Turn.Turn}, Drivers.{Driver, Entry, device_at, entry_at, is_issued, is_issued_in, rephase}}
+use Rattle.hba_driver.specs.{Drivers.{rephase_all, rephased, waits}, Paths.{first_stage, next_stage, recovery, reset_if_there}, Ticks.acted}
+use Rattle.hba_driver.specs.Ticks.{after_tick, done_ended, entries_after, from_reset, is_aside_of, is_done, is_named_of, is_open, is_open_of}
 use Rattle.hba_driver.specs.Ticks.{log_outcome, logged_ended, ordered, plan_after, recovering, removed, seen, stage_ended, turn, unless}
 use Rattle.hba_driver.specs.Turns.{advanced, answered, control_seen, detected, device_seen, found_of, found_there, is_back, is_in_reset, is_ready}
 use Rattle.hba_driver.specs.Turns.{is_there, may_issue, met, met_order, met_path, met_stage, noted, path_answered, path_to, turn_of, with_next}

@@ -1,32 +1,31 @@
 -- For `devices_are_known`. Over turns of the host, a device that is ready is known, and so is one of which a request is
 -- issued.
-use Rattle.std.proofs.Common.{◌≡◌, ◌≢◌, ℕ, zero, suc, ◌+◌, ◌<◌, Bool, true, false, ◌&&◌, ◌||◌, List, [], ◌∷◌, get_or, replicate, set, refl, sym, ◌∙◌, ap, subst, inl, inr, arith, Option, Some, None}
+use Rattle.std.proofs.Common.{◌≡◌, ◌≢◌, ℕ, zero, suc, ◌+◌, ◌<◌, Bool, true, false, ◌&&◌, ◌||◌, List, [], ◌∷◌, get_or, replicate, set, refl, sym, ◌∙◌}
+use Rattle.std.proofs.{Common.{ap, subst, inl, inr, arith, Option, Some, None}, lemmas.Bool.{eq-eqb, eqb-true, false_from_ne_true, false≢true}}
+use Rattle.std.proofs.lemmas.Bool.{lt-ltb, ne_eqb, or_parts, true_from_ne_false, true≢false}
 use Rattle.std.specs.{Prelude.{if◌then◌else◌, ◌==◌, not, nat_lt}, List.list_any}
-use Rattle.std.proofs.lemmas.Bool.{eq-eqb, eqb-true, false_from_ne_true, false≢true, lt-ltb, ne_eqb, or_parts, true_from_ne_false, true≢false}
 use Rattle.host_memory.specs.Memory.{IsHostMemory, Memory}
 use Rattle.slots.specs.Slots.{Issue, has_bit, issue_at, match_some}
 use Rattle.hba_fbs.specs.Views.{Port}
 use Rattle.hba_laws.proofs.Door.{own_in}
 use Rattle.hba_driver.specs.declared.{mode.Mode.{Mode, TheVariants.Switching}, order.Order.{Order, TheVariants.{ResetOn, Clear}}, path.Path.Path}
-use Rattle.hba_driver.specs.declared.{path.Stage.{Stage, TheVariants.Identify}, path.TaskFile.TaskFile, plan.Device.TheVariants.Absent}
-use Rattle.hba_driver.specs.{declared.plan.Plan.Plan, Seeing.Sight, declared.turn.Act.Act}
-use Rattle.hba_driver.specs.Drivers.{Driver, Entry, has_ended, has_ended_in, is_issued, is_issued_in}
+use Rattle.hba_driver.specs.declared.{path.{Stage.{Stage, TheVariants.Identify}, TaskFile.TaskFile}, plan.{Device.TheVariants.Absent, Plan.Plan}}
+use Rattle.hba_driver.specs.{Seeing.Sight, declared.turn.Act.Act, Drivers.{Driver, Entry, has_ended, has_ended_in, is_issued, is_issued_in}}
 use Rattle.hba_driver.specs.{declared.slot.Phase.{Phase, TheVariants.Ended}, Effects.{ActsAll, effects_of, opening_write}, Events.opening_host}
-use Rattle.hba_driver.specs.HostTurns.{Does, DoesAll, Host, HostTurn, Took, Pushed, Ticked, Submitted, Polled, Put, sight_in}
-use Rattle.hba_driver.specs.{Known.{DevicesAreKnown, identifies, is_identify, known_after, known_over}, Laws.flushes, Paths.stage_fields}
-use Rattle.hba_driver.specs.{Sights.file_shown, Submits.{after_poll, lowest_ended, new_entry, next_slot}}
-use Rattle.hba_driver.specs.Ticks.{acted, after_tick, done_ended, due, effects, effects_due, from_reset, ordered, plan_after, recovering, seen, turn}
-use Rattle.hba_driver.specs.Ticks.{unless}
-use Rattle.hba_driver.specs.Between.{Awaits, Due, HostUnknown, IsAwaited, IsIssuedAt, IsOnWay, IsUnknown, IsUpIn, MayClear, MayEnd, NoneIssued, Runs}
-use Rattle.hba_driver.specs.Between.{is_logging, is_named, is_reading, is_trusted}
+use Rattle.hba_driver.specs.{HostTurns.{Does, DoesAll, Host, HostTurn, Took, Pushed, Ticked, Submitted, Polled, Put, sight_in}, Known.DevicesAreKnown}
+use Rattle.hba_driver.specs.{Known.{identifies, is_identify, known_after, known_over}, Laws.flushes, Paths.stage_fields, Sights.file_shown}
+use Rattle.hba_driver.specs.{Submits.{after_poll, lowest_ended, new_entry, next_slot}, Ticks.{acted, after_tick, done_ended, due, effects}}
+use Rattle.hba_driver.specs.{Ticks.{effects_due, from_reset, ordered, plan_after, recovering, seen, turn, unless}, Between.{Awaits, Due, HostUnknown}}
+use Rattle.hba_driver.specs.Between.{IsAwaited, IsIssuedAt, IsOnWay, IsUnknown, IsUpIn, MayClear, MayEnd, NoneIssued, Runs, is_logging, is_named}
+use Rattle.hba_driver.specs.Between.{is_reading, is_trusted}
 use Rattle.hba_driver.specs.declared.turn.Act.TheVariants as act
 use Rattle.hba_driver.proofs.{accepted.AcceptLemmas.{Goes, free_here, goes_on, is_up, none_here, way_opens, way_turn}, known.ActLemmas.here_act}
 use Rattle.hba_driver.proofs.{known.AwaitLemmas.{awaited_pushed, awaited_took, here_effects}, events.DrivenLemmas.not_below}
 use Rattle.hba_driver.proofs.{ticks.DueLemmas.{goes_turn, runs_turn}, issued.EndingLemmas.may_end, known.FreshLemmas.fresh_identify}
-use Rattle.hba_driver.proofs.{known.KnownLemmas.{comes_back, unknown_tick}, ticks.LifeLemmas.due_seen}
-use Rattle.hba_driver.proofs.done.OutLemmas.{kept_clear, kept_effects, kept_stopped, lasting_act, opening_is}
-use Rattle.hba_driver.proofs.{known.PushedLemmas.{plain_at, request_known}, calls.RequestLemmas.set_cases}
-use Rattle.hba_driver.proofs.{ticks.ServeLemmas.{act_clears, cleared, ticks_serve}, modes.SwitchLemmas.tick_acts, issued.TickingLemmas.free_slot}
+use Rattle.hba_driver.proofs.{known.KnownLemmas.{comes_back, unknown_tick}, ticks.LifeLemmas.due_seen, done.OutLemmas.{kept_clear, kept_effects}}
+use Rattle.hba_driver.proofs.{done.OutLemmas.{kept_stopped, lasting_act, opening_is}, known.PushedLemmas.{plain_at, request_known}}
+use Rattle.hba_driver.proofs.{calls.RequestLemmas.set_cases, ticks.ServeLemmas.{act_clears, cleared, ticks_serve}, modes.SwitchLemmas.tick_acts}
+use Rattle.hba_driver.proofs.issued.TickingLemmas.{free_slot}
 use Rattle.hba_driver.proofs.ends.DoneLemmas as done
 
 -- ---- a device that is not known

@@ -1,15 +1,14 @@
 -- For `requests_stay_with_their_device`. A request stays with its device from its submit on, and its command is known
 -- by its slot.
-use Rattle.std.proofs.Common.{◌≡◌, ℕ, true, false, List, [], ◌∷◌, refl, sym, ◌∙◌, ap, subst, inl, inr, Some}
+use Rattle.std.proofs.{Common.{◌≡◌, ℕ, true, false, List, [], ◌∷◌, refl, sym, ◌∙◌, ap, subst, inl, inr, Some}, lemmas.Bool.{cases_Bool, false≢true}}
 use Rattle.std.specs.{Prelude.◌||◌, List.list_any}
-use Rattle.std.proofs.lemmas.Bool.{cases_Bool, false≢true}
-use Rattle.hba_driver.specs.declared.slot.Phase.{Phase, TheVariants.{Aside, Ended, Waits}}
-use Rattle.hba_driver.specs.{Drivers.{Entry, entry_at, has_ended_in, is_issued_in, rephased, waits_in}, Events.opening_host}
-use Rattle.hba_driver.specs.{HostTurns.{Does, DoesAll, Host, HostTurn, Submitted, Ticked, Took, sight_in}, Known.is_flushed, Laws.{Goes, flushes}}
-use Rattle.hba_driver.specs.{Queued.{IsQueuedBy, RequestsStay, Stood, Taken}, Sights.file_shown, Submits.new_entry, Tended.IsLiveAt}
-use Rattle.hba_driver.specs.{Ticks.{after_tick, effects}, Between.{Fresh, IsOnWay, Stood as StoodOn}}
-use Rattle.hba_driver.proofs.{accepted.AcceptLemmas.{way_opens, way_turn}, requests.ComeLemmas.comes_from}
-use Rattle.hba_driver.proofs.{known.PushedLemmas.{plain_at, request_of_slot}, ticks.ServeLemmas.ticks_serve, steady.SteadyTurns.is_ready_dev}
+use Rattle.hba_driver.specs.{declared.slot.Phase.{Phase, TheVariants.{Aside, Ended, Waits}}, Drivers.{Entry, entry_at, has_ended_in, is_issued_in}}
+use Rattle.hba_driver.specs.{Drivers.{rephased, waits_in}, Events.opening_host, HostTurns.{Does, DoesAll, Host, HostTurn, Submitted, Ticked, Took}}
+use Rattle.hba_driver.specs.{HostTurns.sight_in, Known.is_flushed, Laws.{Goes, flushes}, Queued.{IsQueuedBy, RequestsStay, Stood, Taken}}
+use Rattle.hba_driver.specs.{Sights.file_shown, Submits.new_entry, Tended.IsLiveAt, Ticks.{after_tick, effects}, Between.{Fresh, IsOnWay}}
+use Rattle.hba_driver.specs.Between.{Stood as StoodOn}
+use Rattle.hba_driver.proofs.{accepted.AcceptLemmas.{way_opens, way_turn}, requests.ComeLemmas.comes_from, known.PushedLemmas.plain_at}
+use Rattle.hba_driver.proofs.{known.PushedLemmas.request_of_slot, ticks.ServeLemmas.ticks_serve, steady.SteadyTurns.is_ready_dev}
 
 -- ---- a turn
 

@@ -1,22 +1,21 @@
 -- For `devices_are_apart`. What an act leaves of the plan of a device that recovers.
 use Rattle.std.proofs.Common.{◌≡◌, ◌≢◌, ℕ, ◌⊎◌, ◌&&◌, Bool, true, false, nat_lt, List, refl, sym, ◌∙◌, ap, subst, inl, inr, Option, Some, None}
-use Rattle.std.specs.Prelude.{if◌then◌else◌, is_some, slice_index_or}
 use Rattle.std.proofs.lemmas.Bool.{cases_eq, false≢true, true≢false}
+use Rattle.std.specs.Prelude.{if◌then◌else◌, is_some, slice_index_or}
 use Rattle.fis_view.specs.declared.build.H2dFields.{H2dFields}
 use Rattle.slots.specs.Slots.{match_some}
 use Rattle.hba_fbs.specs.Views.{Port}
 use Rattle.hba_laws.proofs.Door.{some_inj}
-use Rattle.hba_driver.specs.declared.{order.Order.{Order, TheVariants.{ResetOn, Clear}}, path.Path.Path}
-use Rattle.hba_driver.specs.declared.path.Recovery.{Recovery, TheVariants.{Log, Reset}}
-use Rattle.hba_driver.specs.declared.{path.Stage.{Stage, TheVariants.{ReadLog, AssertReset, ReleaseReset, AwaitReset}}, path.TaskFile.TaskFile}
-use Rattle.hba_driver.specs.{declared.{plan.Device.{Device, TheVariants.{Absent, Recovering}}, plan.Plan.Plan}, Seeing.Sight, declared.turn.Act.Act}
-use Rattle.hba_driver.specs.{Drivers.{Entry, device_at}, Orders.{control, log_fields}, Paths.{first_stage, stage_fields}}
+use Rattle.hba_driver.specs.declared.{order.Order.{Order, TheVariants.{ResetOn, Clear}}, path.{Path.Path, Recovery.{Recovery, TheVariants.Log}}}
+use Rattle.hba_driver.specs.declared.path.{Recovery.TheVariants.Reset, Stage.{Stage, TheVariants.{ReadLog, AssertReset, ReleaseReset, AwaitReset}}}
+use Rattle.hba_driver.specs.{declared.{path.TaskFile.TaskFile, plan.{Device.{Device, TheVariants.{Absent, Recovering}}, Plan.Plan}}, Seeing.Sight}
+use Rattle.hba_driver.specs.{declared.turn.Act.Act, Drivers.{Entry, device_at}, Orders.{control, log_fields}, Paths.{first_stage, stage_fields}}
 use Rattle.hba_driver.specs.Slot30.{Asks, Cleared, Clears, Faulty, IsPlan30, IsSlot30, IsUnsent30, LogSent, Off, On, ReadsLog, Resets, Sets, Stage30}
-use Rattle.hba_driver.specs.{Slot30.{TicksOn30, is_faulty, is_resetting, path_of}, Steady.IsCalmAct}
-use Rattle.hba_driver.specs.{Ticks.{from_reset, ordered, plan_after, recovering}, Turns.is_ready, Between.{Due, DueOf, MayStep, Waiting}}
+use Rattle.hba_driver.specs.{Slot30.{TicksOn30, is_faulty, is_resetting, path_of}, Steady.IsCalmAct, Ticks.{from_reset, ordered, plan_after}}
+use Rattle.hba_driver.specs.{Ticks.recovering, Turns.is_ready, Between.{Due, DueOf, MayStep, Waiting}}
 use Rattle.hba_driver.specs.declared.turn.Act.TheVariants as act
-use Rattle.hba_driver.proofs.{recovers.ApartPlans.{HasFields, recovers}, steady.SteadyLemmas.set_other}
-use Rattle.hba_driver.proofs.issued.TickingLemmas.{unless_back, unless_other}
+use Rattle.hba_driver.proofs.{recovers.ApartPlans.{HasFields, recovers}, steady.SteadyLemmas.set_other, issued.TickingLemmas.unless_back}
+use Rattle.hba_driver.proofs.issued.TickingLemmas.{unless_other}
 
 -- ---- while the device's path is as it was
 

@@ -1,14 +1,13 @@
 -- For `devices_are_apart`. What a tick leaves of the plan of a device that recovers.
 use Rattle.std.proofs.Common.{◌≡◌, ℕ, zero, suc, ◌&&◌, Bool, true, false, List, [], ◌∷◌, get_or, set, refl, sym, ◌∙◌, ap, inl, inr, Option, Some}
-use Rattle.std.specs.{Prelude.{if◌then◌else◌, not, is_some}, Option.option_map}
 use Rattle.std.proofs.lemmas.Bool.{true≢false}
+use Rattle.std.specs.{Prelude.{if◌then◌else◌, not, is_some}, Option.option_map}
 use Rattle.slots.specs.Slots.{has_bit, match_some}
-use Rattle.hba_driver.specs.declared.{order.Order.{Order, TheVariants.Detect}, path.Path.Path, path.Recovery.{Recovery, TheVariants.{Log, Reset}}}
-use Rattle.hba_driver.specs.declared.path.Stage.{Stage, TheVariants.{Identify, ReadLog, AssertReset, ReleaseReset, AwaitReset}}
-use Rattle.hba_driver.specs.{declared.{plan.Device.{Device, TheVariants.{Absent, Recovering}}, plan.Plan.Plan}, Seeing.Sight, declared.turn.Act.Act}
-use Rattle.hba_driver.specs.{Drivers.{Entry, device_at, with_device}, Paths.{next_stage, stage_fields}, Tended.IsUnworked}
-use Rattle.hba_driver.specs.Slot30.{Asks, Cleared, Clears, Faulty, IsCleared, IsPlan30, LogSent, Off, On, ReadsLog, Resets, Sets, Stage30, is_faulty}
-use Rattle.hba_driver.specs.Slot30.{path_of}
+use Rattle.hba_driver.specs.declared.{order.Order.{Order, TheVariants.Detect}, path.{Path.Path, Recovery.{Recovery, TheVariants.{Log, Reset}}}}
+use Rattle.hba_driver.specs.declared.{path.Stage.{Stage, TheVariants.{Identify, ReadLog, AssertReset, ReleaseReset, AwaitReset}}, plan.Device.Device}
+use Rattle.hba_driver.specs.{declared.{plan.{Device.TheVariants.{Absent, Recovering}, Plan.Plan}, turn.Act.Act}, Seeing.Sight, Drivers.Entry}
+use Rattle.hba_driver.specs.{Drivers.{device_at, with_device}, Paths.{next_stage, stage_fields}, Tended.IsUnworked, Slot30.{Asks, Cleared, Clears}}
+use Rattle.hba_driver.specs.Slot30.{Faulty, IsCleared, IsPlan30, LogSent, Off, On, ReadsLog, Resets, Sets, Stage30, is_faulty, path_of}
 use Rattle.hba_driver.specs.Turns.{advanced, answered, control_seen, detected, device_seen, found_of, is_back, is_in_reset, is_out, is_there, met}
 use Rattle.hba_driver.specs.Turns.{met_path, met_stage, noted, path_met, turn_of, with_next}
 use Rattle.hba_driver.specs.declared.turn.Act.TheVariants as act

@@ -1,32 +1,31 @@
 -- For `devices_are_apart`. What a device has issued while it recovers, what goes out to it, and that none of its
 -- requests waits or is issued.
-use Rattle.std.proofs.Common.{◌≡◌, ◌≢◌, ℕ, ◌+◌, ◌*◌, ◌<◌, ◌≤◌, ◌⊎◌, Bool, true, false, ◌&&◌, ◌||◌, List, length, set, refl, sym, ◌∙◌, ap, subst, inl, inr, arith, Option, Some, None}
+use Rattle.std.proofs.Common.{◌≡◌, ◌≢◌, ℕ, ◌+◌, ◌*◌, ◌<◌, ◌≤◌, ◌⊎◌, Bool, true, false, ◌&&◌, ◌||◌, List, length, set, refl, sym, ◌∙◌, ap, subst, inl}
+use Rattle.std.proofs.{Common.{inr, arith, Option, Some, None}, lemmas.Bool.{cases_eq, false≢true, true≢false}}
 use Rattle.std.specs.{Prelude.{if◌then◌else◌, not, is_none, is_some, bit_or, ◌%◌}, Option.option_map}
-use Rattle.std.proofs.lemmas.Bool.{cases_eq, false≢true, true≢false}
 use Rattle.fis_view.specs.{Bits.bits, Built.{IsBuilt, cut, h2d_given}, Frames.Stamped, Table.{H2d, field, places, spelled}}
 use Rattle.fis_view.specs.declared.build.H2dFields.{H2dFields}
 use Rattle.fis_view.specs.Table as table
 use Rattle.host_memory.specs.Memory.{Memory}
 use Rattle.hba_commands.specs.{declared.command.Command.Command, Requests.{request_of, work_of}}
 use Rattle.port_errors.specs.{Errors.cause_of, declared.cause.DeviceCause.DeviceCause}
-use Rattle.slots.specs.{Commands.{is_slot, may_begin, sent_issue, with_sent}, Data.payload}
-use Rattle.slots.specs.Slots.{DeviceSlots, Issue, context_of, context_unless, freed, holds, is_control, issue_at, match_some, new_issue, own_issue}
-use Rattle.slots.specs.{Slots.{slots_of, waiting}, Work.{is_dma, is_queued}, declared.{table.Context.Context, work.Work.Work}}
+use Rattle.slots.specs.{Commands.{is_slot, may_begin, sent_issue, with_sent}, Data.payload, Slots.{DeviceSlots, Issue, context_of, context_unless}}
+use Rattle.slots.specs.{Slots.{freed, holds, is_control, issue_at, match_some, new_issue, own_issue, slots_of, waiting}, Work.{is_dma, is_queued}}
+use Rattle.slots.specs.declared.{table.Context.Context, work.Work.Work}
 use Rattle.slots.proofs.Door.{lowest_is}
 use Rattle.hba_fbs.specs.Sending.{Data, Gives, Nothing, Order as Goes, Outgoing, Sends, data_due, data_with, is_due, is_ready, next_receiver}
-use Rattle.hba_fbs.specs.{Sending.{next_to_send, order_due, outgoing, resets, view_sent}, Tables.sound_command}
-use Rattle.hba_fbs.specs.Views.{DeviceView, Port, last_command, view_of}
-use Rattle.hba_laws.specs.{Agreement.{work_of_issue, work_of_transfer}, Client.{Touches, own}, History.{Transfer, issued}}
-use Rattle.hba_laws.specs.{Isolation.{may_leave, next_own}, Between.IsOrder}
+use Rattle.hba_fbs.specs.{Sending.{next_to_send, order_due, outgoing, resets, view_sent}, Tables.sound_command, Views.{DeviceView, Port}}
+use Rattle.hba_fbs.specs.Views.{last_command, view_of}
+use Rattle.hba_laws.specs.{Agreement.{work_of_issue, work_of_transfer}, Client.{Touches, own}, History.{Transfer, issued}, Isolation.may_leave}
+use Rattle.hba_laws.specs.{Isolation.next_own, Between.IsOrder}
 use Rattle.hba_laws.proofs.Door.{at_same, held, is_own, order_is, order_is_own, own_freed, own_set, some_inj, the_transfer}
-use Rattle.hba_driver.specs.declared.{plan.Device.TheVariants.{Ready, Recovering}, plan.Plan.Plan, request.Request.Request}
-use Rattle.hba_driver.specs.declared.slot.Phase.{Phase, TheVariants.Issued}
-use Rattle.hba_driver.specs.{Drivers.{Driver, Entry, device_at, entry_at, has_ended_in, is_aside_in, is_issued_in}, Events.{IsSoundHost, shared_by}}
-use Rattle.hba_driver.specs.{HostTurns.{Host, Pushed}, Laws.is_withdrawn, Orders.{control, log_fields}}
-use Rattle.hba_driver.specs.Served.{IsOrdered, IsRequest, IsServed, IsStep}
-use Rattle.hba_driver.specs.Slot30.{Asks, Cleared, Clears, Faulty, IsAlone30, IsAt30, IsFree30, IsPlan30, IsSlot30, IsUnsent30, LogSent, Off, On}
-use Rattle.hba_driver.specs.Slot30.{PushesOn30, Sets, Stage30, StaysOn30, Turns30, fields30, is_faulty, is_resetting, sent30}
-use Rattle.hba_driver.specs.{Submits.{after_submit, next_slot as place_for, new_entry}, Between.PollFacts}
+use Rattle.hba_driver.specs.declared.{plan.{Device.TheVariants.{Ready, Recovering}, Plan.Plan}, request.Request.Request, slot.Phase.Phase}
+use Rattle.hba_driver.specs.{declared.slot.Phase.TheVariants.Issued, Drivers.{Driver, Entry, device_at, entry_at, has_ended_in, is_aside_in}}
+use Rattle.hba_driver.specs.{Drivers.is_issued_in, Events.{IsSoundHost, shared_by}, HostTurns.{Host, Pushed}, Laws.is_withdrawn, Orders.control}
+use Rattle.hba_driver.specs.{Orders.log_fields, Served.{IsOrdered, IsRequest, IsServed, IsStep}, Slot30.{Asks, Cleared, Clears, Faulty, IsAlone30}}
+use Rattle.hba_driver.specs.Slot30.{IsAt30, IsFree30, IsPlan30, IsSlot30, IsUnsent30, LogSent, Off, On, PushesOn30, Sets, Stage30, StaysOn30, Turns30}
+use Rattle.hba_driver.specs.{Slot30.{fields30, is_faulty, is_resetting, sent30}, Submits.{after_submit, next_slot as place_for, new_entry}}
+use Rattle.hba_driver.specs.Between.{PollFacts}
 use Rattle.hba_driver.proofs.{requests.HistoryLemmas.{freed as polled_is, poll_facts}, slot31.Push31Lemmas.third_bit, calls.RequestLemmas.set_cases}
 use Rattle.hba_driver.proofs.{steady.SteadyTurns.is_ready_dev, slot31.SentLemmas.{gone, gone_plain}}
 

@@ -1,25 +1,23 @@
 -- For `devices_are_apart`. A FIS of a device that recovers is ignored, leaves its stage, or is a fault.
-use Rattle.std.proofs.Common.{◌≡◌, ◌≢◌, ℕ, ◌-◌, ◌<◌, ◌≤◌, Bool, true, false, ◌&&◌, ◌||◌, List, length, refl, sym, ◌∙◌, ap, subst, inl, inr, arith, Option, Some, None}
+use Rattle.std.proofs.Common.{◌≡◌, ◌≢◌, ℕ, ◌-◌, ◌<◌, ◌≤◌, Bool, true, false, ◌&&◌, ◌||◌, List, length, refl, sym, ◌∙◌, ap, subst, inl, inr, arith}
+use Rattle.std.proofs.{Common.{Option, Some, None}, lemmas.Bool.{cases_Bool, cases_eq, cases_lt, false≢true, true≢false}}
 use Rattle.std.specs.Prelude.{if◌then◌else◌, ◌==◌, not, is_none, is_some, Result, Err}
-use Rattle.std.proofs.lemmas.Bool.{cases_Bool, cases_eq, cases_lt, false≢true, true≢false}
 use Rattle.fis_view.specs.{Seen.seen, Table.field, declared.view.Fis.Fis}
 use Rattle.fis_view.specs.Table as table
 use Rattle.fis_view.specs.declared.view.Fis.TheVariants as view
 use Rattle.hba_commands.specs.{declared.command.Command.Command, Requests.{request_of, work_of}}
-use Rattle.slots.specs.Commands.{answer_for, answer_of, is_done}
-use Rattle.slots.specs.{Setup.{dma_context, out_context, out_setup, pio_fault, pio_issue, setup_fault, transfer_fault}, Data.may_activate}
-use Rattle.slots.specs.Slots.{DeviceSlots, Issue, context_unless, has_bit, holds, is_done_issue, is_out_issue, is_sent_pio, is_waiting, match_some}
-use Rattle.slots.specs.{Slots.{new_issue, own_issue, sent_pio, waiting}, Work.is_queued, declared.answer.Answered.Answered}
-use Rattle.slots.specs.declared.{answer.SetupError.SetupError, table.Context.Context}
+use Rattle.slots.specs.{Commands.{answer_for, answer_of, is_done}, Setup.{dma_context, out_context, out_setup, pio_fault, pio_issue, setup_fault}}
+use Rattle.slots.specs.{Setup.transfer_fault, Data.may_activate, Slots.{DeviceSlots, Issue, context_unless, has_bit, holds, is_done_issue}}
+use Rattle.slots.specs.{Slots.{is_out_issue, is_sent_pio, is_waiting, match_some, new_issue, own_issue, sent_pio, waiting}, Work.is_queued}
+use Rattle.slots.specs.declared.{answer.{Answered.Answered, SetupError.SetupError}, table.Context.Context}
 use Rattle.slots.specs.declared.answer.Answered.TheVariants as answer
 use Rattle.slots.specs.declared.answer.SetupError.TheVariants as refused
 use Rattle.slots.proofs.Door.{lowest_is}
 use Rattle.port_errors.specs.declared.cause.DeviceCause.TheVariants as cause
 use Rattle.hba_fbs.specs.declared.hearing.Happening.TheVariants as happening
 use Rattle.hba_fbs.specs.declared.{hearing.Heard.Heard, report.TakeReport.TakeReport, state.DeviceState.DeviceState, status.Block.Block}
-use Rattle.hba_fbs.specs.declared.hearing.Happening.{Happening}
-use Rattle.hba_fbs.specs.Hearing.{answered, block_of, faulty, heard_data, heard_data_of, heard_out, heard_pio, heard_setup, heard_d2h, heard_fis}
-use Rattle.hba_fbs.specs.{Hearing.{quietly, set_up, tag_of, heard_register, signing}, Posting.signs}
+use Rattle.hba_fbs.specs.{declared.hearing.Happening.Happening, Hearing.{answered, block_of, faulty, heard_data, heard_data_of, heard_out, heard_pio}}
+use Rattle.hba_fbs.specs.{Hearing.{heard_setup, heard_d2h, heard_fis, quietly, set_up, tag_of, heard_register, signing}, Posting.signs}
 use Rattle.hba_fbs.specs.{Status.{after_reset, is_busy, is_error, with_file}, Taking.{heard_view, ignores, is_running, port_of, view_after_hearing}}
 use Rattle.hba_fbs.specs.Views.{DeviceView, Port, last_command, view_of}
 use Rattle.hba_laws.specs.Client.{Touches}

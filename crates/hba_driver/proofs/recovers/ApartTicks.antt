@@ -1,8 +1,8 @@
 -- For `devices_are_apart`. Each tick leads a device that recovers from a stage of slot 30 to a stage.
-use Rattle.std.proofs.Common.{◌≡◌, ◌≢◌, ℕ, ◌<◌, ◌≤◌, ◌⊎◌, Bool, true, false, ◌||◌, nat_lt, refl, sym, ◌∙◌, ap, subst, inl, inr, arith, Option, Some, None}
-use Rattle.std.specs.{Prelude.{if◌then◌else◌, is_some}, Option.{option_map, option_or}}
-use Rattle.std.proofs.lemmas.{Bool.{cases_Bool, cases_eq, false≢true, le-ltb, lt-ltb, true≢false}, List.get_or-replicate}
+use Rattle.std.proofs.Common.{◌≡◌, ◌≢◌, ℕ, ◌<◌, ◌≤◌, ◌⊎◌, Bool, true, false, ◌||◌, nat_lt, refl, sym, ◌∙◌, ap, subst, inl, inr, arith, Option, Some}
+use Rattle.std.proofs.{Common.None, lemmas.{Bool.{cases_Bool, cases_eq, false≢true, le-ltb, lt-ltb, true≢false}, List.get_or-replicate}}
 use Rattle.std.proofs.lemmas.List.FromFn.{get_or-map-range_with_len}
+use Rattle.std.specs.{Prelude.{if◌then◌else◌, is_some}, Option.{option_map, option_or}}
 use Rattle.port_errors.specs.{Errors.{cleared_device, named_by, shown as errors_shown}, declared.cause.Stop.Stop}
 use Rattle.slots.specs.Slots.{Issue, has_bit, issue_at, match_some, own_issue}
 use Rattle.hba_fbs.specs.Views.{DeviceView, Port, last_command, stopped_view, view_of}
@@ -11,25 +11,23 @@ use Rattle.hba_laws.proofs.Door.{own_in}
 use Rattle.hba_driver.specs.{declared.{mode.Mode.TheVariants.Switching, order.Order.Order, path.Stage.Stage, plan.Plan.Plan}, Seeing.Sight}
 use Rattle.hba_driver.specs.declared.{slot.Phase.{Phase, TheVariants.{Aside, Ended}}, turn.Act.Act, path.Recovery.TheVariants.{Log, Reset}}
 use Rattle.hba_driver.specs.declared.{path.TaskFile.TaskFile, plan.Device.{Device, TheVariants.{Absent, Ready, Recovering}}, turn.Turn.Turn}
-use Rattle.hba_driver.specs.Drivers.{Driver, Entry, device_at, entry_at, has_ended_in, is_aside_in}
-use Rattle.hba_driver.specs.{Effects.{ActsAll, clearing, effects_of, stage_effects}, HostTurns.{Does, Host, Ticked, sight_in}}
-use Rattle.hba_driver.specs.{Laws.{Goes, is_withdrawn}, Paths.{reads_page, recovery, stage_fields}, Sights.{file_shown, sight_of}}
-use Rattle.hba_driver.specs.Slot30.{Asks, Cleared, Clears, Faulty, FindsNone, IsApart30, IsAt30, IsOn30, IsPlan30, IsSlot30, LogSent, Off, On, Sets}
-use Rattle.hba_driver.specs.Slot30.{Stage30, TicksLead30, TicksOn30, Turns30, IsLogged, fields30, is_faulty, is_resetting}
-use Rattle.hba_driver.specs.Steady.{IsCalmAct, IsFlushTick}
-use Rattle.hba_driver.specs.Ticks.{acted, after_tick, cleared_plan, done_ended, due, effects_due, from_reset, plan_after, recovering, seen, turn}
-use Rattle.hba_driver.specs.Turns.{control_news, control_seen, control_turn, early_due, fault_due, is_in_reset, is_there, plain_turn, restart_due}
-use Rattle.hba_driver.specs.{Turns.turn_of, Between.{Due, IsUp, Issues30, MayClear, MayEnd, MayStep, Runs, beside}}
+use Rattle.hba_driver.specs.{Drivers.{Driver, Entry, device_at, entry_at, has_ended_in, is_aside_in}, Effects.{ActsAll, clearing, effects_of}}
+use Rattle.hba_driver.specs.{Effects.stage_effects, HostTurns.{Does, Host, Ticked, sight_in}, Laws.{Goes, is_withdrawn}, Paths.{reads_page, recovery}}
+use Rattle.hba_driver.specs.{Paths.stage_fields, Sights.{file_shown, sight_of}, Slot30.{Asks, Cleared, Clears, Faulty, FindsNone, IsApart30, IsAt30}}
+use Rattle.hba_driver.specs.Slot30.{IsOn30, IsPlan30, IsSlot30, LogSent, Off, On, Sets, Stage30, TicksLead30, TicksOn30, Turns30, IsLogged, fields30}
+use Rattle.hba_driver.specs.{Slot30.{is_faulty, is_resetting}, Steady.{IsCalmAct, IsFlushTick}, Ticks.{acted, after_tick, cleared_plan, done_ended}}
+use Rattle.hba_driver.specs.{Ticks.{due, effects_due, from_reset, plan_after, recovering, seen, turn}, Turns.{control_news, control_seen}}
+use Rattle.hba_driver.specs.{Turns.{control_turn, early_due, fault_due, is_in_reset, is_there, plain_turn, restart_due, turn_of}, Between.{Due, IsUp}}
+use Rattle.hba_driver.specs.Between.{Issues30, MayClear, MayEnd, MayStep, Runs, beside}
 use Rattle.hba_driver.specs.declared.turn.Act.TheVariants as act
-use Rattle.hba_driver.proofs.{known.ActLemmas.here_act, recovers.ApartActs.{Begins30, Rests30, act_plans, not_issued}}
-use Rattle.hba_driver.proofs.recovers.{ApartFiles.{clearing_shown, file_error}, ApartPlans.{IsFound, Shows, fields_turn, turn_plan}}
-use Rattle.hba_driver.proofs.recovers.ApartPushes.{IsDriven30, kept30}
+use Rattle.hba_driver.proofs.{known.ActLemmas.here_act, recovers.{ApartActs.{Begins30, Rests30, act_plans, not_issued}, ApartFiles.clearing_shown}}
+use Rattle.hba_driver.proofs.recovers.{ApartFiles.file_error, ApartPlans.{IsFound, Shows, fields_turn, turn_plan}, ApartPushes.{IsDriven30, kept30}}
 use Rattle.hba_driver.proofs.recovers.ApartViews.{clearing_own_view, clearing_view, issuing_view, order_view, sending_view, step30}
 use Rattle.hba_driver.proofs.{known.AwaitLemmas.here_effects, ends.DoneLemmas.free_slot as slot_free, events.DrivenLemmas.{not_below, tick_is}}
 use Rattle.hba_driver.proofs.{ticks.DueLemmas.{goes_turn, runs_turn}, issued.EndingLemmas.may_end, events.EventLemmas.sound_beside}
 use Rattle.hba_driver.proofs.{requests.HistoryLemmas.back_of, ticks.LifeLemmas.{due_seen, keeps_tick}, events.OpenLemmas.up_of}
-use Rattle.hba_driver.proofs.{issued.ServedLemmas.seen_served, ticks.ServeLemmas.ticks_serve, issued.ServingLemmas.not_busy}
-use Rattle.hba_driver.proofs.{steady.{SteadyLemmas.{of_turn, unless_here}, SteadyTurns.acted_plan}, modes.SwitchLemmas.{sight_is, tick_acts}}
+use Rattle.hba_driver.proofs.{issued.{ServedLemmas.seen_served, ServingLemmas.not_busy}, ticks.ServeLemmas.ticks_serve, steady.SteadyLemmas.of_turn}
+use Rattle.hba_driver.proofs.{steady.{SteadyLemmas.unless_here, SteadyTurns.acted_plan}, modes.SwitchLemmas.{sight_is, tick_acts}}
 use Rattle.hba_driver.proofs.{slot31.Tick31Lemmas.faulty_shown, issued.TickingLemmas.{free_slot, step_dev}}
 
 -- ---- requests

@@ -1,7 +1,6 @@
 -- For `writes_are_accepted`. Where a request comes from that is in a slot after a turn: it was there before, or the
 -- turn took it.
-use Rattle.std.proofs.Common.{◌≡◌, ℕ, ◌+◌, ◌⊎◌, sym, ◌∙◌, ap, refl, inl, inr, Option, Some, None}
-use Rattle.std.proofs.lemmas.Bool.{true≢false}
+use Rattle.std.proofs.{Common.{◌≡◌, ℕ, ◌+◌, ◌⊎◌, sym, ◌∙◌, ap, refl, inl, inr, Option, Some, None}, lemmas.Bool.{true≢false}}
 use Rattle.hba_driver.specs.{Drivers.{Driver, Entry, entry_at}, HostTurns.{Does, Host, HostTurn, Ticked, Submitted, Polled, sight_in}}
 use Rattle.hba_driver.specs.{Sights.file_shown, Submits.{new_entry, next_slot}, Ticks.after_tick, Between.{Fresh, PollFacts, Stood}}
 use Rattle.hba_driver.proofs.{requests.HistoryLemmas.{back_of, freed, poll_facts, some_same}, ticks.LifeLemmas.{goes_same, keeps_tick}}

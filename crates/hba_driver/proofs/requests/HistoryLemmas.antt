@@ -1,20 +1,19 @@
 -- For `turns_keep`. What holds over every list of turns of the host.
-use Rattle.std.proofs.Common.{◌≡◌, ◌≢◌, ℕ, ◌+◌, ◌<◌, ◌≤◌, ◌⊎◌, Bool, true, false, ◌&&◌, List, [], ◌∷◌, ◌++◌, length, set, refl, sym, ◌∙◌, ap, subst, inl, inr, arith, Option, Some, None}
+use Rattle.std.proofs.Common.{◌≡◌, ◌≢◌, ℕ, ◌+◌, ◌<◌, ◌≤◌, ◌⊎◌, Bool, true, false, ◌&&◌, List, [], ◌∷◌, ◌++◌, length, set, refl, sym, ◌∙◌, ap, subst}
+use Rattle.std.proofs.{Common.{inl, inr, arith, Option, Some, None}, lemmas.Bool.{cases_Bool, cases_eq, false≢true, or_parts, true≢false}}
+use Rattle.std.proofs.lemmas.{Bool.Decides.nat_tests, List.get_or-set_other}
 use Rattle.std.specs.{Prelude.{◌==◌, ◌||◌, not, is_none, unwrap_or}, List.{list_any, range_with_len}, Option.option_map}
-use Rattle.std.proofs.lemmas.{Bool.{cases_Bool, cases_eq, false≢true, or_parts, true≢false}, Bool.Decides.nat_tests, List.get_or-set_other}
 use Rattle.slots.specs.Slots.{match_some}
 use Rattle.slots.proofs.Door.{lowest_is}
-use Rattle.hba_driver.specs.declared.{request.Completion.Completion, request.Outcome.{Outcome, TheVariants.{Done, DeviceError, Aborted}}}
-use Rattle.hba_driver.specs.{declared.request.Request.Request, Seeing.Sight, declared.slot.Head.Head}
-use Rattle.hba_driver.specs.declared.{slot.Phase.{Phase, TheVariants.{Waits, Issued, Aside, Ended}}, turn.Act.Act, path.TaskFile.TaskFile}
-use Rattle.hba_driver.specs.Drivers.{AreRequests, Driver, Entry, entry_at, holds, is_issued_in, rephased, waits, waits_in}
-use Rattle.hba_driver.specs.HostTurns.{Does, DoesAll, Host, HostTurn, Took, Pushed, Ticked, Submitted, Polled, Put, given_in, issued_by_act}
-use Rattle.hba_driver.specs.HostTurns.{issued_in_tick, issued_over, polled_in, sight_in, ticket_of}
-use Rattle.hba_driver.specs.Laws.{AreOnce, EachRunKeeps, Goes, GoesOn, Kept, Keeps, Lives, ends_as, gives, is_outcome}
-use Rattle.hba_driver.specs.Requests.{is_free, lowest_free}
-use Rattle.hba_driver.specs.Submits.{after_poll, after_submit, completed, completion_at, completion_of, lowest_ended, new_entry, next_slot}
-use Rattle.hba_driver.specs.{Submits.submit_refusal, Sights.file_shown, Ticks.{acted, after_tick, done_ended, entries_after, is_done, seen, turn}}
-use Rattle.hba_driver.specs.Between.{LivesOn, PollFacts}
+use Rattle.hba_driver.specs.declared.request.{Completion.Completion, Outcome.{Outcome, TheVariants.{Done, DeviceError, Aborted}}, Request.Request}
+use Rattle.hba_driver.specs.{Seeing.Sight, declared.{slot.{Head.Head, Phase.{Phase, TheVariants.{Waits, Issued, Aside, Ended}}}, turn.Act.Act}}
+use Rattle.hba_driver.specs.{declared.path.TaskFile.TaskFile, Drivers.{AreRequests, Driver, Entry, entry_at, holds, is_issued_in, rephased, waits}}
+use Rattle.hba_driver.specs.{Drivers.waits_in, HostTurns.{Does, DoesAll, Host, HostTurn, Took, Pushed, Ticked, Submitted, Polled, Put, given_in}}
+use Rattle.hba_driver.specs.{HostTurns.{issued_by_act, issued_in_tick, issued_over, polled_in, sight_in, ticket_of}, Laws.{AreOnce, EachRunKeeps}}
+use Rattle.hba_driver.specs.{Laws.{Goes, GoesOn, Kept, Keeps, Lives, ends_as, gives, is_outcome}, Requests.{is_free, lowest_free}, Submits.after_poll}
+use Rattle.hba_driver.specs.Submits.{after_submit, completed, completion_at, completion_of, lowest_ended, new_entry, next_slot, submit_refusal}
+use Rattle.hba_driver.specs.{Sights.file_shown, Ticks.{acted, after_tick, done_ended, entries_after, is_done, seen, turn}, Between.LivesOn}
+use Rattle.hba_driver.specs.Between.{PollFacts}
 use Rattle.hba_driver.specs.declared.turn.Act.TheVariants as act
 use Rattle.host_memory.specs.Memory.{Memory}
 use Rattle.hba_driver.proofs.ticks.LifeLemmas.{May, given_tick, goes_same, keeps_seen, keeps_tick, may_turn, on_then, slots_tick, waits_if_may}

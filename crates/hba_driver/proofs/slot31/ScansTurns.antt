@@ -1,29 +1,28 @@
 -- For `scans_clear`. The scans of the ports of a multiplier over turns of the host.
-use Rattle.std.proofs.Common.{◌≡◌, ◌≢◌, ℕ, ◌<◌, ◌≤◌, ◌⊎◌, ◌&&◌, ◌||◌, Bool, true, false, List, [], ◌∷◌, ◌++◌, length, take, drop, refl, sym, ◌∙◌, ap, subst, inl, inr, arith, Option, Some, None, Ok}
+use Rattle.std.proofs.Common.{◌≡◌, ◌≢◌, ℕ, ◌<◌, ◌≤◌, ◌⊎◌, ◌&&◌, ◌||◌, Bool, true, false, List, [], ◌∷◌, ◌++◌, length, take, drop, refl, sym, ◌∙◌, ap}
+use Rattle.std.proofs.{Common.{subst, inl, inr, arith, Option, Some, None, Ok}, lemmas.Bool.{and_from, and_left, and_parts, and_right, cases_Bool}}
+use Rattle.std.proofs.lemmas.Bool.{cases_eq, cases_lt, false≢true, ne_eqb, not_from_false, or_from, or_left, or_parts, or_right, true≢false}
 use Rattle.std.specs.Prelude.{◌==◌, if◌then◌else◌, not, is_none, unwrap_or}
-use Rattle.std.proofs.lemmas.Bool.{and_from, and_left, and_parts, and_right, cases_Bool, cases_eq, cases_lt, false≢true, ne_eqb, not_from_false}
-use Rattle.std.proofs.lemmas.Bool.{or_from, or_left, or_parts, or_right, true≢false}
 use Rattle.fis_view.specs.{Frames.Stamped, Seen.seen, Table.{Bits, D2h, Error, Status, field}}
 use Rattle.fis_view.specs.declared.view.Fis.TheVariants as view
 use Rattle.host_memory.specs.Memory.{Memory}
 use Rattle.rx_area.specs.Area as rx
 use Rattle.slots.specs.{Commands.completed, Slots.{Issue, has_bit, issue_at, own_issue, slots_of}}
-use Rattle.hba_fbs.specs.{declared.report.TakeReport.TakeReport, Hearing.named, Posting.area_at, Sending.{Gives, Outgoing}}
-use Rattle.hba_fbs.specs.{Status.{is_busy, with_bits}, Taking.{is_ignored, port_of, view_after_hearing}, Views.{DeviceView, Port}}
+use Rattle.hba_fbs.specs.{declared.report.TakeReport.TakeReport, Hearing.named, Posting.area_at, Sending.{Gives, Outgoing}, Status.is_busy}
+use Rattle.hba_fbs.specs.{Status.with_bits, Taking.{is_ignored, port_of, view_after_hearing}, Views.{DeviceView, Port}}
 use Rattle.hba_laws.specs.Hosts as event
 use Rattle.hba_laws.specs.{Isolation.{Came, OwnEvent, Went, own_events, part_after_all, row_with}, Parts.{DevicePart, part_of, with_view}}
 use Rattle.hba_laws.proofs.Door.{own_in}
 use Rattle.hba_driver.specs.{declared.{order.Order.{Order, TheVariants.{ResetOn, Scan}}, plan.Plan.Plan}, Seeing.Sight, Drivers.Driver}
-use Rattle.hba_driver.specs.{Events.{opening_host, shared_by}, Going.{IsOfControl, IsReport}}
-use Rattle.hba_driver.specs.HostTurns.{Does, DoesAll, Host, HostTurn, Polled, Pushed, Put, Submitted, Ticked, Took, sight_in}
-use Rattle.hba_driver.specs.Scans.{Clears, ClearsNamed, Comes, Finds, Keeps, IsFound, Names, Scans, ScansClear, ScansOn, Tells, answers_scan}
-use Rattle.hba_driver.specs.Scans.{comes_to, found, is_answer, is_asking, is_left, is_named, is_scan, named_after, tells, told_in}
-use Rattle.hba_driver.specs.Sights.{answer_in, file_shown, last_d2h, sight_of}
-use Rattle.hba_driver.specs.Slot31.{Asks, Control, Follows31, IsAt31, IsFree31, IsIn, IsNext31, IsNotice31, IsSent, Pushes31, Resets, Rests, Signs}
-use Rattle.hba_driver.specs.{Slot31.{Stage31, TakesOn, Turns31, control_of, is_off, is_on, orders_clear}, Steady.IsRowTurn, Ticks.due}
-use Rattle.hba_driver.specs.{Turns.control_seen, Between.IsGoing}
+use Rattle.hba_driver.specs.{Events.{opening_host, shared_by}, Going.{IsOfControl, IsReport}, HostTurns.{Does, DoesAll, Host, HostTurn, Polled}}
+use Rattle.hba_driver.specs.{HostTurns.{Pushed, Put, Submitted, Ticked, Took, sight_in}, Scans.{Clears, ClearsNamed, Comes, Finds, Keeps, IsFound}}
+use Rattle.hba_driver.specs.Scans.{Names, Scans, ScansClear, ScansOn, Tells, answers_scan, comes_to, found, is_answer, is_asking, is_left, is_named}
+use Rattle.hba_driver.specs.{Scans.{is_scan, named_after, tells, told_in}, Sights.{answer_in, file_shown, last_d2h, sight_of}, Slot31.{Asks, Control}}
+use Rattle.hba_driver.specs.Slot31.{Follows31, IsAt31, IsFree31, IsIn, IsNext31, IsNotice31, IsSent, Pushes31, Resets, Rests, Signs, Stage31, TakesOn}
+use Rattle.hba_driver.specs.{Slot31.{Turns31, control_of, is_off, is_on, orders_clear}, Steady.IsRowTurn, Ticks.due, Turns.control_seen}
+use Rattle.hba_driver.specs.Between.{IsGoing}
 use Rattle.hba_driver.proofs.{slot31.ControlLemmas.part_event, ends.DoneLemmas.free_slot as slot_free, events.DrivenLemmas.tick_is}
-use Rattle.hba_driver.proofs.{goes_on.GoingLemmas.{going_opens, going_turn, stops_none}, modes.ModeLemmas.own_row_is, goes_on.PageLemmas.poll_plan}
+use Rattle.hba_driver.proofs.{goes_on.{GoingLemmas.{going_opens, going_turn, stops_none}, PageLemmas.poll_plan}, modes.ModeLemmas.own_row_is}
 use Rattle.hba_driver.proofs.steady.RowLemmas.{d2h_row, d2h_same, own_row, row_long, row_turn, set_long, set_window, sized, window_same}
 use Rattle.hba_driver.proofs.slot31.ScansLemmas.{Anew, Issues, Keeps as MovesNot, Moves, Orders31, Reads, Sees, cleared_none, moved_clears}
 use Rattle.hba_driver.proofs.{slot31.ScansLemmas.{moved_found, moved_left, moves, scan_is, seen_asked}, ticks.ServeLemmas.act_clears}

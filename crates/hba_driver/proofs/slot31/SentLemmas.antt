@@ -1,7 +1,6 @@
 -- For `orders_take_turns`. A command that moves no data of its own accord goes out: of its device only its slot changes.
-use Rattle.std.proofs.Common.{◌≡◌, ℕ, Bool, true, false, ap, refl, ◌∙◌, Option, Some, None}
+use Rattle.std.proofs.{Common.{◌≡◌, ℕ, Bool, true, false, ap, refl, ◌∙◌, Option, Some, None}, lemmas.Bool.{true≢false}}
 use Rattle.std.specs.Prelude.{if◌then◌else◌}
-use Rattle.std.proofs.lemmas.Bool.{true≢false}
 use Rattle.slots.specs.{Commands.with_sent, Setup.{begun, whole_context, with_own_context}, Slots.{DeviceSlots, Issue, match_some, own_issue}}
 use Rattle.slots.specs.{Work.{is_dma, needs_all}, declared.work.Kind.{Kind, TheVariants.{DmaIn, DmaOut}}}
 

@@ -1,16 +1,14 @@
 -- For `orders_take_turns`. Each turn of a host leads slot 31 from a stage to a stage.
-use Rattle.std.proofs.Common.{◌≡◌, ℕ, ◌+◌, ◌<◌, Bool, true, false, ◌&&◌, nat_lt, List, refl, sym, ◌∙◌, ap, Option, Some, None}
+use Rattle.std.proofs.{Common.{◌≡◌, ℕ, ◌+◌, ◌<◌, Bool, true, false, ◌&&◌, nat_lt, List, refl, sym, ◌∙◌, ap, Option, Some, None}, lemmas.Bool.{lt-ltb}}
+use Rattle.std.proofs.lemmas.Bool.{true≢false}
 use Rattle.std.specs.Prelude.{◌==◌, if◌then◌else◌, not, is_some}
-use Rattle.std.proofs.lemmas.Bool.{lt-ltb, true≢false}
 use Rattle.slots.specs.Slots.{has_bit, match_some}
-use Rattle.hba_driver.specs.declared.order.Order.{Order}
-use Rattle.hba_driver.specs.declared.order.Order.TheVariants.{ResetOn, ResetOff, AwaitSignature, CountPorts, Enable, Open, Scan, Clear, Detect, Watch}
-use Rattle.hba_driver.specs.declared.{path.Path.Path, path.Stage.{Stage, TheVariants.{Identify, ReadLog}}, path.TaskFile.TaskFile, plan.Plan.Plan}
-use Rattle.hba_driver.specs.{Seeing.Sight, declared.turn.Act.Act, Drivers.{Driver, Entry}, Orders.{next_order, order_fields, scan_from}}
-use Rattle.hba_driver.specs.Slot31.{Control, control_in, is_off, is_on}
-use Rattle.hba_driver.specs.Ticks.{acted, after_tick, done_ended, due, from_reset, plan_after, recovering, seen}
-use Rattle.hba_driver.specs.Turns.{advanced, answered, control_seen, device_seen, found_of, is_back, met, met_order, noted, turn_of, with_next}
-use Rattle.hba_driver.specs.Going.{leaves_port}
+use Rattle.hba_driver.specs.declared.order.Order.{Order, TheVariants.{ResetOn, ResetOff, AwaitSignature, CountPorts, Enable, Open, Scan, Clear}}
+use Rattle.hba_driver.specs.declared.{order.Order.TheVariants.{Detect, Watch}, path.{Path.Path, Stage.{Stage, TheVariants.{Identify, ReadLog}}}}
+use Rattle.hba_driver.specs.{declared.{path.TaskFile.TaskFile, plan.Plan.Plan, turn.Act.Act}, Seeing.Sight, Drivers.{Driver, Entry}}
+use Rattle.hba_driver.specs.{Orders.{next_order, order_fields, scan_from}, Slot31.{Control, control_in, is_off, is_on}, Ticks.{acted, after_tick}}
+use Rattle.hba_driver.specs.{Ticks.{done_ended, due, from_reset, plan_after, recovering, seen}, Turns.{advanced, answered, control_seen, device_seen}}
+use Rattle.hba_driver.specs.{Turns.{found_of, is_back, met, met_order, noted, turn_of, with_next}, Going.leaves_port}
 use Rattle.hba_driver.specs.declared.turn.Act.TheVariants as act
 use Rattle.hba_driver.proofs.{ticks.DueLemmas.{early_by, late_by, order_allowed_by, turn_by}, goes_on.StopLemmas.either}
 

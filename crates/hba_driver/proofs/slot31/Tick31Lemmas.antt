@@ -1,7 +1,7 @@
 -- For `orders_take_turns`. Each tick leads slot 31 from a stage to a stage.
-use Rattle.std.proofs.Common.{◌≡◌, ◌≢◌, ℕ, ◌+◌, ◌<◌, ◌≤◌, ◌⊎◌, Bool, true, false, nat_lt, [], refl, sym, ◌∙◌, ap, subst, inl, inr, arith, Option, Some, None}
+use Rattle.std.proofs.Common.{◌≡◌, ◌≢◌, ℕ, ◌+◌, ◌<◌, ◌≤◌, ◌⊎◌, Bool, true, false, nat_lt, [], refl, sym, ◌∙◌, ap, subst, inl, inr, arith, Option}
+use Rattle.std.proofs.{Common.{Some, None}, lemmas.Bool.{cases_Bool, cases_eq, false≢true, le-ltb, lt-ltb, true≢false}}
 use Rattle.std.specs.{Prelude.{◌==◌, if◌then◌else◌, is_none, is_some}, Option.{option_map, option_or}}
-use Rattle.std.proofs.lemmas.Bool.{cases_Bool, cases_eq, false≢true, le-ltb, lt-ltb, true≢false}
 use Rattle.fis_view.specs.declared.build.H2dFields.{H2dFields}
 use Rattle.host_memory.specs.Memory.{Memory}
 use Rattle.port_errors.specs.{Errors.{Errors, cause_of, cleared_device, named_by, shown as errors_shown}, declared.cause.Stop.Stop}
@@ -10,26 +10,24 @@ use Rattle.slots.proofs.Door.{lowest_is}
 use Rattle.hba_fbs.specs.Views.{Port}
 use Rattle.hba_laws.specs.{Parts.DevicePart, Isolation.{Cleared, part_after}}
 use Rattle.hba_laws.proofs.Door.{own_in, the}
-use Rattle.hba_driver.specs.declared.mode.Mode.TheVariants.{Switching}
-use Rattle.hba_driver.specs.declared.order.Order.{Order}
-use Rattle.hba_driver.specs.declared.order.Order.TheVariants.{ResetOn, ResetOff, AwaitSignature, CountPorts, Enable, Open, Scan, Clear, Detect, Watch}
-use Rattle.hba_driver.specs.{declared.plan.Plan.Plan, Seeing.Sight, declared.turn.Act.Act, Drivers.Driver}
-use Rattle.hba_driver.specs.{Effects.{ActsAll, IsRuled, clearing, effects_of, order_effects, sending}, HostTurns.{Does, Host, Ticked, sight_in}}
-use Rattle.hba_driver.specs.{Orders.{next_order, order_fields, scan_from}, Paths.{reads_page, stage_fields}, Sights.{file_shown, sight_of}}
-use Rattle.hba_driver.specs.Slot31.{Anew, Control, Goes31, IsAt31, IsIn, IsLow, IsUnsent, Fails, Kept, Looked, Ordered, Resets, Rests, Signs, Stage31}
-use Rattle.hba_driver.specs.Slot31.{StaysOn, TicksOn, Told, Waits, control_in, control_of, has_failed, is_idle, is_off, is_pending, is_resetting}
-use Rattle.hba_driver.specs.Ticks.{acted, after_tick, cleared_plan, done_ended, due, effects_due, from_reset, plan_after, recovering, seen, turn}
-use Rattle.hba_driver.specs.declared.turn.Turn.{Turn}
-use Rattle.hba_driver.specs.Turns.{control_news, control_seen, control_turn, early_due, fault_due, met_order, plain_turn, restart_due, turn_of}
-use Rattle.hba_driver.specs.Between.{Due, IsGoing, IsUp, MayEnd, Waiting, beside}
+use Rattle.hba_driver.specs.declared.{mode.Mode.TheVariants.Switching, order.Order.{Order, TheVariants.{ResetOn, ResetOff, AwaitSignature}}}
+use Rattle.hba_driver.specs.{declared.{order.Order.TheVariants.{CountPorts, Enable, Open, Scan, Clear, Detect, Watch}, plan.Plan.Plan}, Seeing.Sight}
+use Rattle.hba_driver.specs.{declared.turn.Act.Act, Drivers.Driver, Effects.{ActsAll, IsRuled, clearing, effects_of, order_effects, sending}}
+use Rattle.hba_driver.specs.{HostTurns.{Does, Host, Ticked, sight_in}, Orders.{next_order, order_fields, scan_from}, Paths.{reads_page, stage_fields}}
+use Rattle.hba_driver.specs.{Sights.{file_shown, sight_of}, Slot31.{Anew, Control, Goes31, IsAt31, IsIn, IsLow, IsUnsent, Fails, Kept, Looked}}
+use Rattle.hba_driver.specs.Slot31.{Ordered, Resets, Rests, Signs, Stage31, StaysOn, TicksOn, Told, Waits, control_in, control_of, has_failed}
+use Rattle.hba_driver.specs.{Slot31.{is_idle, is_off, is_pending, is_resetting}, Ticks.{acted, after_tick, cleared_plan, done_ended, due}}
+use Rattle.hba_driver.specs.{Ticks.{effects_due, from_reset, plan_after, recovering, seen, turn}, declared.turn.Turn.Turn, Turns.control_news}
+use Rattle.hba_driver.specs.{Turns.{control_seen, control_turn, early_due, fault_due, met_order, plain_turn, restart_due, turn_of}, Between.Due}
+use Rattle.hba_driver.specs.Between.{IsGoing, IsUp, MayEnd, Waiting, beside}
 use Rattle.hba_driver.specs.declared.turn.Act.TheVariants as act
 use Rattle.hba_driver.proofs.slot31.ControlLemmas.{Issues31, Leaves15, Runs15, clearing_leaves, clearing_own, command_leaves, issuing_leaves}
 use Rattle.hba_driver.proofs.{slot31.ControlLemmas.{leaves_then, nothing_leaves, order31}, ends.DoneLemmas.free_slot as slot_free}
 use Rattle.hba_driver.proofs.{events.DrivenLemmas.tick_is, ticks.DueLemmas.goes_turn, issued.EndingLemmas.{faulty_reported, may_end}}
 use Rattle.hba_driver.proofs.{events.EventLemmas.sound_beside, goes_on.GoingLemmas.{leaves, never_stops}, ticks.LifeLemmas.due_seen}
-use Rattle.hba_driver.proofs.{events.OpenLemmas.up_of, issued.{ServedLemmas.seen_served, ServingLemmas.not_busy}}
-use Rattle.hba_driver.proofs.slot31.Slot31Lemmas.{IsAllowed, IsOther, Looks, Orders, Stays, Ticks31, met_off, next_off, seen_free, seen_out}
-use Rattle.hba_driver.proofs.{slot31.Slot31Lemmas.{seen_unasked, ticks31}, goes_on.StopLemmas.either, modes.SwitchLemmas.{sight_is, tick_acts}}
+use Rattle.hba_driver.proofs.{events.OpenLemmas.up_of, issued.{ServedLemmas.seen_served, ServingLemmas.not_busy}, slot31.Slot31Lemmas.IsAllowed}
+use Rattle.hba_driver.proofs.slot31.Slot31Lemmas.{IsOther, Looks, Orders, Stays, Ticks31, met_off, next_off, seen_free, seen_out, seen_unasked}
+use Rattle.hba_driver.proofs.{slot31.Slot31Lemmas.ticks31, goes_on.StopLemmas.either, modes.SwitchLemmas.{sight_is, tick_acts}}
 use Rattle.hba_driver.proofs.issued.TickingLemmas.{free_order, step_dev}
 
 -- ---- PxFBS shows the device that is reported

@@ -1,31 +1,30 @@
 -- For `orders_take_turns`. A frame that comes leads slot 31 from a stage to a stage.
-use Rattle.std.proofs.Common.{◌≡◌, ◌≢◌, ℕ, zero, suc, ◌+◌, ◌<◌, ◌≤◌, ◌⊎◌, Bool, true, false, ◌&&◌, ◌||◌, List, [], ◌∷◌, ◌++◌, refl, sym, ◌∙◌, ap, subst, inl, inr, arith, Option, Some, None, Ok}
+use Rattle.std.proofs.Common.{◌≡◌, ◌≢◌, ℕ, zero, suc, ◌+◌, ◌<◌, ◌≤◌, ◌⊎◌, Bool, true, false, ◌&&◌, ◌||◌, List, [], ◌∷◌, ◌++◌, refl, sym, ◌∙◌, ap}
+use Rattle.std.proofs.{Common.{subst, inl, inr, arith, Option, Some, None, Ok}, lemmas.Bool.{cases_Bool, cases_lt, ne_eqb, or_parts, true≢false}}
+use Rattle.std.proofs.lemmas.{Nat.Bits.bit_at-zero}
 use Rattle.std.specs.Prelude.{◌==◌, if◌then◌else◌, not, is_none, is_some, Result}
-use Rattle.std.proofs.lemmas.{Bool.{cases_Bool, cases_lt, ne_eqb, or_parts, true≢false}, Nat.Bits.bit_at-zero}
-use Rattle.fis_view.specs.{Seen.seen, Table.{Bits, D2h, Error, SActive, Status, field}, declared.{view.Fis.Fis, view.FisFault.FisFault}}
+use Rattle.fis_view.specs.{Seen.seen, Table.{Bits, D2h, Error, SActive, Status, field}, declared.view.{Fis.Fis, FisFault.FisFault}}
 use Rattle.fis_view.specs.declared.view.Fis.TheVariants as view
 use Rattle.port_errors.specs.declared.cause.DeviceCause.TheVariants as cause
-use Rattle.slots.specs.Commands.{after_complete, answer_for, answer_of, answered_as, completed, is_done, is_short, is_slot}
-use Rattle.slots.specs.Slots.{DeviceSlots, Issue, context_unless, freed, has_bit, holds, is_done_issue, is_queued_issue, is_short_issue}
-use Rattle.slots.specs.{Slots.{is_whole_issue, mask_below, match_some, own_issue, waiting}, Work.{is_queued, needs_all}}
-use Rattle.slots.specs.declared.{answer.Answered.Answered, table.Context.Context}
+use Rattle.slots.specs.{Commands.{after_complete, answer_for, answer_of, answered_as, completed, is_done, is_short, is_slot}, Slots.DeviceSlots}
+use Rattle.slots.specs.Slots.{Issue, context_unless, freed, has_bit, holds, is_done_issue, is_queued_issue, is_short_issue, is_whole_issue}
+use Rattle.slots.specs.{Slots.{mask_below, match_some, own_issue, waiting}, Work.{is_queued, needs_all}, declared.answer.Answered.Answered}
+use Rattle.slots.specs.declared.table.Context.{Context}
 use Rattle.slots.specs.declared.answer.Answered.TheVariants as answer
 use Rattle.slots.proofs.Door.{mask_none, mask_same}
 use Rattle.hba_fbs.specs.declared.hearing.Fault.TheVariants as fault
 use Rattle.hba_fbs.specs.declared.hearing.Happening.TheVariants as happening
-use Rattle.hba_fbs.specs.declared.{hearing.Heard.Heard, report.TakeReport.TakeReport, state.DeviceState.DeviceState}
-use Rattle.hba_fbs.specs.Hearing.{answer_fault, answered, faulty, heard_bits, heard_d2h, heard_fis, named, quietly, short_fault, signing}
-use Rattle.hba_fbs.specs.{Posting.{is_signature, signs}, Status.{after_reset, is_busy, is_error, with_bits, with_file}}
-use Rattle.hba_fbs.specs.Taking.{admitted, device_cause, heard_view, ignores, is_ignored, is_running, passes_over, port_of, view_after_hearing}
-use Rattle.hba_fbs.specs.Views.{DeviceView, Port, view_of}
+use Rattle.hba_fbs.specs.{declared.{hearing.Heard.Heard, report.TakeReport.TakeReport, state.DeviceState.DeviceState}, Hearing.answer_fault}
+use Rattle.hba_fbs.specs.{Hearing.{answered, faulty, heard_bits, heard_d2h, heard_fis, named, quietly, short_fault, signing}, Posting.is_signature}
+use Rattle.hba_fbs.specs.{Posting.signs, Status.{after_reset, is_busy, is_error, with_bits, with_file}, Taking.{admitted, device_cause, heard_view}}
+use Rattle.hba_fbs.specs.{Taking.{ignores, is_ignored, is_running, passes_over, port_of, view_after_hearing}, Views.{DeviceView, Port, view_of}}
 use Rattle.hba_laws.specs.Hosts as event
 use Rattle.hba_laws.specs.{Isolation.{Came, after_fis, part_after, part_after_all, row_with, skips}, Parts.{DevicePart, part_of, with_view}}
 use Rattle.hba_laws.proofs.Door.{own_freed, some_inj}
-use Rattle.hba_driver.specs.{declared.order.Order.{Order, TheVariants.{ResetOff, AwaitSignature}}, Drivers.Driver, Going.IsOfControl}
-use Rattle.hba_driver.specs.HostTurns.{Does, Host, Took}
-use Rattle.hba_driver.specs.Slot31.{Asks, IsAnswer31, IsAt31, IsFree31, IsIn, IsLow, IsNotice31, IsSent, IsSignature31, IsUnsent, Fails, MayCome31}
-use Rattle.hba_driver.specs.Slot31.{Resets, Rests, Signs, Stage31, Told, Waits, control_of, has_failed, is_off, is_on, is_quiet, is_resetting}
-use Rattle.hba_driver.specs.Between.{IsGoing}
+use Rattle.hba_driver.specs.{declared.order.Order.{Order, TheVariants.{ResetOff, AwaitSignature}}, Drivers.Driver, Going.IsOfControl, HostTurns.Does}
+use Rattle.hba_driver.specs.{HostTurns.{Host, Took}, Slot31.{Asks, IsAnswer31, IsAt31, IsFree31, IsIn, IsLow, IsNotice31, IsSent, IsSignature31}}
+use Rattle.hba_driver.specs.Slot31.{IsUnsent, Fails, MayCome31, Resets, Rests, Signs, Stage31, Told, Waits, control_of, has_failed, is_off, is_on}
+use Rattle.hba_driver.specs.{Slot31.{is_quiet, is_resetting}, Between.IsGoing}
 use Rattle.hba_driver.proofs.{slot31.ControlLemmas.{Runs15, part_event}, goes_on.GoingLemmas.stops_none, events.OpenLemmas.up_of}
 use Rattle.hba_driver.proofs.{slot31.Push31Lemmas.issued31, modes.RowMode.skipped_as}
 

@@ -1,30 +1,28 @@
 -- For `orders_take_turns`. Each turn of a host leads slot 31 from a stage to a stage.
-use Rattle.std.proofs.Common.{◌≡◌, ℕ, zero, suc, ◌+◌, ◌<◌, ◌≤◌, ◌==◌, Bool, true, false, ◌&&◌, List, [], ◌∷◌, ◌++◌, refl, sym, ◌∙◌, ap, subst, inl, inr, arith, Option, Some, None}
+use Rattle.std.proofs.Common.{◌≡◌, ℕ, zero, suc, ◌+◌, ◌<◌, ◌≤◌, ◌==◌, Bool, true, false, ◌&&◌, List, [], ◌∷◌, ◌++◌, refl, sym, ◌∙◌, ap, subst, inl}
+use Rattle.std.proofs.{Common.{inr, arith, Option, Some, None}, lemmas.Bool.{cases_eq, cases_lt, eq-eqb, false≢true, lt-ltb, ne_eqb, true≢false}}
 use Rattle.std.specs.{Prelude.{if◌then◌else◌, not, is_none, is_some, ◌||◌}, List.list_any}
-use Rattle.std.proofs.lemmas.Bool.{cases_eq, cases_lt, eq-eqb, false≢true, lt-ltb, ne_eqb, true≢false}
 use Rattle.fis_view.specs.Frames.{Stamped}
 use Rattle.host_memory.specs.Memory.{Memory}
 use Rattle.slots.specs.Slots.{match_some, own_issue, slots_of}
-use Rattle.hba_fbs.specs.declared.report.TakeReport.{TakeReport}
-use Rattle.hba_fbs.specs.{Sending.{Gives, Nothing, Outgoing, data_due, next_receiver, next_to_send, order_due, outgoing}, Taking.port_of}
-use Rattle.hba_fbs.specs.{declared.register.Register.{Register, TheVariants.{Clb, Clbu, Fb, Fbu, Cmd, Fbs}}, Offsets.register_at}
-use Rattle.hba_fbs.specs.{Views.{DeviceView, Port, last_command, stopped_view, view_of}, Writing.view_after}
+use Rattle.hba_fbs.specs.{declared.report.TakeReport.TakeReport, Sending.{Gives, Nothing, Outgoing, data_due, next_receiver, next_to_send, order_due}}
+use Rattle.hba_fbs.specs.{Sending.outgoing, Taking.port_of, declared.register.Register.{Register, TheVariants.{Clb, Clbu, Fb, Fbu, Cmd, Fbs}}}
+use Rattle.hba_fbs.specs.{Offsets.register_at, Views.{DeviceView, Port, last_command, stopped_view, view_of}, Writing.view_after}
 use Rattle.hba_laws.specs.Hosts as event
 use Rattle.hba_laws.specs.{Isolation.{OwnEvent, Went, own_events, part_after_all}, Parts.commands_of}
 use Rattle.hba_driver.specs.declared.{effect.Effect.Effect, mode.Mode.{Mode, TheVariants.Switching}, order.Order.TheVariants.Clear, plan.Plan.Plan}
-use Rattle.hba_driver.specs.{declared.turn.Act.Act, Drivers.Driver}
-use Rattle.hba_driver.specs.Effects.{Acts, ActsAll, effects_of, emptying, opening_write, order_command, order_effects}
-use Rattle.hba_driver.specs.{Events.{opening_host, shared_by}, Going.{IsOfControl, IsReport}}
-use Rattle.hba_driver.specs.{HostTurns.{Does, DoesAll, Host, HostTurn, Polled, Pushed, Put, Submitted, Ticked, Took, sight_in}, Sights.file_shown}
-use Rattle.hba_driver.specs.Slot31.{Asks, Comes31, IsAt31, IsIn, IsLow, Kept, MayBe31, MayCome31, OrdersTakeTurns, Rests, Signs, Stage31, Turns31}
-use Rattle.hba_driver.specs.{Slot31.{control_in, control_of, has_failed, is_off, is_pending, is_resetting, orders_clear}, Laws.flushes}
-use Rattle.hba_driver.specs.{Ticks.{done_ended, due, effects_due}, Between.{IsGoing, IsOfControlIn, Opening, Runs}}
+use Rattle.hba_driver.specs.{declared.turn.Act.Act, Drivers.Driver, Effects.{Acts, ActsAll, effects_of, emptying, opening_write, order_command}}
+use Rattle.hba_driver.specs.{Effects.order_effects, Events.{opening_host, shared_by}, Going.{IsOfControl, IsReport}, HostTurns.{Does, DoesAll, Host}}
+use Rattle.hba_driver.specs.{HostTurns.{HostTurn, Polled, Pushed, Put, Submitted, Ticked, Took, sight_in}, Sights.file_shown, Slot31.{Asks, Comes31}}
+use Rattle.hba_driver.specs.Slot31.{IsAt31, IsIn, IsLow, Kept, MayBe31, MayCome31, OrdersTakeTurns, Rests, Signs, Stage31, Turns31, control_in}
+use Rattle.hba_driver.specs.{Slot31.{control_of, has_failed, is_off, is_pending, is_resetting, orders_clear}, Laws.flushes, Ticks.{done_ended, due}}
+use Rattle.hba_driver.specs.{Ticks.effects_due, Between.{IsGoing, IsOfControlIn, Opening, Runs}}
 use Rattle.hba_driver.specs.declared.effect.Effect.TheVariants as effect
 use Rattle.hba_driver.specs.declared.turn.Act.TheVariants as act
 use Rattle.hba_driver.proofs.{slot31.ControlLemmas.part_event, events.DrivenLemmas.{tick_is, tried_at}, ticks.DueLemmas.runs_turn}
-use Rattle.hba_driver.proofs.goes_on.{GoingLemmas.{going_opens, going_turn, stops_none}, PageLemmas.poll_plan}
-use Rattle.hba_driver.proofs.{slot31.Push31Lemmas.{Pushed31, push31}, ticks.ServeLemmas.act_clears, slot31.Tick31Lemmas.tick31}
-use Rattle.hba_driver.proofs.slot31.Took31Lemmas.{Alike31, Took31, alike_in, going_runs, kept31, took31, took_other}
+use Rattle.hba_driver.proofs.{goes_on.{GoingLemmas.{going_opens, going_turn, stops_none}, PageLemmas.poll_plan}, slot31.Push31Lemmas.Pushed31}
+use Rattle.hba_driver.proofs.{slot31.{Push31Lemmas.push31, Tick31Lemmas.tick31, Took31Lemmas.{Alike31, Took31}}, ticks.ServeLemmas.act_clears}
+use Rattle.hba_driver.proofs.slot31.Took31Lemmas.{alike_in, going_runs, kept31, took31, took_other}
 
 -- ---- turns that leave port and plan
 

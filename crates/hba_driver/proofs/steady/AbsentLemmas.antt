@@ -1,21 +1,19 @@
 -- For `absent_before`. If the driver takes a device to be absent after a turn that does not flush it, it did so before
 -- the turn.
-use Rattle.std.proofs.Common.{◌≡◌, ◌≢◌, ℕ, zero, suc, Bool, true, false, List, [], ◌∷◌, get_or, set, refl, sym, ◌∙◌, ap, subst, inl, inr, Option, Some, None}
+use Rattle.std.proofs.Common.{◌≡◌, ◌≢◌, ℕ, zero, suc, Bool, true, false, List, [], ◌∷◌, get_or, set, refl, sym, ◌∙◌, ap, subst, inl, inr, Option}
+use Rattle.std.proofs.{Common.{Some, None}, lemmas.List.{get_or-set_other}}
 use Rattle.std.specs.Prelude.{not, nat_lt, if◌then◌else◌}
-use Rattle.std.proofs.lemmas.List.{get_or-set_other}
 use Rattle.slots.specs.Slots.{match_some}
-use Rattle.hba_driver.specs.declared.{order.Order.{Order, TheVariants.Clear}, path.Path.Path, path.Recovery.TheVariants.Reset}
-use Rattle.hba_driver.specs.declared.{path.Stage.{Stage, TheVariants.{Identify, ReadLog}}, path.TaskFile.TaskFile}
-use Rattle.hba_driver.specs.{declared.{plan.Device.{Device, TheVariants.{Absent, Ready, Recovering, Unusable}}, plan.Plan.Plan}, Seeing.Sight}
-use Rattle.hba_driver.specs.{declared.{turn.Act.Act, turn.Turn.Turn}, Absent.EachWasAbsent, Drivers.{Driver, Entry, device_at}}
-use Rattle.hba_driver.specs.{HostTurns.{Does, Host, HostTurn, Polled, Submitted, Ticked, sight_in}, Sights.file_shown}
-use Rattle.hba_driver.specs.Steady.{IsCalmAct, IsSteadyTurn, detects}
-use Rattle.hba_driver.specs.Ticks.{after_tick, done_ended, from_reset, ordered, plan_after, recovering, seen, turn}
-use Rattle.hba_driver.specs.Turns.{advanced, control_news, control_seen, device_seen, early_due, found_of, is_back, plain_turn, turn_of}
-use Rattle.hba_driver.specs.Between.{IsSoughtAbsent, PollFacts, WasAbsent}
+use Rattle.hba_driver.specs.declared.{order.Order.{Order, TheVariants.Clear}, path.{Path.Path, Recovery.TheVariants.Reset, Stage.Stage}}
+use Rattle.hba_driver.specs.declared.{path.{Stage.TheVariants.{Identify, ReadLog}, TaskFile.TaskFile}, plan.Device.{Device, TheVariants.Absent}}
+use Rattle.hba_driver.specs.{declared.{plan.{Device.TheVariants.{Ready, Recovering, Unusable}, Plan.Plan}, turn.{Act.Act, Turn.Turn}}, Seeing.Sight}
+use Rattle.hba_driver.specs.{Absent.EachWasAbsent, Drivers.{Driver, Entry, device_at}, HostTurns.{Does, Host, HostTurn, Polled, Submitted, Ticked}}
+use Rattle.hba_driver.specs.{HostTurns.sight_in, Sights.file_shown, Steady.{IsCalmAct, IsSteadyTurn, detects}, Ticks.{after_tick, done_ended}}
+use Rattle.hba_driver.specs.{Ticks.{from_reset, ordered, plan_after, recovering, seen, turn}, Turns.{advanced, control_news, control_seen}}
+use Rattle.hba_driver.specs.{Turns.{device_seen, early_due, found_of, is_back, plain_turn, turn_of}, Between.{IsSoughtAbsent, PollFacts, WasAbsent}}
 use Rattle.hba_driver.specs.declared.turn.Act.TheVariants as act
-use Rattle.hba_driver.proofs.{ticks.DueLemmas.turn_by, requests.HistoryLemmas.{freed, poll_facts}}
-use Rattle.hba_driver.proofs.steady.{SteadyLemmas.{control_beside, detect_or_other, equal_is}, SteadyTurns.acted_plan}
+use Rattle.hba_driver.proofs.{ticks.DueLemmas.turn_by, requests.HistoryLemmas.{freed, poll_facts}, steady.SteadyLemmas.control_beside}
+use Rattle.hba_driver.proofs.steady.{SteadyLemmas.{detect_or_other, equal_is}, SteadyTurns.acted_plan}
 
 -- a device that is set to something other than absent
 set_absent : (devices : List Device) (k n : ℕ) (device : Device) → (device ≡ Absent → ⊥) → get_or (set devices k device) n Absent ≡ Absent → get_or devices n Absent ≡ Absent

@@ -1,32 +1,31 @@
 -- For `turns_are_steady`. Each event of a calm tick does not concern a device, or issues for it the command in one
 -- slot.
-use Rattle.std.proofs.Common.{◌≡◌, ◌≢◌, ℕ, ◌+◌, ◌*◌, ◌/◌, ◌^◌, ◌<◌, ◌⊎◌, ◌&&◌, ◌||◌, nat_lt, Bool, true, false, List, [], ◌∷◌, ◌++◌, replicate, refl, sym, ◌∙◌, ap, subst, inl, inr, arith, Option, Some, None}
+use Rattle.std.proofs.Common.{◌≡◌, ◌≢◌, ℕ, ◌+◌, ◌*◌, ◌/◌, ◌^◌, ◌<◌, ◌⊎◌, ◌&&◌, ◌||◌, nat_lt, Bool, true, false, List, [], ◌∷◌, ◌++◌, replicate, refl}
+use Rattle.std.proofs.{Common.{sym, ◌∙◌, ap, subst, inl, inr, arith, Option, Some, None}, lemmas.Bool.{cases_eq, false≢true, true≢false}}
+use Rattle.std.proofs.lemmas.{List.append-nil}
 use Rattle.std.specs.{Prelude.{if◌then◌else◌, ◌%◌, not, is_some}, Option.option_or}
-use Rattle.std.proofs.lemmas.{Bool.{cases_eq, false≢true, true≢false}, List.append-nil}
 use Rattle.fis_view.specs.declared.build.H2dFields.{H2dFields}
 use Rattle.host_memory.specs.Memory.{Memory}
 use Rattle.slots.specs.Slots.{has_bit, match_some}
 use Rattle.port_errors.specs.Errors.{cleared_device}
-use Rattle.hba_fbs.specs.{Bits.{dec, st}, declared.error.WriteError.WriteError}
-use Rattle.hba_fbs.specs.{declared.register.Register.{Register, TheVariants.{Is, Cmd, Sact, Ci, Sntf, Fbs}}, Issuing.aimed, Offsets.register_at}
-use Rattle.hba_fbs.specs.{Registers.{own_refusal, running_if, written}, Views.Port, Writing.{cleared_by, errors_after, slots_refusal, write_refusal}}
+use Rattle.hba_fbs.specs.{Bits.{dec, st}, declared.{error.WriteError.WriteError, register.Register.{Register, TheVariants.{Is, Cmd, Sact, Ci, Sntf}}}}
+use Rattle.hba_fbs.specs.{declared.register.Register.TheVariants.Fbs, Issuing.aimed, Offsets.register_at, Registers.{own_refusal, running_if}}
+use Rattle.hba_fbs.specs.{Registers.written, Views.Port, Writing.{cleared_by, errors_after, slots_refusal, write_refusal}}
 use Rattle.hba_laws.specs.Hosts as event
 use Rattle.hba_laws.specs.Hosts.{HostEvent, Runs}
-use Rattle.hba_driver.specs.declared.{effect.Effect.Effect, mode.Mode.{Mode, TheVariants.{CommandBased, Switching}}}
-use Rattle.hba_driver.specs.{declared.order.Order.{Order, TheVariants.{Scan, Clear}}, Seeing.Sight, declared.{turn.Act.Act, plan.Plan.Plan}}
-use Rattle.hba_driver.specs.Drivers.{Driver, Entry, IsPath, entry_at}
-use Rattle.hba_driver.specs.Effects.{ActsAll, clearing, effects_of, issuing, opening_write, opening_writes, order_effects, restart_write}
-use Rattle.hba_driver.specs.Effects.{restart_writes, sending}
-use Rattle.hba_driver.specs.Events.{IsSoundHost, events_of, events_of_effects, events_over, shared_by, tried, wrote_to}
-use Rattle.hba_driver.specs.{HostTurns.{Does, DoesAll, Host, Ticked, sight_in}, Orders.{control_port, order_fields}, Paths.stage_fields}
-use Rattle.hba_driver.specs.{Served.AreBounded, Sights.{px_ci, px_fbs, px_is, px_sact, px_sntf}}
-use Rattle.hba_driver.specs.Steady.{AreBeside, IsBeside, IsCalmAct, IsCalmTick, Issues, slot_in, slot_of}
-use Rattle.hba_driver.specs.{Ticks.{done_ended, due, effects_due, turn}, Between.{Due, MayEnd, Runs as RunsDue}}
+use Rattle.hba_driver.specs.declared.{effect.Effect.Effect, mode.Mode.{Mode, TheVariants.{CommandBased, Switching}}, order.Order.Order}
+use Rattle.hba_driver.specs.{declared.{order.Order.TheVariants.{Scan, Clear}, turn.Act.Act, plan.Plan.Plan}, Seeing.Sight, Drivers.{Driver, Entry}}
+use Rattle.hba_driver.specs.{Drivers.{IsPath, entry_at}, Effects.{ActsAll, clearing, effects_of, issuing, opening_write, opening_writes}}
+use Rattle.hba_driver.specs.{Effects.{order_effects, restart_write, restart_writes, sending}, Events.{IsSoundHost, events_of, events_of_effects}}
+use Rattle.hba_driver.specs.{Events.{events_over, shared_by, tried, wrote_to}, HostTurns.{Does, DoesAll, Host, Ticked, sight_in}, Orders.control_port}
+use Rattle.hba_driver.specs.{Orders.order_fields, Paths.stage_fields, Served.AreBounded, Sights.{px_ci, px_fbs, px_is, px_sact, px_sntf}}
+use Rattle.hba_driver.specs.{Steady.{AreBeside, IsBeside, IsCalmAct, IsCalmTick, Issues, slot_in, slot_of}, Ticks.{done_ended, due, effects_due}}
+use Rattle.hba_driver.specs.{Ticks.turn, Between.{Due, MayEnd, Runs as RunsDue}}
 use Rattle.hba_driver.specs.declared.effect.Effect.TheVariants as effect
 use Rattle.hba_driver.specs.declared.turn.Act.TheVariants as act
 use Rattle.hba_driver.proofs.{events.DrivenLemmas.{en_chosen, no_dec, not_below, place_effect}, ticks.DueLemmas.{due_turn, goes_turn, runs_turn}}
-use Rattle.hba_driver.proofs.{calls.EffectLemmas.all_at, requests.HistoryLemmas.back_of, ticks.LifeLemmas.keeps_done}
-use Rattle.hba_driver.proofs.issued.{EndingLemmas.{may_end, only_cleared}, IssuingLemmas.asks_here}
+use Rattle.hba_driver.proofs.{calls.EffectLemmas.all_at, requests.HistoryLemmas.back_of, ticks.LifeLemmas.keeps_done, issued.EndingLemmas.may_end}
+use Rattle.hba_driver.proofs.issued.{EndingLemmas.only_cleared, IssuingLemmas.asks_here}
 
 -- ---- one event after another
 

@@ -1,9 +1,9 @@
 -- For `turns_are_steady`. A device's posted Register FIS stays in its row until its next Register FIS or its flush.
-use Rattle.std.proofs.Common.{◌≡◌, ◌≢◌, ℕ, ◌+◌, ◌-◌, ◌*◌, ◌<◌, ◌≤◌, ◌⊎◌, Bool, true, false, List, [], ◌∷◌, ◌++◌, length, take, drop, replicate, get_or, refl, sym, ◌∙◌, ap, subst, inl, inr, arith, Option, Some, None}
+use Rattle.std.proofs.Common.{◌≡◌, ◌≢◌, ℕ, ◌+◌, ◌-◌, ◌*◌, ◌<◌, ◌≤◌, ◌⊎◌, Bool, true, false, List, [], ◌∷◌, ◌++◌, length, take, drop, replicate}
+use Rattle.std.proofs.{Common.{get_or, refl, sym, ◌∙◌, ap, subst, inl, inr, arith, Option, Some, None}, lemmas.Bool.{cases_Bool, cases_eq, cases_lt}}
+use Rattle.std.proofs.lemmas.{Bool.{false≢true, ne_eqb, Decides.nat_tests}, List.{ext_get_or, get_or-append_right, get_or-drop, get_or-replicate}}
+use Rattle.std.proofs.lemmas.List.{get_or-take, get_or_append_left, length-append, length-drop, length-replicate, length-take}
 use Rattle.std.specs.{Prelude.{if◌then◌else◌, ◌==◌, not, nat_le, slice_index, Result, Ok, Err}, List.list_all}
-use Rattle.std.proofs.lemmas.{Bool.{cases_Bool, cases_eq, cases_lt, false≢true, ne_eqb}, Bool.Decides.nat_tests}
-use Rattle.std.proofs.lemmas.List.{ext_get_or, get_or-append_right, get_or-drop, get_or-replicate, get_or-take, get_or_append_left, length-append}
-use Rattle.std.proofs.lemmas.List.{length-drop, length-replicate, length-take}
 use Rattle.fis_view.specs.{Seen.{kind_of, kind_of_type, may_have, seen, view_as}, Table.{Bits, D2h, Kind, Other, Pio, Setup}, declared.view.Fis.Fis}
 use Rattle.fis_view.specs.declared.view.FisFault.{FisFault, TheVariants.WrongLength}
 use Rattle.fis_view.specs.declared.view.Fis.TheVariants as view
@@ -13,17 +13,16 @@ use Rattle.rx_area.specs.Area as rx
 use Rattle.rx_area.specs.declared.area.Posted.TheVariants as posted
 use Rattle.hba_fbs.specs.{Hearing.is_admitted, Posting.{Posts, area_at}, Taking.{PostsOf, admitted, ignores, port_of}, Views.Port}
 use Rattle.hba_driver.specs.declared.{effect.Effect.Effect, mode.Mode.TheVariants.Switching, order.Order.TheVariants.Clear, turn.Act.Act}
-use Rattle.hba_driver.specs.Effects.{Acts, ActsAll, effects_of, is_effect, issuing, order_command, order_effects, prds_with}
-use Rattle.hba_driver.specs.{Events.{IsSoundHost, opening_host}, HostTurns.{Does, Host, HostTurn, Took, Ticked, Submitted, sight_in}}
-use Rattle.hba_driver.specs.{Orders.order_fields, Paths.{reads_page, stage_fields}, Sights.{is_ata, last_d2h}}
-use Rattle.hba_driver.specs.{Steady.{HasSignature, IsCalmAct, IsFlushTick, IsRowTurn}, Submits.next_slot, Ticks.{due, effects_due}}
+use Rattle.hba_driver.specs.{Effects.{Acts, ActsAll, effects_of, is_effect, issuing, order_command, order_effects, prds_with}, Events.IsSoundHost}
+use Rattle.hba_driver.specs.{Events.opening_host, HostTurns.{Does, Host, HostTurn, Took, Ticked, Submitted, sight_in}, Orders.order_fields}
+use Rattle.hba_driver.specs.{Paths.{reads_page, stage_fields}, Sights.{is_ata, last_d2h}, Steady.{HasSignature, IsCalmAct, IsFlushTick, IsRowTurn}}
+use Rattle.hba_driver.specs.{Submits.next_slot, Ticks.{due, effects_due}}
 use Rattle.hba_driver.specs.declared.effect.Effect.TheVariants as effect
 use Rattle.hba_driver.specs.declared.turn.Act.TheVariants as act
 use Rattle.hba_driver.proofs.calls.EffectLemmas.{issuing_pass, opens_pass, order_pass, restarts_pass, sending_pass}
-use Rattle.hba_driver.proofs.{requests.HistoryLemmas.free_below, modes.{ModeLemmas.posts_own, RowMode.started_mode}}
-use Rattle.hba_driver.proofs.events.SoundLemmas.{sound_host, sound_turn}
-use Rattle.hba_driver.proofs.requests.StandLemmas.{Same, both, few_prds, lt_of, runs, same_beside, same_memory, same_written}
-use Rattle.hba_driver.proofs.{calls.SubmitLemmas.is_taken, modes.SwitchLemmas.{tick_acts, tick_possible}}
+use Rattle.hba_driver.proofs.{requests.HistoryLemmas.free_below, modes.{ModeLemmas.posts_own, RowMode.started_mode}, events.SoundLemmas.sound_host}
+use Rattle.hba_driver.proofs.{events.SoundLemmas.sound_turn, requests.StandLemmas.{Same, both, few_prds, lt_of, runs, same_beside, same_memory}}
+use Rattle.hba_driver.proofs.{requests.StandLemmas.same_written, calls.SubmitLemmas.is_taken, modes.SwitchLemmas.{tick_acts, tick_possible}}
 
 -- ---- where it is
 

@@ -1,35 +1,32 @@
 -- For `turns_are_steady`. What a turn leaves of the driver's plan and requests for a device with which nothing has
 -- failed.
-use Rattle.std.proofs.Common.{◌≡◌, ◌≢◌, ℕ, ◌+◌, ◌<◌, ◌⊎◌, ◌&&◌, ◌||◌, Bool, true, false, List, length, map, replicate, get_or, set, refl, sym, ◌∙◌, ap, subst, inl, inr, arith, Option, Some, None}
+use Rattle.std.proofs.Common.{◌≡◌, ◌≢◌, ℕ, ◌+◌, ◌<◌, ◌⊎◌, ◌&&◌, ◌||◌, Bool, true, false, List, length, map, replicate, get_or, set, refl, sym, ◌∙◌}
+use Rattle.std.proofs.{Common.{ap, subst, inl, inr, arith, Option, Some, None}, lemmas.Bool.{cases_eq, cases_lt, false≢true, or_parts, true≢false}}
+use Rattle.std.proofs.lemmas.{Bool.Decides.nat_tests, List.{get_or-replicate, get_or_past, length-replicate, FromFn.{get_or-map-range_with_len}}}
+use Rattle.std.proofs.lemmas.List.FromFn.{length-map-range_with_len}
 use Rattle.std.specs.{Prelude.{if◌then◌else◌, ◌==◌, not, slice_index_or}, List.{list_any, range_with_len}, Option.option_or}
-use Rattle.std.proofs.lemmas.{Bool.{cases_eq, cases_lt, false≢true, or_parts, true≢false}, Bool.Decides.nat_tests}
-use Rattle.std.proofs.lemmas.List.{get_or-replicate, get_or_past, length-replicate}
-use Rattle.std.proofs.lemmas.List.FromFn.{get_or-map-range_with_len, length-map-range_with_len}
 use Rattle.fis_view.specs.Seen.{seen as seen_in}
 use Rattle.host_memory.specs.Memory.{Memory}
 use Rattle.slots.specs.Slots.{match_some}
 use Rattle.hba_fbs.specs.Views.{Port}
 use Rattle.hba_laws.proofs.Door.{some_inj}
 use Rattle.hba_driver.specs.declared.{mode.Mode.{Mode, TheVariants.{CommandBased, Switching}}, order.Order.{Order, TheVariants.Clear}, path.Path.Path}
-use Rattle.hba_driver.specs.declared.{path.Stage.Stage, path.TaskFile.TaskFile, plan.Device.{Device, TheVariants.{Absent, Starting, Ready}}}
-use Rattle.hba_driver.specs.declared.{plan.Plan.Plan, request.Completion.Completion, request.Request.Request, request.SubmitError.SubmitError}
-use Rattle.hba_driver.specs.{Seeing.Sight, declared.{slot.Phase.{Phase, TheVariants.{Waits, Issued, Aside, Ended}}, turn.Act.Act}}
-use Rattle.hba_driver.specs.Drivers.{Driver, Entry, device_at, entry_at, has_ended, has_ended_in, holds, is_aside_in, is_issued, is_issued_in}
-use Rattle.hba_driver.specs.{Drivers.{new_driver, waits, waits_in}, Effects.{effects_of, order_effects}}
-use Rattle.hba_driver.specs.{Orders.{identify_fields, is_flush, order_fields}, Paths.stage_fields, Going.GoesOn as PortGoesOn}
-use Rattle.hba_driver.specs.{HostTurns.{Does, Host, HostTurn, Ticked, Submitted, Polled, sight_in}, Laws.{Goes, GoesOn, Keeps, Kept, flushes}}
-use Rattle.hba_driver.specs.{Requests.{blocks, device_refusal}, Sights.{file_shown, is_ata, last_d2h, sight_of}}
+use Rattle.hba_driver.specs.declared.{path.{Stage.Stage, TaskFile.TaskFile}, plan.{Device.{Device, TheVariants.{Absent, Starting, Ready}}, Plan.Plan}}
+use Rattle.hba_driver.specs.{declared.{request.{Completion.Completion, Request.Request, SubmitError.SubmitError}, slot.Phase.Phase}, Seeing.Sight}
+use Rattle.hba_driver.specs.{declared.{slot.Phase.TheVariants.{Waits, Issued, Aside, Ended}, turn.Act.Act}, Drivers.{Driver, Entry, device_at}}
+use Rattle.hba_driver.specs.Drivers.{entry_at, has_ended, has_ended_in, holds, is_aside_in, is_issued, is_issued_in, new_driver, waits, waits_in}
+use Rattle.hba_driver.specs.{Effects.{effects_of, order_effects}, Orders.{identify_fields, is_flush, order_fields}, Paths.stage_fields}
+use Rattle.hba_driver.specs.{Going.GoesOn as PortGoesOn, HostTurns.{Does, Host, HostTurn, Ticked, Submitted, Polled, sight_in}, Laws.{Goes, GoesOn}}
+use Rattle.hba_driver.specs.{Laws.{Keeps, Kept, flushes}, Requests.{blocks, device_refusal}, Sights.{file_shown, is_ata, last_d2h, sight_of}}
 use Rattle.hba_driver.specs.Steady.{AreSteady, IsAskedOf, IsCalmAct, IsCalmTick, IsClearTick, IsFine, IsFlushTick, IsOpenAt, IsSteady, IsSteadyPlan}
-use Rattle.hba_driver.specs.Steady.{IsSteadyTurn, slot_in, slot_of}
-use Rattle.hba_driver.specs.Submits.{after_submit, is_blocked, new_entry, next_slot, queue_refusal, submit_refusal}
-use Rattle.hba_driver.specs.Ticks.{acted, after_tick, done_ended, due, effects, effects_due, plan_after, seen, turn, unless}
+use Rattle.hba_driver.specs.{Steady.{IsSteadyTurn, slot_in, slot_of}, Submits.{after_submit, is_blocked, new_entry, next_slot, queue_refusal}}
+use Rattle.hba_driver.specs.{Submits.submit_refusal, Ticks.{acted, after_tick, done_ended, due, effects, effects_due, plan_after, seen, turn, unless}}
 use Rattle.hba_driver.specs.Between.{DriverKeeps, PlanKeeps, PollFacts, Signs}
 use Rattle.hba_driver.specs.declared.request.SubmitError.TheVariants as refusal
 use Rattle.hba_driver.specs.declared.turn.Act.TheVariants as act
 use Rattle.hba_driver.proofs.{requests.HistoryLemmas.{back_of, freed, poll_facts}, ticks.LifeLemmas.{keeps_seen, keeps_tick, waits_if_may}}
-use Rattle.hba_driver.proofs.{calls.RequestLemmas.set_cases, ticks.ServeLemmas.ticks_serve}
-use Rattle.hba_driver.proofs.{steady.SteadyLemmas.{act_keeps, keeps_then, of_turn, turn_keeps, unless_here}, calls.SubmitLemmas.none_conflict}
-use Rattle.hba_driver.proofs.events.TurnLemmas.{first_none}
+use Rattle.hba_driver.proofs.{calls.RequestLemmas.set_cases, ticks.ServeLemmas.ticks_serve, steady.SteadyLemmas.{act_keeps, keeps_then, of_turn}}
+use Rattle.hba_driver.proofs.{steady.SteadyLemmas.{turn_keeps, unless_here}, calls.SubmitLemmas.none_conflict, events.TurnLemmas.first_none}
 
 -- ---- requests that go on
 

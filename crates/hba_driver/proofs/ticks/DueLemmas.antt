@@ -1,19 +1,18 @@
 -- For `ticks_keep`. What a tick knows of the plan and of what it does next.
-use Rattle.std.proofs.Common.{◌≡◌, ℕ, ◌<◌, ◌⊎◌, Bool, nat_lt, inl, inr, arith, true, false, List, length, refl, sym, ◌∙◌, ap, subst, Option, Some, None}
+use Rattle.std.proofs.Common.{◌≡◌, ℕ, ◌<◌, ◌⊎◌, Bool, nat_lt, inl, inr, arith, true, false, List, length, refl, sym, ◌∙◌, ap, subst, Option, Some}
+use Rattle.std.proofs.{Common.None, lemmas.{Bool.{false≢true, true≢false, Decides.nat_tests}, List.length-set}}
 use Rattle.std.specs.{Prelude.{if◌then◌else◌, ◌&&◌, not, is_some}, Option.{option_map, option_or}}
-use Rattle.std.proofs.lemmas.{Bool.{false≢true, true≢false}, Bool.Decides.nat_tests, List.length-set}
 use Rattle.fis_view.specs.declared.build.H2dFields.{H2dFields}
 use Rattle.slots.specs.Slots.{has_bit, lowest_below, match_some}
 use Rattle.slots.proofs.Door.{lowest_is}
-use Rattle.hba_driver.specs.declared.mode.Mode.{Mode, TheVariants.{Switching, CommandBased}}
-use Rattle.hba_driver.specs.declared.{order.Order.{Order, TheVariants.{CountPorts, Scan, Detect}}, path.Path.Path}
-use Rattle.hba_driver.specs.{declared.{path.Stage.{Stage, TheVariants.{Identify, ReadLog}}, plan.Plan.Plan}, Seeing.Sight, declared.turn.Act.Act}
-use Rattle.hba_driver.specs.{declared.turn.Turn.Turn, Drivers.{Entry, IsPath, entry_at, waits}, Orders.{is_queued, order_fields}}
-use Rattle.hba_driver.specs.Paths.{next_stage, stage_fields}
-use Rattle.hba_driver.specs.Turns.{advanced, allowed, answered, control_news, control_seen, control_turn, device_due, device_of, device_or_request}
-use Rattle.hba_driver.specs.Turns.{device_seen, device_turn, early_due, fault_due, found_of, is_back, is_due, issue_of, may_go_to, may_issue, met}
-use Rattle.hba_driver.specs.Turns.{met_order, met_path, noted, order_allowed, order_due, path_answered, path_due, path_met, path_to, plain_turn}
-use Rattle.hba_driver.specs.{Turns.{request_due, stage_due, stage_for, step_of, turn_of, with_next}, Between.{Due, Runs}}
+use Rattle.hba_driver.specs.declared.{mode.Mode.{Mode, TheVariants.{Switching, CommandBased}}, order.Order.{Order, TheVariants.{CountPorts, Scan}}}
+use Rattle.hba_driver.specs.declared.{order.Order.TheVariants.Detect, path.{Path.Path, Stage.{Stage, TheVariants.{Identify, ReadLog}}}}
+use Rattle.hba_driver.specs.{declared.{plan.Plan.Plan, turn.{Act.Act, Turn.Turn}}, Seeing.Sight, Drivers.{Entry, IsPath, entry_at, waits}}
+use Rattle.hba_driver.specs.{Orders.{is_queued, order_fields}, Paths.{next_stage, stage_fields}, Turns.{advanced, allowed, answered, control_news}}
+use Rattle.hba_driver.specs.Turns.{control_seen, control_turn, device_due, device_of, device_or_request, device_seen, device_turn, early_due}
+use Rattle.hba_driver.specs.Turns.{fault_due, found_of, is_back, is_due, issue_of, may_go_to, may_issue, met, met_order, met_path, noted}
+use Rattle.hba_driver.specs.Turns.{order_allowed, order_due, path_answered, path_due, path_met, path_to, plain_turn, request_due, stage_due}
+use Rattle.hba_driver.specs.{Turns.{stage_for, step_of, turn_of, with_next}, Between.{Due, Runs}}
 use Rattle.hba_driver.specs.declared.turn.Act.TheVariants as act
 
 -- ---- what is due

@@ -1,18 +1,17 @@
 -- For `ticks_keep`. A tick keeps each request, and ends none twice.
-use Rattle.std.proofs.Common.{◌≡◌, ℕ, ◌≤◌, Bool, true, false, ◌&&◌, List, length, set, map, refl, sym, ◌∙◌, ap, subst, inl, inr, arith, Option, Some, None}
+use Rattle.std.proofs.Common.{◌≡◌, ℕ, ◌≤◌, Bool, true, false, ◌&&◌, List, length, set, map, refl, sym, ◌∙◌, ap, subst, inl, inr, arith, Option, Some}
+use Rattle.std.proofs.{Common.None, lemmas.{Bool.{cases_lt, cases_eq, false≢true, or_parts, true≢false}, List.{get_or_past, get_or-set_same}}}
+use Rattle.std.proofs.lemmas.List.{get_or-set_other, length-set, FromFn.{get_or-map-range_with_len, length-map-range_with_len}}
 use Rattle.std.specs.{Prelude.{if◌then◌else◌, ◌==◌, not}, List.range_with_len, Option.option_map}
-use Rattle.std.proofs.lemmas.Bool.{cases_lt, cases_eq, false≢true, or_parts, true≢false}
-use Rattle.std.proofs.lemmas.List.{get_or_past, get_or-set_same, get_or-set_other, length-set}
-use Rattle.std.proofs.lemmas.List.FromFn.{get_or-map-range_with_len, length-map-range_with_len}
 use Rattle.slots.specs.Slots.{has_bit}
 use Rattle.hba_driver.specs.declared.{order.Order.{Order, TheVariants.Clear}, plan.Plan.Plan, path.Stage.{Stage, TheVariants.AssertReset}}
 use Rattle.hba_driver.specs.declared.{path.TaskFile.TaskFile, request.Outcome.{Outcome, TheVariants.{Aborted, Done, PortError, Removed}}}
-use Rattle.hba_driver.specs.{declared.sight.ErrorLog.ErrorLog, Seeing.Sight, declared.slot.Head.Head}
-use Rattle.hba_driver.specs.declared.{slot.Phase.{Phase, TheVariants.{Waits, Issued, Aside, Ended}}, turn.Act.Act, turn.Logged.Logged}
-use Rattle.hba_driver.specs.Drivers.{Driver, Entry, entry_at, has_ended_in, holds, is_aside, is_aside_in, is_issued_in, rephase, rephase_all}
-use Rattle.hba_driver.specs.{Drivers.{rephased, waits, waits_in}, Laws.{Goes, GoesOn, Kept, Keeps, TicksKeep}}
-use Rattle.hba_driver.specs.Ticks.{acted, after_tick, done_ended, entries_after, is_aside_of, is_done, is_named_of, is_open, is_open_of, log_outcome}
-use Rattle.hba_driver.specs.{Ticks.{logged_ended, removed, seen, stage_ended, turn}, Turns.may_issue, Between.{Due, Waiting}}
+use Rattle.hba_driver.specs.{declared.{sight.ErrorLog.ErrorLog, slot.{Head.Head, Phase.{Phase, TheVariants.{Waits, Issued, Aside}}}}, Seeing.Sight}
+use Rattle.hba_driver.specs.{declared.{slot.Phase.TheVariants.Ended, turn.{Act.Act, Logged.Logged}}, Drivers.{Driver, Entry, entry_at, has_ended_in}}
+use Rattle.hba_driver.specs.{Drivers.{holds, is_aside, is_aside_in, is_issued_in, rephase, rephase_all, rephased, waits, waits_in}, Laws.Goes}
+use Rattle.hba_driver.specs.{Laws.{GoesOn, Kept, Keeps, TicksKeep}, Ticks.{acted, after_tick, done_ended, entries_after, is_aside_of, is_done}}
+use Rattle.hba_driver.specs.{Ticks.{is_named_of, is_open, is_open_of, log_outcome, logged_ended, removed, seen, stage_ended, turn}, Turns.may_issue}
+use Rattle.hba_driver.specs.Between.{Due, Waiting}
 use Rattle.hba_driver.specs.declared.turn.Act.TheVariants as act
 use Rattle.hba_driver.proofs.ticks.DueLemmas.{due_turn}
 

@@ -1,19 +1,18 @@
 -- For `ticks_serve`. What a tick does to devices: whom it serves, and whom it flushes.
-use Rattle.std.proofs.Common.{◌≡◌, ℕ, zero, suc, ◌<◌, nat_lt, Bool, true, false, List, [], ◌∷◌, length, get_or, set, refl, sym, ◌∙◌, ap, subst, inl, inr, arith, Option, Some, None, ◌++◌}
-use Rattle.std.specs.{Prelude.{if◌then◌else◌, ◌==◌, ◌||◌}, List.list_any}
-use Rattle.std.proofs.lemmas.{Bool.{cases_Bool, cases_lt, false≢true, true≢false}, Bool.Decides.nat_tests}
+use Rattle.std.proofs.Common.{◌≡◌, ℕ, zero, suc, ◌<◌, nat_lt, Bool, true, false, List, [], ◌∷◌, length, get_or, set, refl, sym, ◌∙◌, ap, subst, inl}
+use Rattle.std.proofs.{Common.{inr, arith, Option, Some, None, ◌++◌}, lemmas.Bool.{cases_Bool, cases_lt, false≢true, true≢false, Decides.nat_tests}}
 use Rattle.std.proofs.lemmas.List.{get_or_past, get_or-set_same, length-set}
-use Rattle.hba_driver.specs.declared.{effect.Effect.Effect, mode.Mode.{Mode, TheVariants.{Switching, CommandBased}}}
-use Rattle.hba_driver.specs.declared.order.Order.{Order, TheVariants.{AwaitSignature, Clear, Watch}}
-use Rattle.hba_driver.specs.declared.{plan.Device.{Device, TheVariants.{Absent, Recovering}}, path.Stage.{Stage, TheVariants.AwaitReset}}
-use Rattle.hba_driver.specs.{declared.{path.TaskFile.TaskFile, plan.Plan.Plan, request.Outcome.TheVariants.{PortError, Removed}}, Seeing.Sight}
-use Rattle.hba_driver.specs.declared.{slot.Head.Head, slot.Phase.{Phase, TheVariants.{Aside, Ended}}, turn.Act.Act}
-use Rattle.hba_driver.specs.Drivers.{Driver, Entry, device_at, entry_at, has_ended, is_aside, rephase, rephased}
-use Rattle.hba_driver.specs.Effects.{effects_of, emptying, issuing, opening_write, opening_writes, order_command, order_effects, restart_write}
-use Rattle.hba_driver.specs.{Effects.{restart_writes, stage_effects}, Laws.{TicksServe, flushes, is_withdrawn}, Orders.order_fields}
-use Rattle.hba_driver.specs.Paths.{recovery, stage_fields}
-use Rattle.hba_driver.specs.Ticks.{acted, after_tick, done_ended, due, effects, effects_due, entries_after, from_reset, is_open, is_open_of}
-use Rattle.hba_driver.specs.{Ticks.{plan_after, recovering, seen, turn}, Turns.may_issue}
+use Rattle.std.specs.{Prelude.{if◌then◌else◌, ◌==◌, ◌||◌}, List.list_any}
+use Rattle.hba_driver.specs.declared.{effect.Effect.Effect, mode.Mode.{Mode, TheVariants.{Switching, CommandBased}}, order.Order.Order}
+use Rattle.hba_driver.specs.declared.{order.Order.TheVariants.{AwaitSignature, Clear, Watch}, plan.Device.{Device, TheVariants.{Absent, Recovering}}}
+use Rattle.hba_driver.specs.declared.{path.{Stage.{Stage, TheVariants.AwaitReset}, TaskFile.TaskFile}, plan.Plan.Plan}
+use Rattle.hba_driver.specs.{declared.{request.Outcome.TheVariants.{PortError, Removed}, slot.{Head.Head, Phase.Phase}}, Seeing.Sight}
+use Rattle.hba_driver.specs.{declared.{slot.Phase.TheVariants.{Aside, Ended}, turn.Act.Act}, Drivers.{Driver, Entry, device_at, entry_at, has_ended}}
+use Rattle.hba_driver.specs.{Drivers.{is_aside, rephase, rephased}, Effects.{effects_of, emptying, issuing, opening_write, opening_writes}}
+use Rattle.hba_driver.specs.{Effects.{order_command, order_effects, restart_write, restart_writes, stage_effects}, Laws.{TicksServe, flushes}}
+use Rattle.hba_driver.specs.{Laws.is_withdrawn, Orders.order_fields, Paths.{recovery, stage_fields}, Ticks.{acted, after_tick, done_ended, due}}
+use Rattle.hba_driver.specs.Ticks.{effects, effects_due, entries_after, from_reset, is_open, is_open_of, plan_after, recovering, seen, turn}
+use Rattle.hba_driver.specs.Turns.{may_issue}
 use Rattle.hba_driver.specs.declared.turn.Act.TheVariants as act
 use Rattle.hba_driver.proofs.ticks.{DueLemmas.goes_turn, LifeLemmas.{May, entry_of_rephased, may_turn}}
 

@@ -1,55 +1,37 @@
 -- For `delivers`. The slots that a FIS is reported to free are those that it completes.
-use Rattle.std.proofs.Common.{◌≡◌, ℕ, ◌-◌, ◌^◌, ◌%◌, ◌<◌, Bool, true, false, cond, eqb, List, [], ◌∷◌, drop, get_or, length, map, refl, sym, ap, subst, ◌∙◌, inl, inr, Option, Some, None, arith}
-use Rattle.std.specs.Prelude.{Result, Ok, Err, is_none, is_some, is_ok, ◌&&◌, ◌==◌, not, nat_le, nat_lt, replicate, slice_index}
-use Rattle.std.specs.Option.{option_map}
-use Rattle.std.proofs.lemmas.Bool.{cases_eq, cases_lt, eq-eqb, ne_eqb, eqb-true, false≢true, and_parts, leb-true}
-use Rattle.std.proofs.lemmas.List.{get_or-map, get_or-replicate, get_or_past, length-map, length-replicate}
+use Rattle.std.proofs.Common.{◌≡◌, ℕ, ◌-◌, ◌^◌, ◌%◌, ◌<◌, Bool, true, false, cond, eqb, List, [], ◌∷◌, drop, get_or, length, map, refl, sym, ap}
+use Rattle.std.proofs.{Common.{subst, ◌∙◌, inl, inr, Option, Some, None, arith}, lemmas.Bool.{cases_eq, cases_lt, eq-eqb, ne_eqb, eqb-true}}
+use Rattle.std.proofs.lemmas.{Bool.{false≢true, and_parts, leb-true}, List.{get_or-map, get_or-replicate, get_or_past, length-map, length-replicate}}
 use Rattle.std.proofs.lemmas.Nat.Bits.{bit_at-pow_other, bit_at-pow_same, bit_at-zero}
-use Rattle.fis_view.specs.Seen.{seen}
+use Rattle.std.specs.{Prelude.{Result, Ok, Err, is_none, is_some, is_ok, ◌&&◌, ◌==◌, not, nat_le, nat_lt, replicate, slice_index}, Option.option_map}
+use Rattle.fis_view.specs.{Seen.seen, Table.field, declared.view.Fis.Fis, Frames.IsFrame}
 use Rattle.fis_view.specs.Table as table
-use Rattle.fis_view.specs.Table.{field}
-use Rattle.fis_view.specs.declared.view.Fis.{Fis}
 use Rattle.fis_view.specs.declared.view.Fis.TheVariants as view
 use Rattle.port_errors.specs.declared.cause.DeviceCause.TheVariants as cause
 use Rattle.slots.specs.Commands.{answer_for, answered_issue, answer_of, answered_as, completed, is_done, is_slot, whole_pio, with_answered}
-use Rattle.slots.specs.Data.{activated, after_activate, after_arrive, arrive_answer, gone_over, may_activate, moved_over}
-use Rattle.slots.specs.Setup.{after_setup_pio, came, dma_context, new_context, out_setup, pio_fault, pio_issue, setup_fault, with_own_context}
-use Rattle.slots.specs.Work.{needs_all}
-use Rattle.slots.specs.Slots.{DeviceSlots, Issue, freed, has_bit, holds, is_done_issue, is_queued_issue, is_waiting, is_whole_issue, match_some, own_issue, owned_by, sent_pio, waiting}
-use Rattle.slots.specs.declared.answer.Answered.{Answered}
-use Rattle.slots.specs.declared.answer.Answered.TheVariants as answer
-use Rattle.slots.specs.declared.answer.SetupError.{SetupError}
+use Rattle.slots.specs.{Data.{activated, after_activate, after_arrive, arrive_answer, gone_over, may_activate, moved_over}, Setup.after_setup_pio}
+use Rattle.slots.specs.{Setup.{came, dma_context, new_context, out_setup, pio_fault, pio_issue, setup_fault, with_own_context}, Work.needs_all}
+use Rattle.slots.specs.Slots.{DeviceSlots, Issue, freed, has_bit, holds, is_done_issue, is_queued_issue, is_waiting, is_whole_issue, match_some}
+use Rattle.slots.specs.{Slots.{own_issue, owned_by, sent_pio, waiting}, declared.answer.{Answered.Answered, SetupError.SetupError}}
 use Rattle.slots.specs.declared.table.Context.{Context}
+use Rattle.slots.specs.declared.answer.Answered.TheVariants as answer
 use Rattle.slots.proofs.Door.{has_bit_mask, lowest_is}
-use Rattle.hba_fbs.specs.declared.hearing.Happening.{Happening}
-use Rattle.hba_fbs.specs.declared.hearing.Happening.TheVariants as happening
-use Rattle.hba_fbs.specs.declared.hearing.Heard.{Heard}
-use Rattle.hba_fbs.specs.declared.report.TakeReport.{TakeReport}
-use Rattle.hba_fbs.specs.declared.room.Room.{Room}
-use Rattle.hba_fbs.specs.declared.state.DeviceState.{DeviceState}
-use Rattle.hba_fbs.specs.declared.status.Block.{Block}
-use Rattle.hba_fbs.specs.Hearing.{answered, block_ended, block_of, bus_failed, done_by, faulty, heard_bytes, heard_d2h, heard_data, heard_data_of, heard_fis, heard_out, mask_of_slot, moved, named, overflowed, quietly, set_up, tag_of}
-use Rattle.hba_fbs.specs.Status.{after_reset, is_busy, is_error, is_quiet, with_bits, with_file}
-use Rattle.hba_fbs.specs.Deciding.{decided, room_if}
-use Rattle.hba_fbs.specs.Taking.{admitted, heard, heard_report, ignores, port_of}
-use Rattle.hba_fbs.specs.Tables.{is_sound}
+use Rattle.hba_fbs.specs.declared.{hearing.{Happening.Happening, Heard.Heard}, report.TakeReport.TakeReport, room.Room.Room}
+use Rattle.hba_fbs.specs.{declared.{state.DeviceState.DeviceState, status.Block.Block}, Hearing.{answered, block_ended, block_of, bus_failed}}
+use Rattle.hba_fbs.specs.Hearing.{done_by, faulty, heard_bytes, heard_d2h, heard_data, heard_data_of, heard_fis, heard_out, mask_of_slot, moved}
+use Rattle.hba_fbs.specs.{Hearing.{named, overflowed, quietly, set_up, tag_of}, Status.{after_reset, is_busy, is_error, is_quiet, with_bits}}
+use Rattle.hba_fbs.specs.{Status.with_file, Deciding.{decided, room_if}, Taking.{admitted, heard, heard_report, ignores, port_of}, Tables.is_sound}
 use Rattle.hba_fbs.specs.Views.{DeviceView, Port, view_of}
-use Rattle.hba_laws.specs.Agreement.{IsHistoryOf, IsTold, end_of, work_of_issue, work_of_transfer}
-use Rattle.hba_laws.specs.CoreHistories.{CoreDoneIsCompleted, CoreOpensUntold, ReportsDoneBy, history_through}
-use Rattle.hba_laws.specs.Cores.{AreCores, CoreEvent, Hearkens, IsCore, RunsBy}
-use Rattle.hba_laws.specs.Delivering.{DoneIsCompleted, OpensUntold, ReportsDone, event_heard, event_of, history_after}
-use Rattle.hba_laws.specs.History.{Event, History, Transfer, completes, issued, unless}
-use Rattle.fis_view.specs.Frames.{IsFrame}
-use Rattle.hba_laws.specs.Hosts.{Host, HostEvent, Runs, TakesFrame, Took}
-use Rattle.hba_laws.specs.Sound.{AreHosts, IsHost}
+use Rattle.hba_fbs.specs.declared.hearing.Happening.TheVariants as happening
+use Rattle.hba_laws.specs.{Agreement.{IsHistoryOf, IsTold, end_of, work_of_issue, work_of_transfer}, CoreHistories.CoreDoneIsCompleted}
+use Rattle.hba_laws.specs.{CoreHistories.{CoreOpensUntold, ReportsDoneBy, history_through}, Cores.{AreCores, CoreEvent, Hearkens, IsCore, RunsBy}}
+use Rattle.hba_laws.specs.{Delivering.{DoneIsCompleted, OpensUntold, ReportsDone, event_heard, event_of, history_after}, History.{Event, History}}
+use Rattle.hba_laws.specs.{History.{Transfer, completes, issued, unless}, Hosts.{Host, HostEvent, Runs, TakesFrame, Took}, Sound.{AreHosts, IsHost}}
 use Rattle.hba_laws.specs.Between.{IsOwn, at_slot}
-use Rattle.hba_laws.proofs.cores.CoreHostLemmas.{hosts_are_cores, is_core}
-use Rattle.hba_laws.proofs.histories.CoreEventLemmas.{core_views_are_told, says_of}
-use Rattle.hba_laws.proofs.histories.EventLemmas.{event_by_is, views_are_told}
-use Rattle.hba_laws.proofs.histories.HearLemmas.{decided_cases, decided_follows, with_event}
-use Rattle.hba_laws.proofs.histories.ResetLemmas.{opens_told}
-use Rattle.hba_laws.proofs.histories.StepLemmas.{Says}
-use Rattle.hba_laws.proofs.histories.ViewLemmas.{at_other, at_same, held, is_own, own_below, own_freed, own_set}
+use Rattle.hba_laws.proofs.{cores.CoreHostLemmas.{hosts_are_cores, is_core}, histories.CoreEventLemmas.{core_views_are_told, says_of}}
+use Rattle.hba_laws.proofs.histories.{EventLemmas.{event_by_is, views_are_told}, HearLemmas.{decided_cases, decided_follows, with_event}}
+use Rattle.hba_laws.proofs.histories.{ResetLemmas.opens_told, StepLemmas.Says, ViewLemmas.{at_other, at_same, held, is_own, own_below, own_freed}}
+use Rattle.hba_laws.proofs.histories.ViewLemmas.{own_set}
 
 -- ---- which slots become free
 

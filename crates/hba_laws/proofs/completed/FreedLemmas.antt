@@ -1,14 +1,12 @@
 -- For `core_delivers`. What frees a slot is an event of its own device.
 use Rattle.std.proofs.Common.{◌≡◌, ℕ, Bool, true, false, List, [], ◌∷◌, ◌++◌, append_assoc, refl, sym, ap, subst, ◌∙◌, inl, inr, Option, Some, None}
-use Rattle.std.specs.Prelude.{◌==◌, ◌||◌, if◌then◌else◌, is_some}
-use Rattle.std.specs.Option.{option_map}
 use Rattle.std.proofs.lemmas.Bool.{cases_Bool, false≢true, true≢false}
+use Rattle.std.specs.{Prelude.{◌==◌, ◌||◌, if◌then◌else◌, is_some}, Option.option_map}
 use Rattle.slots.specs.Slots.{match_some, own_issue}
 use Rattle.hba_fbs.specs.Views.{Port, view_of}
-use Rattle.hba_laws.specs.Agreement.{IsTold, work_of_issue, work_of_transfer}
-use Rattle.hba_laws.specs.CoreHistories.{AreSoundBy, CoreFreedByOwn, frees, happened, history_through, is_freed_in}
-use Rattle.hba_laws.specs.Cores.{CoreEvent, RunsBy}
-use Rattle.hba_laws.specs.History.{Answered, Carried, Emptied, Event, History, Issued, Named, PioSetUp, Sent, SentControl, SetUp, Transfer, completes, issued, unless}
+use Rattle.hba_laws.specs.{Agreement.{IsTold, work_of_issue, work_of_transfer}, CoreHistories.{AreSoundBy, CoreFreedByOwn, frees, happened}}
+use Rattle.hba_laws.specs.{CoreHistories.{history_through, is_freed_in}, Cores.{CoreEvent, RunsBy}, History.{Answered, Carried, Emptied, Event}}
+use Rattle.hba_laws.specs.History.{History, Issued, Named, PioSetUp, Sent, SentControl, SetUp, Transfer, completes, issued, unless}
 use Rattle.hba_laws.proofs.histories.CoreEventLemmas.{core_views_are_told}
 
 -- ---- one event

@@ -1,7 +1,6 @@
 -- For `delivers`. Each issue completes at most once.
 use Rattle.std.proofs.Common.{ℕ, ◌+◌, ◌≤◌, Bool, true, false, cond, eqb, [], ◌∷◌, Option, Some, None, arith}
-use Rattle.slots.specs.Slots.{match_some}
-use Rattle.slots.specs.declared.work.Work.{Work}
+use Rattle.slots.specs.{Slots.match_some, declared.work.Work.Work}
 use Rattle.hba_laws.specs.History.{CompletesOnce, Emptied, Issued, SentControl, Transfer, completes, completions, issued, unless}
 
 -- what does not issue

@@ -1,35 +1,19 @@
 -- For `core_isolated`. An event of a host is one of its core, with the answers that its memory gives.
 use Rattle.std.proofs.Common.{◌≡◌, ℕ, suc, ◌+◌, ◌-◌, arith, length, Bool, true, false, List, refl, sym, ◌∙◌, ap, subst, Option, Some, None}
-use Rattle.std.specs.Prelude.{if◌then◌else◌, slice_index}
 use Rattle.std.proofs.lemmas.List.FromFn.{length-map-range_with_len}
-use Rattle.fis_view.specs.Frames.{Stamped}
-use Rattle.fis_view.specs.Seen.{seen}
-use Rattle.fis_view.specs.declared.view.Fis.{Fis}
+use Rattle.std.specs.Prelude.{if◌then◌else◌, slice_index}
+use Rattle.fis_view.specs.{Frames.Stamped, Seen.seen, declared.view.Fis.Fis}
 use Rattle.hba_commands.specs.declared.command.Command.{Command}
-use Rattle.host_memory.specs.Memory.{Memory, client_start}
-use Rattle.host_memory.specs.Place.{place}
-use Rattle.host_memory.specs.declared.table.Prd.{Prd}
-use Rattle.hba_fbs.specs.declared.error.WriteError.{WriteError}
-use Rattle.hba_fbs.specs.declared.error.WriteError.TheVariants.{BadTable}
-use Rattle.hba_fbs.specs.declared.hearing.Heard.{Heard}
-use Rattle.hba_fbs.specs.declared.register.Register.{Register}
-use Rattle.hba_fbs.specs.declared.report.TakeReport.{TakeReport}
-use Rattle.hba_fbs.specs.declared.turn.Turn.{Turn}
-use Rattle.hba_fbs.specs.declared.turn.Turn.TheVariants.{Feeds, Orders, Rests}
-use Rattle.hba_fbs.specs.Deciding.{decided, room_if}
-use Rattle.hba_fbs.specs.Offering.{AcceptsBy, offer_of, refusal_by}
-use Rattle.hba_fbs.specs.Registers.{is_outside}
-use Rattle.hba_fbs.specs.Sending.{Gives, Outgoing, Sends, data_fis, data_with, gathered, outgoing, view_fed, view_sent}
-use Rattle.hba_fbs.specs.Tables.{is_sound, prds_of, sound_command}
-use Rattle.hba_fbs.specs.Taking.{admitted, errors_in, heard, heard_report, place_in, port_of, posted_of, row_for, settled, view_after_hearing}
-use Rattle.hba_fbs.specs.Turning.{Goes, outgoing_at, turn_of}
-use Rattle.hba_fbs.specs.Views.{DeviceView, Port, view_of}
-use Rattle.hba_fbs.specs.Writing.{Accepts, refusal_of}
+use Rattle.host_memory.specs.{Memory.{Memory, client_start}, Place.place, declared.table.Prd.Prd}
+use Rattle.hba_fbs.specs.declared.{error.WriteError.{WriteError, TheVariants.BadTable}, hearing.Heard.Heard, register.Register.Register}
+use Rattle.hba_fbs.specs.{declared.{report.TakeReport.TakeReport, turn.Turn.{Turn, TheVariants.{Feeds, Orders, Rests}}}, Deciding.{decided, room_if}}
+use Rattle.hba_fbs.specs.{Offering.{AcceptsBy, offer_of, refusal_by}, Registers.is_outside, Sending.{Gives, Outgoing, Sends, data_fis, data_with}}
+use Rattle.hba_fbs.specs.{Sending.{gathered, outgoing, view_fed, view_sent}, Tables.{is_sound, prds_of, sound_command}, Taking.{admitted, errors_in}}
+use Rattle.hba_fbs.specs.{Taking.{heard, heard_report, place_in, port_of, posted_of, row_for, settled, view_after_hearing}, Turning.Goes}
+use Rattle.hba_fbs.specs.{Turning.{outgoing_at, turn_of}, Views.{DeviceView, Port, view_of}, Writing.{Accepts, refusal_of}}
 use Rattle.hba_fbs.proofs.Door.{active_is, commands_are, decided_if, outgoing_is, refusal_is, view_is}
-use Rattle.hba_laws.specs.Alike.{bytes_out}
-use Rattle.hba_laws.specs.Cores.{DoesBy, Hearkens, HostsAreCores, IsCore, gave_event}
-use Rattle.hba_laws.specs.Sound.{IsHost}
-use Rattle.hba_laws.specs.Hosts.{Flushed, Gave, Host, TakesFrame, Took, Wrote}
+use Rattle.hba_laws.specs.{Alike.bytes_out, Cores.{DoesBy, Hearkens, HostsAreCores, IsCore, gave_event}, Sound.IsHost, Hosts.{Flushed, Gave, Host}}
+use Rattle.hba_laws.specs.Hosts.{TakesFrame, Took, Wrote}
 
 -- the core of a sound host keeps the rules of every core
 pub is_core : (host : Host) → IsHost host → IsCore host.port

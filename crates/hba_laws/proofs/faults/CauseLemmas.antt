@@ -1,37 +1,21 @@
 -- For `core_causes_stay` and `causes_stay`. Which events leave the cause of a fault as it is.
 use Rattle.std.proofs.Common.{◌≡◌, ◌≢◌, ℕ, ◌<◌, Bool, true, false, ◌||◌, List, [], ◌∷◌, refl, sym, ap, ◌∙◌, inl, inr, Option, Some, None}
-use Rattle.std.specs.Prelude.{◌==◌, ◌&&◌, if◌then◌else◌, is_none, is_some, not, unwrap_or}
-use Rattle.std.specs.Option.{option_map_or}
 use Rattle.std.proofs.lemmas.Bool.{cases_Bool, cases_eq, eqb-false, eqb-true, false≢true, or_parts, true≢false}
-use Rattle.port_errors.specs.Errors.{Errors, after_clear, cleared_device, no_errors, without}
-use Rattle.port_errors.specs.declared.cause.DeviceCause.{DeviceCause}
-use Rattle.port_errors.specs.declared.cause.Stop.{Stop}
-use Rattle.port_errors.specs.declared.cause.Stop.TheVariants as stop
+use Rattle.std.specs.{Prelude.{◌==◌, ◌&&◌, if◌then◌else◌, is_none, is_some, not, unwrap_or}, Option.option_map_or}
+use Rattle.port_errors.specs.{Errors.{Errors, after_clear, cleared_device, no_errors, without}, declared.cause.{DeviceCause.DeviceCause, Stop.Stop}}
 use Rattle.port_errors.specs.declared.cause.PortCause.TheVariants.{Bus}
+use Rattle.port_errors.specs.declared.cause.Stop.TheVariants as stop
 use Rattle.slots.specs.Slots.{has_bit}
-use Rattle.hba_fbs.specs.declared.register.Register.{Register}
-use Rattle.hba_fbs.specs.declared.register.Register.TheVariants.{Ci, Cmd, Fbs}
-use Rattle.hba_fbs.specs.declared.report.TakeReport.{TakeReport}
-use Rattle.hba_fbs.specs.declared.room.Room.{Room}
-use Rattle.hba_fbs.specs.declared.turn.Turn.{Turn}
-use Rattle.hba_fbs.specs.declared.turn.Turn.TheVariants.{Feeds, Orders, Rests}
-use Rattle.hba_fbs.specs.Bits.{dec}
-use Rattle.hba_fbs.specs.Choosing.{Chooses}
-use Rattle.hba_fbs.specs.Greeting.{Greets}
-use Rattle.hba_fbs.specs.Offering.{Offer, aimed_by, view_by, view_issued_by}
-use Rattle.hba_fbs.specs.Registers.{falls}
-use Rattle.hba_fbs.specs.Sending.{Outgoing, Unreadable, outgoing}
-use Rattle.hba_fbs.specs.Stopping.{fallen_view, view_commanded}
-use Rattle.hba_fbs.specs.Taking.{ignores, port_of}
-use Rattle.hba_fbs.specs.Turning.{Turns, turn_of}
-use Rattle.hba_fbs.specs.Views.{DeviceView, Port, stopped_view, view_of}
-use Rattle.hba_fbs.specs.Writing.{cleared_by, errors_after, is_device}
+use Rattle.hba_fbs.specs.declared.{register.Register.{Register, TheVariants.{Ci, Cmd, Fbs}}, report.TakeReport.TakeReport, room.Room.Room}
+use Rattle.hba_fbs.specs.{declared.turn.Turn.{Turn, TheVariants.{Feeds, Orders, Rests}}, Bits.dec, Choosing.Chooses, Greeting.Greets, Offering.Offer}
+use Rattle.hba_fbs.specs.{Offering.{aimed_by, view_by, view_issued_by}, Registers.falls, Sending.{Outgoing, Unreadable, outgoing}}
+use Rattle.hba_fbs.specs.{Stopping.{fallen_view, view_commanded}, Taking.{ignores, port_of}, Turning.{Turns, turn_of}, Views.{DeviceView, Port}}
+use Rattle.hba_fbs.specs.{Views.{stopped_view, view_of}, Writing.{cleared_by, errors_after, is_device}}
 use Rattle.hba_laws.specs.Causes.{DeviceCausesStay, OthersFaultNone, PortCausesStay, clears, clears_port, comes_from}
 use Rattle.hba_laws.specs.CoreCauses.{CoreDeviceCausesStay, CoreOthersFaultNone, CorePortCausesStay, clears_all, clears_by, clears_one, is_from}
-use Rattle.hba_laws.specs.Cores.{Chose, Commanded, CoreEvent, DoesBy, Failed, Flushed, Gave, Greeted, Hearkens, Hung, Overrode, Placed, StepsBy, Took, Wrote, core_event, gave_event}
+use Rattle.hba_laws.specs.Cores.{Chose, Commanded, CoreEvent, DoesBy, Failed, Flushed, Gave, Greeted, Hearkens, Hung, Overrode, Placed, StepsBy, Took}
+use Rattle.hba_laws.specs.{Cores.{Wrote, core_event, gave_event}, Hosts.{Does, Host, HostEvent}, Isolation.lowers_st}
 use Rattle.hba_laws.specs.Hosts as host
-use Rattle.hba_laws.specs.Hosts.{Does, Host, HostEvent}
-use Rattle.hba_laws.specs.Isolation.{lowers_st}
 use Rattle.hba_laws.proofs.cores.CoreHostLemmas.{hosts_are_cores}
 
 abbrev fault_of : ℕ → Port → Option DeviceCause

@@ -1,51 +1,32 @@
 -- For `writes_are_gathered`. Data that goes out for a write is what client memory has at the write's places.
-use Rattle.std.proofs.Common.{◌≡◌, ℕ, zero, suc, ◌+◌, ◌-◌, ◌*◌, ◌<◌, Bool, true, false, cond, eqb, List, [], ◌∷◌, ◌++◌, drop, length, refl, sym, ap, subst, ◌∙◌, Option, Some, None, arith, min}
-use Rattle.std.specs.Prelude.{is_none, not, ◌||◌, nat_lt, slice_get, slice_index, if◌then◌else◌, map}
-use Rattle.std.specs.Option.{option_map}
-use Rattle.std.proofs.lemmas.Bool.{eqb-true, false≢true, and_parts}
-use Rattle.std.proofs.lemmas.List.FromFn.{get_or-map-range_with_len, length-map-range_with_len}
-use Rattle.std.proofs.lemmas.Option.{slice_get-get_or}
+use Rattle.std.proofs.Common.{◌≡◌, ℕ, zero, suc, ◌+◌, ◌-◌, ◌*◌, ◌<◌, Bool, true, false, cond, eqb, List, [], ◌∷◌, ◌++◌, drop, length, refl, sym, ap}
+use Rattle.std.proofs.{Common.{subst, ◌∙◌, Option, Some, None, arith, min}, lemmas.Bool.{eqb-true, false≢true, and_parts}}
+use Rattle.std.proofs.lemmas.{List.FromFn.{get_or-map-range_with_len, length-map-range_with_len}, Option.{slice_get-get_or}}
+use Rattle.std.specs.{Prelude.{is_none, not, ◌||◌, nat_lt, slice_get, slice_index, if◌then◌else◌, map}, Option.option_map}
 use Rattle.fis_view.specs.Seen.{seen}
-use Rattle.host_memory.specs.Memory.{Memory, client_start}
-use Rattle.host_memory.specs.Place.{LiesInClient, place, total_of}
-use Rattle.host_memory.specs.Reading.{first_fault, have_overlap, read_fault}
+use Rattle.host_memory.specs.{Memory.{Memory, client_start}, Place.{LiesInClient, place, total_of}, Reading.{first_fault, have_overlap, read_fault}}
 use Rattle.host_memory.specs.declared.table.Prd.{Prd}
 use Rattle.host_memory.proofs.Door.{inside_from_faults, place_inside}
 use Rattle.hba_commands.specs.declared.command.Command.{Command}
-use Rattle.slots.specs.Data.{payload, payload_len}
-use Rattle.slots.specs.Work.{is_dma, is_read}
-use Rattle.slots.specs.Slots.{DeviceSlots, Issue, context_of, holds, issue_at, match_some, own_issue}
+use Rattle.slots.specs.{Data.{payload, payload_len}, Work.{is_dma, is_read}, Slots.{DeviceSlots, Issue, context_of, holds, issue_at, match_some}}
+use Rattle.slots.specs.{Slots.own_issue, declared.table.Context.Context}
 use Rattle.slots.specs.declared.answer.Answered.TheVariants as answer
-use Rattle.slots.specs.declared.table.Context.{Context}
-use Rattle.hba_fbs.specs.declared.hearing.Happening.{Happening}
-use Rattle.hba_fbs.specs.declared.hearing.Happening.TheVariants as happening
-use Rattle.hba_fbs.specs.declared.register.Register.{Register}
-use Rattle.hba_fbs.specs.declared.register.Register.TheVariants.{Cmd, Ci, Fbs}
-use Rattle.hba_fbs.specs.declared.report.Wrote.{Wrote}
-use Rattle.hba_fbs.specs.declared.status.Block.{Block}
-use Rattle.hba_fbs.specs.Issuing.{aimed, asked}
-use Rattle.hba_fbs.specs.Registers.{falls}
-use Rattle.hba_fbs.specs.Sending.{Outgoing, data_due, data_with, gathered, next_receiver, next_to_send, order_due, outgoing}
-use Rattle.hba_fbs.specs.Sending as out
-use Rattle.hba_fbs.specs.Tables.{is_readable, is_sound, prds_of, sound_command}
-use Rattle.hba_fbs.specs.Taking.{admitted, heard_now, ignores, is_running, port_of}
-use Rattle.hba_fbs.specs.Views.{DeviceView, Port, last_command, view_of}
+use Rattle.hba_fbs.specs.declared.{hearing.Happening.Happening, register.Register.{Register, TheVariants.{Cmd, Ci, Fbs}}, report.Wrote.Wrote}
+use Rattle.hba_fbs.specs.{declared.status.Block.Block, Issuing.{aimed, asked}, Registers.falls, Sending.{Outgoing, data_due, data_with, gathered}}
+use Rattle.hba_fbs.specs.{Sending.{next_receiver, next_to_send, order_due, outgoing}, Tables.{is_readable, is_sound, prds_of, sound_command}}
+use Rattle.hba_fbs.specs.{Taking.{admitted, heard_now, ignores, is_running, port_of}, Views.{DeviceView, Port, last_command, view_of}}
 use Rattle.hba_fbs.specs.Writing.{cleared_by}
-use Rattle.hba_laws.specs.Agreement.{AreHistoriesOf, IsHistoryOf, end_of}
-use Rattle.hba_laws.specs.Client.{By, FillsWithin, Puts, Stops, Touches, client, filling, own}
-use Rattle.hba_laws.specs.Delivering.{begun_by, HasTables, HaveTables, IsClient, by_device, event_heard, event_of, event_taken, is_control_issue, issued_below, issued_in, touched, touched_by_clear, touched_by_out, touched_by_write}
-use Rattle.hba_laws.specs.History.{Carried, Sent, SentControl, SetUp, Setup, is_set_up, issued, last_setup}
-use Rattle.hba_laws.specs.Hosts.{Gave, Host, HostEvent, Took, Wrote as WroteRegister}
-use Rattle.hba_laws.specs.Sent.{AreGathered, DataIsGathered, HoldsWrites, IsGathered}
-use Rattle.hba_laws.specs.Sound.{IsHost}
-use Rattle.hba_laws.specs.Between.{AreQuiet, HasContext, IsOwn}
-use Rattle.hba_laws.proofs.histories.CarryLemmas.{next_is}
-use Rattle.hba_laws.proofs.placed.ClientLemmas.{below_16, context_below, event_is, histories_step, no_fault}
-use Rattle.hba_laws.proofs.histories.CoreEventLemmas.{says_of}
-use Rattle.hba_laws.proofs.placed.SpareLemmas.{event_reads, event_tables}
-use Rattle.hba_laws.proofs.histories.StandLemmas.{fills_as, filling_of, if_there, set_up_setup, some_inj}
-use Rattle.hba_laws.proofs.histories.StepLemmas.{Says}
-use Rattle.hba_laws.proofs.histories.ViewLemmas.{is_own}
+use Rattle.hba_fbs.specs.declared.hearing.Happening.TheVariants as happening
+use Rattle.hba_fbs.specs.Sending as out
+use Rattle.hba_laws.specs.{Agreement.{AreHistoriesOf, IsHistoryOf, end_of}, Client.{By, FillsWithin, Puts, Stops, Touches, client, filling, own}}
+use Rattle.hba_laws.specs.Delivering.{begun_by, HasTables, HaveTables, IsClient, by_device, event_heard, event_of, event_taken, is_control_issue}
+use Rattle.hba_laws.specs.{Delivering.{issued_below, issued_in, touched, touched_by_clear, touched_by_out, touched_by_write}, History.{Carried, Sent}}
+use Rattle.hba_laws.specs.{History.{SentControl, SetUp, Setup, is_set_up, issued, last_setup}, Hosts.{Gave, Host, HostEvent, Took}}
+use Rattle.hba_laws.specs.{Hosts.Wrote as WroteRegister, Sent.{AreGathered, DataIsGathered, HoldsWrites, IsGathered}, Sound.IsHost, Between.AreQuiet}
+use Rattle.hba_laws.specs.Between.{HasContext, IsOwn}
+use Rattle.hba_laws.proofs.{histories.CarryLemmas.next_is, placed.ClientLemmas.{below_16, context_below, event_is, histories_step, no_fault}}
+use Rattle.hba_laws.proofs.{histories.{CoreEventLemmas.says_of, StandLemmas.{fills_as, filling_of}}, placed.SpareLemmas.{event_reads, event_tables}}
+use Rattle.hba_laws.proofs.histories.{StandLemmas.{if_there, set_up_setup, some_inj}, StepLemmas.Says, ViewLemmas.is_own}
 use Rattle.hba_laws.proofs.placed.WithinLemmas.{Carries, CarriesFor, HasSetup, has_setup, heard_carries, within_is}
 
 -- ---- what goes out

@@ -1,18 +1,13 @@
 -- For `delivers`. How issues, context and history agree after one change.
 use Rattle.std.proofs.Common.{◌≡◌, ◌≢◌, ℕ, ◌+◌, Bool, true, false, eqb, ◌∷◌, refl, sym, ap, subst, ◌∙◌, inl, inr, Option, Some, None, arith}
-use Rattle.std.specs.Prelude.{MatchOption, is_some, ◌&&◌, not}
 use Rattle.std.proofs.lemmas.Bool.{cases_eq, eq-eqb, ne_eqb, eqb-true, false≢true}
-use Rattle.slots.specs.Bytes.{came_of, is_over}
-use Rattle.slots.specs.Commands.{answered_issue, sent_issue}
-use Rattle.slots.specs.Setup.{came, dma_context, new_context}
-use Rattle.slots.specs.Slots.{Issue, context_unless, holds, is_pio, is_waiting, match_some}
-use Rattle.slots.specs.declared.table.Context.{Context}
-use Rattle.slots.specs.declared.work.Work.{Work}
-use Rattle.hba_laws.specs.Agreement.{Agrees, ContextAgrees, IssueAgrees, SetupAgrees, is_for, is_pio_issue}
-use Rattle.hba_laws.specs.History.{Answered, History, Named, PioSetUp, Sent, SentControl, SetUp, Setup, bytes_of, carried, filled, is_at, is_set_up, last_setup, pio_setup, unless, waiting_in}
-use Rattle.hba_laws.specs.Between.{at_slot, frees}
-use Rattle.hba_laws.proofs.histories.StandLemmas.{some_inj}
-use Rattle.hba_laws.proofs.histories.ViewLemmas.{at_other, at_same}
+use Rattle.std.specs.Prelude.{MatchOption, is_some, ◌&&◌, not}
+use Rattle.slots.specs.{Bytes.{came_of, is_over}, Commands.{answered_issue, sent_issue}, Setup.{came, dma_context, new_context}, Slots.Issue}
+use Rattle.slots.specs.{Slots.{context_unless, holds, is_pio, is_waiting, match_some}, declared.{table.Context.Context, work.Work.Work}}
+use Rattle.hba_laws.specs.{Agreement.{Agrees, ContextAgrees, IssueAgrees, SetupAgrees, is_for, is_pio_issue}, History.{Answered, History, Named}}
+use Rattle.hba_laws.specs.History.{PioSetUp, Sent, SentControl, SetUp, Setup, bytes_of, carried, filled, is_at, is_set_up, last_setup, pio_setup}
+use Rattle.hba_laws.specs.{History.{unless, waiting_in}, Between.{at_slot, frees}}
+use Rattle.hba_laws.proofs.histories.{StandLemmas.some_inj, ViewLemmas.{at_other, at_same}}
 
 pub unless_some : {A : Type 0} (b : Bool) (o : Option A) (a : A) → unless b o ≡ Some a → (b ≡ false) × (o ≡ Some a)
 unless_some true o a e = cc

@@ -1,21 +1,16 @@
 -- For `delivers`. Which bytes went over once Data came or went, and how many, and what is so when a command is issued.
-use Rattle.std.proofs.Common.{◌≡◌, ◌≢◌, ℕ, zero, suc, ◌+◌, ◌-◌, ◌*◌, ◌/◌, ◌%◌, ◌<◌, ◌≤◌, Bool, true, false, cond, eqb, List, ◌∷◌, length, refl, sym, ap, subst, ◌∙◌, inl, inr, Option, Some, None, arith, min}
-use Rattle.std.specs.Prelude.{MatchOption, is_some, ◌&&◌, ◌||◌, nat_le, nat_lt, slice_get, count_by}
-use Rattle.std.specs.List.{range_with_len}
-use Rattle.std.proofs.lemmas.Bool.{cases_Bool, cases_eq, cases_lt, eq-eqb, ne_eqb, eqb-true, false≢true, and_parts, and_from, lt-ltb, le-leb, ltb-true, leb-true, le-ltb, lt-leb}
-use Rattle.std.proofs.lemmas.List.{get_or_past}
-use Rattle.std.proofs.lemmas.Option.{slice_get-get_or}
-use Rattle.slots.specs.Bytes.{any_over, came_of, is_over, is_within, none_over, with_bytes}
-use Rattle.slots.specs.Data.{moved_on, moved_over}
-use Rattle.slots.specs.Slots.{Issue, holds, new_issue}
-use Rattle.slots.specs.declared.table.Context.{Context}
+use Rattle.std.proofs.Common.{◌≡◌, ◌≢◌, ℕ, zero, suc, ◌+◌, ◌-◌, ◌*◌, ◌/◌, ◌%◌, ◌<◌, ◌≤◌, Bool, true, false, cond, eqb, List, ◌∷◌, length, refl, sym}
+use Rattle.std.proofs.{Common.{ap, subst, ◌∙◌, inl, inr, Option, Some, None, arith, min}, lemmas.Bool.{cases_Bool, cases_eq, cases_lt, eq-eqb}}
+use Rattle.std.proofs.lemmas.Bool.{ne_eqb, eqb-true, false≢true, and_parts, and_from, lt-ltb, le-leb, ltb-true, leb-true, le-ltb, lt-leb}
+use Rattle.std.proofs.lemmas.{List.get_or_past, Option.{slice_get-get_or}}
+use Rattle.std.specs.{Prelude.{MatchOption, is_some, ◌&&◌, ◌||◌, nat_le, nat_lt, slice_get, count_by}, List.range_with_len}
+use Rattle.slots.specs.{Bytes.{any_over, came_of, is_over, is_within, none_over, with_bytes}, Data.{moved_on, moved_over}, Slots.{Issue, holds}}
+use Rattle.slots.specs.{Slots.new_issue, declared.table.Context.Context}
 use Rattle.slots.proofs.Door.{any_at, count_more, length_with_bytes, over_none, over_with_bytes}
-use Rattle.hba_laws.specs.Agreement.{Agrees, ContextAgrees, IssueAgrees, SetupAgrees, is_for, is_pio_issue}
-use Rattle.hba_laws.specs.History.{Carried, History, Issued, Setup, Transfer, bytes_of, filled, filled_from, is_at, is_set_up, last_setup, next_number, unless, waiting_in}
+use Rattle.hba_laws.specs.{Agreement.{Agrees, ContextAgrees, IssueAgrees, SetupAgrees, is_for, is_pio_issue}, History.{Carried, History, Issued}}
+use Rattle.hba_laws.specs.History.{Setup, Transfer, bytes_of, filled, filled_from, is_at, is_set_up, last_setup, next_number, unless, waiting_in}
 use Rattle.hba_laws.specs.Between.{at_slot}
-use Rattle.hba_laws.proofs.histories.StandLemmas.{some_inj}
-use Rattle.hba_laws.proofs.histories.AgreeLemmas.{context_in}
-use Rattle.hba_laws.proofs.histories.ViewLemmas.{at_other, at_same}
+use Rattle.hba_laws.proofs.histories.{StandLemmas.some_inj, AgreeLemmas.context_in, ViewLemmas.{at_other, at_same}}
 
 -- ---- the set of bytes
 

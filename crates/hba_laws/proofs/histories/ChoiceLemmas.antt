@@ -1,20 +1,13 @@
 -- For `core_isolated` and `core_delivers`. What is known of commands that the caller issues and of turns that it chooses.
-use Rattle.std.proofs.Common.{◌≡◌, ℕ, ◌<◌, Bool, true, false, cond, refl, sym, ap, ◌∙◌, Option, Some, None}
+use Rattle.std.proofs.{Common.{◌≡◌, ℕ, ◌<◌, Bool, true, false, cond, refl, sym, ap, ◌∙◌, Option, Some, None}, lemmas.Bool.{false≢true}}
 use Rattle.std.specs.Prelude.{MatchOption, ◌&&◌, if◌then◌else◌, is_some, not}
-use Rattle.std.proofs.lemmas.Bool.{false≢true}
 use Rattle.hba_commands.specs.declared.command.Command.{Command}
 use Rattle.slots.specs.Slots.{Issue, has_bit, issue_at, lowest, own_issue, slots_of, waiting}
 use Rattle.slots.proofs.Door.{none_below}
-use Rattle.hba_fbs.specs.declared.error.IssueError.{IssueError}
-use Rattle.hba_fbs.specs.declared.error.IssueError.TheVariants as refusal
-use Rattle.hba_fbs.specs.declared.turn.Turn.{Turn}
-use Rattle.hba_fbs.specs.declared.turn.Turn.TheVariants.{Feeds, Orders, Rests}
-use Rattle.hba_fbs.specs.Choosing.{GoesTo, MayChoose}
-use Rattle.hba_fbs.specs.Issuing.{any_slot, is_busy}
-use Rattle.hba_fbs.specs.Offering.{Offer, asked_by, is_bad_by}
-use Rattle.hba_fbs.specs.Placing.{issue_error}
-use Rattle.hba_fbs.specs.Turning.{Goes, IsOrdered}
+use Rattle.hba_fbs.specs.{declared.{error.IssueError.IssueError, turn.Turn.{Turn, TheVariants.{Feeds, Orders, Rests}}}, Choosing.{GoesTo, MayChoose}}
+use Rattle.hba_fbs.specs.{Issuing.{any_slot, is_busy}, Offering.{Offer, asked_by, is_bad_by}, Placing.issue_error, Turning.{Goes, IsOrdered}}
 use Rattle.hba_fbs.specs.Views.{DeviceView, Port}
+use Rattle.hba_fbs.specs.declared.error.IssueError.TheVariants as refusal
 use Rattle.hba_fbs.proofs.Door.{own_here}
 
 -- ---- commands are issued in free slots

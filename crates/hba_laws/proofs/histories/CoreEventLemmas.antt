@@ -1,56 +1,34 @@
 -- For `core_delivers`. A device's view says its history after each event of the core, and so after a list of them.
-use Rattle.std.proofs.Common.{◌≡◌, ◌≢◌, ℕ, ◌+◌, ◌%◌, ◌<◌, ◌≤◌, Bool, true, false, cond, eqb, List, [], ◌∷◌, ◌++◌, drop, length, length-drop, refl, sym, ap, subst, ◌∙◌, inl, inr, Option, Some, None, arith, min}
-use Rattle.std.specs.Prelude.{MatchOption, is_some, is_none, ◌&&◌, ◌||◌, ◌==◌, not, nat_le, if◌then◌else◌}
-use Rattle.std.specs.Option.{option_map}
-use Rattle.std.proofs.lemmas.Bool.{cases_Bool, cases_eq, eqb-true, eqb-false, false≢true, true≢false, and_parts, leb-true}
-use Rattle.fis_view.specs.Frames.{IsFrame}
-use Rattle.fis_view.specs.Seen.{seen}
+use Rattle.std.proofs.Common.{◌≡◌, ◌≢◌, ℕ, ◌+◌, ◌%◌, ◌<◌, ◌≤◌, Bool, true, false, cond, eqb, List, [], ◌∷◌, ◌++◌, drop, length, length-drop, refl}
+use Rattle.std.proofs.{Common.{sym, ap, subst, ◌∙◌, inl, inr, Option, Some, None, arith, min}, lemmas.Bool.{cases_Bool, cases_eq, eqb-true}}
+use Rattle.std.proofs.lemmas.Bool.{eqb-false, false≢true, true≢false, and_parts, leb-true}
+use Rattle.std.specs.{Prelude.{MatchOption, is_some, is_none, ◌&&◌, ◌||◌, ◌==◌, not, nat_le, if◌then◌else◌}, Option.option_map}
+use Rattle.fis_view.specs.{Frames.IsFrame, Seen.seen}
 use Rattle.host_memory.specs.declared.table.Prd.{Prd}
 use Rattle.hba_commands.specs.declared.command.Command.{Command}
-use Rattle.slots.specs.Commands.{MayBeSent, after_sent, may_begin, may_go}
-use Rattle.slots.specs.Data.{after_payload, gone_over, payload, payload_len}
-use Rattle.slots.specs.Slots.{DeviceSlots, Issue, Slots, context_of, has_bit, holds, is_control, is_pio, issue_at, match_some, own_issue, owned_by, slots_of, waiting}
-use Rattle.slots.specs.Work.{is_dma, is_read}
-use Rattle.slots.specs.declared.table.Context.{Context}
-use Rattle.slots.specs.declared.work.Kind.{Kind}
-use Rattle.slots.specs.declared.work.Kind.TheVariants.{QueuedRead, PioIn, DmaIn}
+use Rattle.slots.specs.{Commands.{MayBeSent, after_sent, may_begin, may_go}, Data.{after_payload, gone_over, payload, payload_len}, Slots.DeviceSlots}
+use Rattle.slots.specs.Slots.{Issue, Slots, context_of, has_bit, holds, is_control, is_pio, issue_at, match_some, own_issue, owned_by, slots_of}
+use Rattle.slots.specs.{Slots.waiting, Work.{is_dma, is_read}, declared.{table.Context.Context, work.Kind.{Kind, TheVariants.{QueuedRead, PioIn}}}}
+use Rattle.slots.specs.declared.work.Kind.TheVariants.{DmaIn}
 use Rattle.slots.proofs.Door.{lowest_is, own_at}
-use Rattle.hba_fbs.specs.declared.register.Register.{Register}
-use Rattle.hba_fbs.specs.declared.register.Register.TheVariants.{Clb, Cmd, Ci, Fbs}
-use Rattle.hba_fbs.specs.declared.report.TakeReport.{TakeReport}
-use Rattle.hba_fbs.specs.declared.room.Room.{Room}
-use Rattle.hba_fbs.specs.declared.turn.Turn.{Turn}
-use Rattle.hba_fbs.specs.declared.turn.Turn.TheVariants.{Feeds, Orders, Rests}
-use Rattle.hba_fbs.specs.declared.greeting.Line.{Line}
-use Rattle.hba_fbs.specs.declared.state.DeviceState.{DeviceState}
-use Rattle.hba_fbs.specs.declared.status.Block.{Block}
-use Rattle.hba_fbs.specs.Choosing.{Chooses, MayChoose}
-use Rattle.hba_fbs.specs.Deciding.{decided, decided_view}
-use Rattle.hba_fbs.specs.Greeting.{Greets, Hangs, greeted_in, greeted_state, line_view}
-use Rattle.hba_fbs.specs.Issuing.{view_with}
-use Rattle.hba_fbs.specs.Placing.{Places, issue_error}
-use Rattle.hba_fbs.specs.Stopping.{SetsCmd, fallen_view, overridden_state}
-use Rattle.hba_fbs.specs.Offering.{AcceptsBy, Offer, aimed_by, asked_by, refusal_by, view_by, view_issued_by}
-use Rattle.hba_fbs.specs.Registers.{falls}
-use Rattle.hba_fbs.specs.Sending.{block_sent, faulty_devices, next_receiver, next_to_send, ready_devices, stopped_by_bus, view_fed, view_sent}
-use Rattle.hba_fbs.specs.Taking.{admitted, ignores, is_running, port_of}
-use Rattle.hba_fbs.specs.Turning.{Goes, Turns, feeds, orders, turn_of}
-use Rattle.hba_fbs.specs.Views.{DeviceView, LeavesOtherViews, Port, flushed_view, last_command, stopped_view, view_of}
-use Rattle.hba_fbs.specs.Writing.{cleared_by, is_device}
-use Rattle.hba_laws.specs.Agreement.{IsTold, end_of, is_pio_issue}
-use Rattle.hba_laws.specs.Alike.{told_issued}
-use Rattle.hba_laws.specs.CoreHistories.{CoreViewsAreTold, IsFramedBy, event_by, happened, turned_for, written_for}
-use Rattle.hba_laws.specs.Cores.{Chose, Commanded, CoreEvent, DoesBy, Failed, Flushed, Gave, Greeted, HasBytes, Hearkens, Hung, IsCore, Overrode, Placed, Took, Wrote}
-use Rattle.hba_laws.specs.Delivering.{begun_by, event_heard, event_sent, is_control_issue}
-use Rattle.hba_laws.specs.History.{Carried, Emptied, Event, History, Sent, SentControl, SetUp}
+use Rattle.hba_fbs.specs.declared.{register.Register.{Register, TheVariants.{Clb, Cmd, Ci, Fbs}}, report.TakeReport.TakeReport, room.Room.Room}
+use Rattle.hba_fbs.specs.declared.{turn.Turn.{Turn, TheVariants.{Feeds, Orders, Rests}}, greeting.Line.Line, state.DeviceState.DeviceState}
+use Rattle.hba_fbs.specs.{declared.status.Block.Block, Choosing.{Chooses, MayChoose}, Deciding.{decided, decided_view}, Greeting.{Greets, Hangs}}
+use Rattle.hba_fbs.specs.{Greeting.{greeted_in, greeted_state, line_view}, Issuing.view_with, Placing.{Places, issue_error}, Stopping.SetsCmd}
+use Rattle.hba_fbs.specs.{Stopping.{fallen_view, overridden_state}, Offering.{AcceptsBy, Offer, aimed_by, asked_by, refusal_by, view_by}}
+use Rattle.hba_fbs.specs.{Offering.view_issued_by, Registers.falls, Sending.{block_sent, faulty_devices, next_receiver, next_to_send, ready_devices}}
+use Rattle.hba_fbs.specs.{Sending.{stopped_by_bus, view_fed, view_sent}, Taking.{admitted, ignores, is_running, port_of}, Turning.{Goes, Turns}}
+use Rattle.hba_fbs.specs.{Turning.{feeds, orders, turn_of}, Views.{DeviceView, LeavesOtherViews, Port, flushed_view, last_command, stopped_view}}
+use Rattle.hba_fbs.specs.{Views.view_of, Writing.{cleared_by, is_device}}
+use Rattle.hba_laws.specs.{Agreement.{IsTold, end_of, is_pio_issue}, Alike.told_issued, CoreHistories.{CoreViewsAreTold, IsFramedBy, event_by}}
+use Rattle.hba_laws.specs.{CoreHistories.{happened, turned_for, written_for}, Cores.{Chose, Commanded, CoreEvent, DoesBy, Failed, Flushed, Gave}}
+use Rattle.hba_laws.specs.{Cores.{Greeted, HasBytes, Hearkens, Hung, IsCore, Overrode, Placed, Took, Wrote}, Delivering.{begun_by, event_heard}}
+use Rattle.hba_laws.specs.{Delivering.{event_sent, is_control_issue}, History.{Carried, Emptied, Event, History, Sent, SentControl, SetUp}}
 use Rattle.hba_laws.specs.Between.{HasContext, IsOwn}
-use Rattle.hba_laws.proofs.histories.ChoiceLemmas.{as_goes, placed_free}
-use Rattle.hba_laws.proofs.histories.DataLemmas.{ends_block, says_carried}
-use Rattle.hba_laws.proofs.histories.HearLemmas.{decided_follows, with_event}
-use Rattle.hba_laws.proofs.histories.IssueLemmas.{offered_free, says_issued}
-use Rattle.hba_laws.proofs.histories.ResetLemmas.{reset_told}
-use Rattle.hba_laws.proofs.histories.StepLemmas.{Says, control_no_dma, ends_after, says_control, says_emptied, says_sent}
-use Rattle.hba_laws.proofs.histories.ViewLemmas.{held, holds_at, is_own, own_here}
+use Rattle.hba_laws.proofs.histories.{ChoiceLemmas.{as_goes, placed_free}, DataLemmas.{ends_block, says_carried}, HearLemmas.decided_follows}
+use Rattle.hba_laws.proofs.histories.{HearLemmas.with_event, IssueLemmas.{offered_free, says_issued}, ResetLemmas.reset_told, StepLemmas.Says}
+use Rattle.hba_laws.proofs.histories.{StepLemmas.{control_no_dma, ends_after, says_control, says_emptied, says_sent}, ViewLemmas.{held, holds_at}}
+use Rattle.hba_laws.proofs.histories.ViewLemmas.{is_own, own_here}
 
 pub says_of : (v : DeviceView) (past : History) → IsTold v past → Says v.slots (option_map end_of v.state.block) past
 says_of v past t = record { issued = t.issued; agrees = t.agrees }

@@ -1,25 +1,17 @@
 -- For `delivers`. What a device's part of the slots says after Data, and after the end of a block.
-use Rattle.std.proofs.Common.{◌≡◌, ℕ, ◌+◌, ◌%◌, ◌≤◌, Bool, true, false, cond, eqb, List, ◌∷◌, length, refl, sym, ap, subst, ◌∙◌, inl, inr, Option, Some, None, arith}
-use Rattle.std.specs.Prelude.{MatchOption, is_some, ◌&&◌, ◌||◌}
-use Rattle.std.specs.Option.{option_map}
-use Rattle.std.proofs.lemmas.Bool.{and_parts, cases_eq, eq-eqb, ne_eqb, false≢true}
-use Rattle.slots.specs.Commands.{after_pio_done, is_slot, whole_pio}
-use Rattle.slots.specs.Data.{gone_over, moved_on, moved_over}
-use Rattle.slots.specs.Slots.{DeviceSlots, Issue, context_unless, freed, holds, is_pio, is_sent_pio, is_under_way, is_whole_issue, lowest, match_some, own_issue, sent_pio}
-use Rattle.slots.specs.declared.table.Context.{Context}
-use Rattle.slots.specs.Table.{IsIssue}
-use Rattle.slots.specs.Work.{is_queued, needs_all}
+use Rattle.std.proofs.Common.{◌≡◌, ℕ, ◌+◌, ◌%◌, ◌≤◌, Bool, true, false, cond, eqb, List, ◌∷◌, length, refl, sym, ap, subst, ◌∙◌, inl, inr, Option}
+use Rattle.std.proofs.{Common.{Some, None, arith}, lemmas.Bool.{and_parts, cases_eq, eq-eqb, ne_eqb, false≢true}}
+use Rattle.std.specs.{Prelude.{MatchOption, is_some, ◌&&◌, ◌||◌}, Option.option_map}
+use Rattle.slots.specs.{Commands.{after_pio_done, is_slot, whole_pio}, Data.{gone_over, moved_on, moved_over}, Slots.{DeviceSlots, Issue}}
+use Rattle.slots.specs.Slots.{context_unless, freed, holds, is_pio, is_sent_pio, is_under_way, is_whole_issue, lowest, match_some, own_issue}
+use Rattle.slots.specs.{Slots.sent_pio, declared.table.Context.Context, Table.IsIssue, Work.{is_queued, needs_all}}
 use Rattle.slots.proofs.Door.{whole_dwords}
-use Rattle.hba_fbs.specs.Hearing.{block_ended}
-use Rattle.hba_fbs.specs.Status.{is_quiet}
-use Rattle.hba_laws.specs.Agreement.{Agrees, AreIssued, SetupAgrees, is_pio_issue}
-use Rattle.hba_laws.specs.History.{Carried, History, Setup, carried, completes, ends_well, is_set_up, last_setup}
-use Rattle.hba_laws.specs.Between.{HasContext, IsOwn, at_slot, frees}
-use Rattle.hba_laws.proofs.histories.StandLemmas.{some_inj}
-use Rattle.hba_laws.proofs.histories.AgreeLemmas.{agrees_freed}
-use Rattle.hba_laws.proofs.histories.CarryLemmas.{agrees_carried}
-use Rattle.hba_laws.proofs.histories.StepLemmas.{Says, frees_completed, kept, not_queued, pio_slot, whole_is, works_marked}
-use Rattle.hba_laws.proofs.histories.ViewLemmas.{at_other, at_same, ext, holds_at, own_below, own_freed, own_set}
+use Rattle.hba_fbs.specs.{Hearing.block_ended, Status.is_quiet}
+use Rattle.hba_laws.specs.{Agreement.{Agrees, AreIssued, SetupAgrees, is_pio_issue}, History.{Carried, History, Setup, carried, completes, ends_well}}
+use Rattle.hba_laws.specs.{History.{is_set_up, last_setup}, Between.{HasContext, IsOwn, at_slot, frees}}
+use Rattle.hba_laws.proofs.histories.{StandLemmas.some_inj, AgreeLemmas.agrees_freed, CarryLemmas.agrees_carried, StepLemmas.{Says, frees_completed}}
+use Rattle.hba_laws.proofs.histories.{StepLemmas.{kept, not_queued, pio_slot, whole_is, works_marked}, ViewLemmas.{at_other, at_same, ext, holds_at}}
+use Rattle.hba_laws.proofs.histories.ViewLemmas.{own_below, own_freed, own_set}
 
 -- whether bytes that are the last of their setup, or not, end a block well
 abbrev pub ends_block : Option ℕ → Bool → Bool

@@ -1,45 +1,26 @@
 -- For `delivers`. A device's view says its history after each event of a host, and so after a list of them.
-use Rattle.std.proofs.Common.{◌≡◌, ℕ, zero, suc, ◌<◌, Bool, true, false, cond, List, [], ◌∷◌, ◌++◌, drop, refl, sym, ap, subst, ◌∙◌, Option, Some, None}
+use Rattle.std.proofs.Common.{◌≡◌, ℕ, zero, suc, ◌<◌, Bool, true, false, cond, List, [], ◌∷◌, ◌++◌, drop, refl, sym, ap, subst, ◌∙◌, Option, Some}
+use Rattle.std.proofs.{Common.None, lemmas.Bool.{eq-eqb, eqb-true, eqb-false}}
 use Rattle.std.specs.Prelude.{◌==◌, not, if◌then◌else◌, map}
-use Rattle.std.proofs.lemmas.Bool.{eq-eqb, eqb-true, eqb-false}
-use Rattle.fis_view.specs.Frames.{Stamped}
-use Rattle.fis_view.specs.Seen.{seen}
+use Rattle.fis_view.specs.{Frames.Stamped, Seen.seen}
 use Rattle.host_memory.specs.Memory.{Memory}
 use Rattle.hba_commands.specs.declared.command.Command.{Command}
-use Rattle.slots.specs.Data.{payload, payload_len}
-use Rattle.slots.specs.Slots.{Issue, context_of, issue_at, match_some}
-use Rattle.slots.specs.declared.table.Context.{Context}
-use Rattle.hba_fbs.specs.declared.hearing.Heard.{Heard}
-use Rattle.hba_fbs.specs.declared.register.Register.{Register}
-use Rattle.hba_fbs.specs.declared.register.Register.TheVariants.{Cmd, Ci, Fbs}
-use Rattle.hba_fbs.specs.declared.turn.Turn.{Turn}
-use Rattle.hba_fbs.specs.declared.turn.Turn.TheVariants.{Feeds, Orders, Rests}
-use Rattle.hba_fbs.specs.Deciding.{room_if}
-use Rattle.hba_fbs.specs.Issuing.{aimed, asked}
-use Rattle.hba_fbs.specs.Offering.{offer_of}
-use Rattle.hba_fbs.specs.Registers.{falls}
-use Rattle.hba_fbs.specs.Sending.{Gives, Outgoing, Unreadable, data_due, data_with, next_receiver, next_to_send, order_due, outgoing}
+use Rattle.slots.specs.{Data.{payload, payload_len}, Slots.{Issue, context_of, issue_at, match_some}, declared.table.Context.Context}
+use Rattle.hba_fbs.specs.declared.{hearing.Heard.Heard, register.Register.{Register, TheVariants.{Cmd, Ci, Fbs}}, turn.Turn.{Turn, TheVariants.Feeds}}
+use Rattle.hba_fbs.specs.{declared.turn.Turn.TheVariants.{Orders, Rests}, Deciding.room_if, Issuing.{aimed, asked}, Offering.offer_of}
+use Rattle.hba_fbs.specs.{Registers.falls, Sending.{Gives, Outgoing, Unreadable, data_due, data_with, next_receiver, next_to_send, order_due}}
+use Rattle.hba_fbs.specs.{Sending.outgoing, Tables.{is_sound, prds_of, sound_command}, Taking.{admitted, ignores, is_running, port_of}}
+use Rattle.hba_fbs.specs.{Turning.{outgoing_at, turn_of}, Views.{DeviceView, Port, last_command, view_of}, Writing.{cleared_by, is_device}}
 use Rattle.hba_fbs.specs.Sending as out
-use Rattle.hba_fbs.specs.Tables.{is_sound, prds_of, sound_command}
-use Rattle.hba_fbs.specs.Taking.{admitted, ignores, is_running, port_of}
-use Rattle.hba_fbs.specs.Turning.{outgoing_at, turn_of}
-use Rattle.hba_fbs.specs.Views.{DeviceView, Port, last_command, view_of}
-use Rattle.hba_fbs.specs.Writing.{cleared_by, is_device}
 use Rattle.hba_fbs.proofs.Door.{decided_if, outgoing_is}
-use Rattle.hba_laws.specs.Agreement.{IsHistoryOf, IsTold}
-use Rattle.hba_laws.specs.Alike.{bytes_out, tables_in, told_issue, told_issued}
-use Rattle.hba_laws.specs.Client.{By, Stops, own}
-use Rattle.hba_laws.specs.CoreHistories.{IsFramedBy, event_by, happened, turned_for}
+use Rattle.hba_laws.specs.{Agreement.{IsHistoryOf, IsTold}, Alike.{bytes_out, tables_in, told_issue, told_issued}, Client.{By, Stops, own}}
+use Rattle.hba_laws.specs.{CoreHistories.{IsFramedBy, event_by, happened, turned_for}, Cores.{CoreEvent, DoesBy, StepsBy, core_event, gave_event}}
+use Rattle.hba_laws.specs.Delivering.{HistoriesAreParts, IsFramed, ViewsAreTold, begun_by, by_device, event_heard, event_sent, event_taken}
+use Rattle.hba_laws.specs.{Delivering.{history_after, issued_below, touched, touched_by_clear, touched_by_out, touched_by_write}, History.Carried}
+use Rattle.hba_laws.specs.{History.{Emptied, Event, History}, Hosts.{Does, Flushed, Gave, Host, HostEvent, Took, Wrote}, Isolation.Issued}
+use Rattle.hba_laws.specs.{Sound.IsHost, Between.{GoesOut, history_below, with_issued}}
 use Rattle.hba_laws.specs.Cores as core
-use Rattle.hba_laws.specs.Cores.{CoreEvent, DoesBy, StepsBy, core_event, gave_event}
-use Rattle.hba_laws.specs.Delivering.{HistoriesAreParts, IsFramed, ViewsAreTold, begun_by, by_device, event_heard, event_sent, event_taken, history_after, issued_below, touched, touched_by_clear, touched_by_out, touched_by_write}
-use Rattle.hba_laws.specs.History.{Carried, Emptied, Event, History}
-use Rattle.hba_laws.specs.Hosts.{Does, Flushed, Gave, Host, HostEvent, Took, Wrote}
-use Rattle.hba_laws.specs.Isolation.{Issued}
-use Rattle.hba_laws.specs.Sound.{IsHost}
-use Rattle.hba_laws.specs.Between.{GoesOut, history_below, with_issued}
-use Rattle.hba_laws.proofs.cores.CoreHostLemmas.{hosts_are_cores, is_core}
-use Rattle.hba_laws.proofs.histories.CoreEventLemmas.{IsNext, next_found, step_by}
+use Rattle.hba_laws.proofs.{cores.CoreHostLemmas.{hosts_are_cores, is_core}, histories.CoreEventLemmas.{IsNext, next_found, step_by}}
 use Rattle.hba_laws.proofs.histories.IssueLemmas.{other_below, own_app, own_below_is}
 
 pub own_one : (n dev : ℕ) (x : Event) (past : History) → dev ≡ n → own n (By dev x ∷ []) ++ past ≡ x ∷ past

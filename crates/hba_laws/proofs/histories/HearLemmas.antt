@@ -1,47 +1,27 @@
 -- For `delivers`. What a device's part of the slots says after a FIS that is heard.
-use Rattle.std.proofs.Common.{◌≡◌, ℕ, ◌-◌, ◌%◌, ◌≤◌, Bool, true, false, cond, eqb, List, ◌∷◌, drop, length, refl, sym, ap, subst, ◌∙◌, Option, Some, None, arith, length-drop}
-use Rattle.std.specs.Prelude.{if◌then◌else◌, is_ok, is_some, ◌&&◌, not, nat_lt, Result, Ok, Err}
-use Rattle.std.specs.Option.{option_map}
-use Rattle.std.proofs.lemmas.Bool.{false≢true, ltb-false}
-use Rattle.fis_view.specs.Seen.{kind_of, may_have, seen, view_as}
-use Rattle.fis_view.specs.Table.{Kind, H2d, D2h, Activate, Setup, Data, Pio, Bits, Other}
+use Rattle.std.proofs.Common.{◌≡◌, ℕ, ◌-◌, ◌%◌, ◌≤◌, Bool, true, false, cond, eqb, List, ◌∷◌, drop, length, refl, sym, ap, subst, ◌∙◌, Option, Some}
+use Rattle.std.proofs.{Common.{None, arith, length-drop}, lemmas.Bool.{false≢true, ltb-false}}
+use Rattle.std.specs.{Prelude.{if◌then◌else◌, is_ok, is_some, ◌&&◌, not, nat_lt, Result, Ok, Err}, Option.option_map}
+use Rattle.fis_view.specs.{Seen.{kind_of, may_have, seen, view_as}, Table.{Kind, H2d, D2h, Activate, Setup, Data, Pio, Bits, Other, field}}
+use Rattle.fis_view.specs.declared.view.{Fis.Fis, FisFault.{FisFault, TheVariants.WrongLength}}
 use Rattle.fis_view.specs.Table as table
-use Rattle.fis_view.specs.Table.{field}
-use Rattle.fis_view.specs.declared.view.Fis.{Fis}
 use Rattle.fis_view.specs.declared.view.Fis.TheVariants as view
-use Rattle.fis_view.specs.declared.view.FisFault.{FisFault}
-use Rattle.fis_view.specs.declared.view.FisFault.TheVariants.{WrongLength}
 use Rattle.port_errors.specs.declared.cause.DeviceCause.TheVariants as cause
-use Rattle.slots.specs.Commands.{answer_for, answer_of, answered_as, completed}
-use Rattle.slots.specs.Data.{activated, after_arrive, arrive_answer, gone_over, may_activate}
-use Rattle.slots.specs.Setup.{dma_context, out_setup, pio_fault, pio_issue, setup_fault}
-use Rattle.slots.specs.Work.{needs_all}
-use Rattle.slots.specs.Slots.{DeviceSlots, Issue, holds, is_queued_issue, is_waiting, is_whole_issue, match_some, own_issue, sent_pio, waiting}
-use Rattle.slots.specs.declared.answer.Answered.{Answered}
+use Rattle.slots.specs.{Commands.{answer_for, answer_of, answered_as, completed}, Data.{activated, after_arrive, arrive_answer, gone_over}}
+use Rattle.slots.specs.{Data.may_activate, Setup.{dma_context, out_setup, pio_fault, pio_issue, setup_fault}, Work.needs_all, Slots.DeviceSlots}
+use Rattle.slots.specs.Slots.{Issue, holds, is_queued_issue, is_waiting, is_whole_issue, match_some, own_issue, sent_pio, waiting}
+use Rattle.slots.specs.declared.{answer.{Answered.Answered, SetupError.SetupError}, table.Context.Context}
 use Rattle.slots.specs.declared.answer.Answered.TheVariants as answer
-use Rattle.slots.specs.declared.answer.SetupError.{SetupError}
-use Rattle.slots.specs.declared.table.Context.{Context}
 use Rattle.slots.proofs.Door.{lowest_is}
-use Rattle.hba_fbs.specs.declared.hearing.Heard.{Heard}
+use Rattle.hba_fbs.specs.declared.{hearing.Heard.Heard, report.Wrote.Wrote, room.Room.{Room, TheVariants.{Bytes, NoTable, Whole}}}
+use Rattle.hba_fbs.specs.{declared.{state.DeviceState.DeviceState, status.Block.Block}, Deciding.{decided, heard_within, is_past}, Hearing.answered}
+use Rattle.hba_fbs.specs.Hearing.{block_ended, block_of, bus_failed, faulty, heard_bytes, heard_d2h, heard_data, heard_data_of, heard_fis, heard_out}
+use Rattle.hba_fbs.specs.{Hearing.{heard_setup, is_admitted, moved, named, overflowed, quietly, set_up, tag_of}, Status.{after_reset, is_busy}}
+use Rattle.hba_fbs.specs.{Status.{is_error, is_quiet, with_bits, with_file}, Taking.{admitted, heard}, Views.DeviceView}
 use Rattle.hba_fbs.specs.declared.hearing.Happening.TheVariants as happening
-use Rattle.hba_fbs.specs.declared.report.Wrote.{Wrote}
-use Rattle.hba_fbs.specs.declared.room.Room.{Room}
-use Rattle.hba_fbs.specs.declared.room.Room.TheVariants.{Bytes, NoTable, Whole}
-use Rattle.hba_fbs.specs.declared.state.DeviceState.{DeviceState}
-use Rattle.hba_fbs.specs.declared.status.Block.{Block}
-use Rattle.hba_fbs.specs.Deciding.{decided, heard_within, is_past}
-use Rattle.hba_fbs.specs.Hearing.{answered, block_ended, block_of, bus_failed, faulty, heard_bytes, heard_d2h, heard_data, heard_data_of, heard_fis, heard_out, heard_setup, is_admitted, moved, named, overflowed, quietly, set_up, tag_of}
-use Rattle.hba_fbs.specs.Status.{after_reset, is_busy, is_error, is_quiet, with_bits, with_file}
-use Rattle.hba_fbs.specs.Taking.{admitted, heard}
-use Rattle.hba_fbs.specs.Views.{DeviceView}
-use Rattle.hba_laws.specs.Agreement.{end_of}
-use Rattle.hba_laws.specs.Delivering.{event_heard, event_of_answer}
-use Rattle.hba_laws.specs.History.{Event, History}
-use Rattle.hba_laws.specs.Between.{IsOwn}
-use Rattle.hba_laws.proofs.histories.AgreeLemmas.{agrees_activated}
-use Rattle.hba_laws.proofs.histories.DataLemmas.{ends_block, says_block}
-use Rattle.hba_laws.proofs.histories.StepLemmas.{Says, says_done, says_named, says_nobody, says_out, says_pio, says_queued, says_set_up}
-use Rattle.hba_laws.proofs.histories.ViewLemmas.{held}
+use Rattle.hba_laws.specs.{Agreement.end_of, Delivering.{event_heard, event_of_answer}, History.{Event, History}, Between.IsOwn}
+use Rattle.hba_laws.proofs.histories.{AgreeLemmas.agrees_activated, DataLemmas.{ends_block, says_block}, StepLemmas.{Says, says_done, says_named}}
+use Rattle.hba_laws.proofs.histories.{StepLemmas.{says_nobody, says_out, says_pio, says_queued, says_set_up}, ViewLemmas.held}
 
 abbrev pub with_event : Option Event → History → History
 with_event None past = past

@@ -1,32 +1,20 @@
 -- For `delivers`. What a device's part of the slots says once a write of PxCI issued commands.
-use Rattle.std.proofs.Common.{◌≡◌, ◌≢◌, ℕ, zero, suc, ◌<◌, ◌≤◌, Bool, true, false, cond, eqb, [], ◌∷◌, ◌++◌, length, refl, sym, ap, subst, ◌∙◌, inl, inr, List, Option, Some, None, arith, append_assoc}
-use Rattle.std.specs.Prelude.{is_some, ◌&&◌, ◌==◌, not, if◌then◌else◌}
-use Rattle.std.specs.Option.{option_map, option_or}
-use Rattle.std.proofs.lemmas.Bool.{cases_Bool, cases_eq, cases_lt, eq-eqb, eqb-true, ne_eqb, false≢true, true≢false, lt-ltb, le-ltb}
-use Rattle.host_memory.specs.Memory.{Memory}
-use Rattle.host_memory.specs.declared.table.Prd.{Prd}
+use Rattle.std.proofs.Common.{◌≡◌, ◌≢◌, ℕ, zero, suc, ◌<◌, ◌≤◌, Bool, true, false, cond, eqb, [], ◌∷◌, ◌++◌, length, refl, sym, ap, subst, ◌∙◌, inl}
+use Rattle.std.proofs.{Common.{inr, List, Option, Some, None, arith, append_assoc}, lemmas.Bool.{cases_Bool, cases_eq, cases_lt, eq-eqb, eqb-true}}
+use Rattle.std.proofs.lemmas.{Bool.{ne_eqb, false≢true, true≢false, lt-ltb, le-ltb}, Nat.Bits.{bit_at-zero}}
+use Rattle.std.specs.{Prelude.{is_some, ◌&&◌, ◌==◌, not, if◌then◌else◌}, Option.{option_map, option_or}}
+use Rattle.host_memory.specs.{Memory.Memory, declared.table.Prd.Prd}
 use Rattle.hba_commands.specs.declared.command.Command.{Command}
 use Rattle.slots.specs.Slots.{DeviceSlots, Issue, has_bit, issue_at, lowest, new_issue, own_issue}
 use Rattle.slots.proofs.Door.{none_below}
-use Rattle.std.proofs.lemmas.Nat.Bits.{bit_at-zero}
-use Rattle.hba_fbs.specs.declared.error.WriteError.{WriteError}
+use Rattle.hba_fbs.specs.{declared.{error.WriteError.WriteError, register.Register.TheVariants.Ci}, Issuing.{asked, is_busy, issue_with}}
+use Rattle.hba_fbs.specs.{Issuing.issued_slots, Offering.{Offer, asked_by, offer_of, refusal_by, slots_refusal_by}, Registers.own_refusal}
+use Rattle.hba_fbs.specs.{Registers.own_refusal_by, Views.Port, Writing.refusal_of}
 use Rattle.hba_fbs.specs.declared.error.WriteError.TheVariants as refusal
-use Rattle.hba_fbs.specs.declared.register.Register.TheVariants.{Ci}
-use Rattle.hba_fbs.specs.Issuing.{asked, is_busy, issue_with, issued_slots}
-use Rattle.hba_fbs.specs.Offering.{Offer, asked_by, offer_of, refusal_by, slots_refusal_by}
-use Rattle.hba_fbs.specs.Registers.{own_refusal, own_refusal_by}
-use Rattle.hba_fbs.specs.Views.{Port}
-use Rattle.hba_fbs.specs.Writing.{refusal_of}
-use Rattle.hba_laws.specs.Agreement.{Agrees, AreIssued, work_of_issue, work_of_transfer}
-use Rattle.hba_laws.specs.Client.{By, Puts, Stops, Touches, own}
-use Rattle.hba_laws.specs.Alike.{told_issue, told_issued}
-use Rattle.hba_laws.specs.Delivering.{issued_below, issued_in}
-use Rattle.hba_laws.specs.History.{Emptied, History, Issued, issued}
-use Rattle.hba_laws.specs.Between.{at_slot, history_below, issue_below, transfer_of, with_issued}
-use Rattle.hba_laws.proofs.soundness.WriteLemmas.{free_by}
-use Rattle.hba_laws.proofs.cores.CoreHostLemmas.{core_accepts}
-use Rattle.hba_laws.proofs.histories.CarryLemmas.{agrees_issued}
-use Rattle.hba_laws.proofs.histories.StepLemmas.{Says}
+use Rattle.hba_laws.specs.{Agreement.{Agrees, AreIssued, work_of_issue, work_of_transfer}, Client.{By, Puts, Stops, Touches, own}, Alike.told_issue}
+use Rattle.hba_laws.specs.{Alike.told_issued, Delivering.{issued_below, issued_in}, History.{Emptied, History, Issued, issued}, Between.at_slot}
+use Rattle.hba_laws.specs.Between.{history_below, issue_below, transfer_of, with_issued}
+use Rattle.hba_laws.proofs.{soundness.WriteLemmas.free_by, cores.CoreHostLemmas.core_accepts, histories.{CarryLemmas.agrees_issued, StepLemmas.Says}}
 use Rattle.hba_laws.proofs.histories.ViewLemmas.{at_other, at_same, ext, own_issued}
 
 -- ---- touches and histories

@@ -1,13 +1,10 @@
 -- For `delivers` and `core_delivers`. No device of a port that opens, or that was reset, has a command.
 use Rattle.std.proofs.Common.{◌≡◌, ℕ, [], ◌∷◌, get_or, length, map, replicate, refl, sym, ap, ◌∙◌, inl, inr, Option, Some, None, arith}
+use Rattle.std.proofs.lemmas.{Bool.cases_lt, List.{get_or-map, get_or-replicate, get_or_past, length-map, length-replicate}}
 use Rattle.std.specs.Option.{option_map}
-use Rattle.std.proofs.lemmas.Bool.{cases_lt}
-use Rattle.std.proofs.lemmas.List.{get_or-map, get_or-replicate, get_or_past, length-map, length-replicate}
-use Rattle.slots.specs.Slots.{Issue, owned_by}
-use Rattle.slots.specs.declared.table.Context.{Context}
+use Rattle.slots.specs.{Slots.{Issue, owned_by}, declared.table.Context.Context}
 use Rattle.hba_fbs.specs.Views.{opening_port, view_of}
-use Rattle.hba_laws.specs.Agreement.{IsTold, work_of_issue}
-use Rattle.hba_laws.specs.History.{Emptied, History}
+use Rattle.hba_laws.specs.{Agreement.{IsTold, work_of_issue}, History.{Emptied, History}}
 
 no_issue : (m k : ℕ) (o : Option Issue) → o ≡ None → get_or (replicate m o) k None ≡ None
 no_issue m k o e = elim (cases_lt k m) [

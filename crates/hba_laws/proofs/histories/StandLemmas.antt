@@ -1,19 +1,17 @@
 -- For `delivers`. Each filled byte of an issued read stands at its place.
-use Rattle.std.proofs.Common.{◌≡◌, ◌≢◌, ℕ, ◌+◌, ◌-◌, ◌<◌, ◌≤◌, Bool, true, false, cond, eqb, List, [], ◌∷◌, length, get_or, refl, sym, ap, subst, ◌∙◌, inl, inr, Option, Some, None, ◌⊎◌, arith}
-use Rattle.std.specs.Prelude.{MatchOption, is_some, ◌&&◌, ◌||◌, not, nat_le, nat_lt, slice_get}
-use Rattle.std.specs.List.{range_with_len}
-use Rattle.std.proofs.lemmas.Bool.{cases_Bool, eq-eqb, eqb-true, false≢true, and_parts, ltb-true, leb-true, lt-ltb, le-leb, and_from}
-use Rattle.std.proofs.lemmas.List.Folds.{list_all_at}
-use Rattle.std.proofs.lemmas.List.FromFn.{get_or-range_with_len, length-range_with_len}
+use Rattle.std.proofs.Common.{◌≡◌, ◌≢◌, ℕ, ◌+◌, ◌-◌, ◌<◌, ◌≤◌, Bool, true, false, cond, eqb, List, [], ◌∷◌, length, get_or, refl, sym, ap, subst, ◌∙◌}
+use Rattle.std.proofs.{Common.{inl, inr, Option, Some, None, ◌⊎◌, arith}, lemmas.Bool.{cases_Bool, eq-eqb, eqb-true, false≢true, and_parts, ltb-true}}
+use Rattle.std.proofs.lemmas.{Bool.{leb-true, lt-ltb, le-leb, and_from}, List.{Folds.list_all_at, FromFn.{get_or-range_with_len}}}
+use Rattle.std.proofs.lemmas.List.FromFn.{length-range_with_len}
+use Rattle.std.specs.{Prelude.{MatchOption, is_some, ◌&&◌, ◌||◌, not, nat_le, nat_lt, slice_get}, List.range_with_len}
 use Rattle.host_memory.specs.Place.{place, written}
 use Rattle.host_memory.proofs.Door.{written_at, written_elsewhere}
-use Rattle.slots.specs.Slots.{has_bit, match_some}
-use Rattle.slots.specs.Work.{is_queued, is_read, needs_all}
-use Rattle.slots.specs.declared.work.Kind.{Kind}
-use Rattle.slots.specs.declared.work.Kind.TheVariants.{QueuedRead, DmaIn, PioIn}
-use Rattle.hba_laws.specs.Client.{AreApart, AreWithin, By, CompletesInPlace, Filling, FillsWithin, IsKept, IsReading, IsWithin, Puts, StandsInPlace, Stops, Touches, client, filling, filling_by, own}
-use Rattle.hba_laws.specs.History.{Answered, Carried, Emptied, Event, History, Issued, Named, PioSetUp, SentControl, SetUp, Setup, Transfer, bytes_of, completes, filled, filled_from, is_all_filled, is_at, is_set_up, issued, last_setup, next_number, none_filled, pio_setup, unless, waiting_in}
-use Rattle.hba_laws.specs.Between.{IsFilling}
+use Rattle.slots.specs.{Slots.{has_bit, match_some}, Work.{is_queued, is_read, needs_all}, declared.work.Kind.{Kind, TheVariants.{QueuedRead, DmaIn}}}
+use Rattle.slots.specs.declared.work.Kind.TheVariants.{PioIn}
+use Rattle.hba_laws.specs.Client.{AreApart, AreWithin, By, CompletesInPlace, Filling, FillsWithin, IsKept, IsReading, IsWithin, Puts, StandsInPlace}
+use Rattle.hba_laws.specs.{Client.{Stops, Touches, client, filling, filling_by, own}, History.{Answered, Carried, Emptied, Event, History, Issued}}
+use Rattle.hba_laws.specs.History.{Named, PioSetUp, SentControl, SetUp, Setup, Transfer, bytes_of, completes, filled, filled_from, is_all_filled}
+use Rattle.hba_laws.specs.{History.{is_at, is_set_up, issued, last_setup, next_number, none_filled, pio_setup, unless, waiting_in}, Between.IsFilling}
 
 pub some_inj : {A : Type 0} (a b : A) → Some a ≡ Some b → a ≡ b
 some_inj a b e = cc

@@ -1,29 +1,23 @@
 -- For `delivers`. What a device's part of the slots says after one happening.
-use Rattle.std.proofs.Common.{◌≡◌, ℕ, ◌<◌, Bool, true, false, cond, eqb, [], ◌∷◌, ◌++◌, refl, sym, ap, subst, ◌∙◌, inl, inr, Option, Some, None, arith}
-use Rattle.std.specs.Prelude.{is_some, ◌&&◌, ◌||◌, not, if◌then◌else◌, Result, Ok, Err}
-use Rattle.std.specs.List.{range_with_len, list_all}
-use Rattle.std.specs.Option.{option_map}
-use Rattle.std.proofs.lemmas.Bool.{cases_Bool, cases_eq, eq-eqb, ne_eqb, eqb-false, false≢true, true≢false, and_parts}
-use Rattle.slots.specs.Bytes.{is_over, is_whole}
-use Rattle.slots.specs.Commands.{after_complete, after_sent, answered_issue, is_done, is_slot, sent_issue, with_answered, with_sent}
-use Rattle.slots.specs.Setup.{after_setup_pio, begun, came, context_or, dma_context, is_outstanding, new_context, out_context, out_fault, out_setup, whole_context, pio_fault, pio_issue, setup_fault, transfer_fault, with_own_context}
-use Rattle.slots.specs.Slots.{DeviceSlots, Issue, context_unless, freed, has_bit, holds, is_control, is_done_issue, is_out_issue, is_pio, is_queued_issue, is_sent_pio, is_waiting, is_whole_issue, match_some, no_own_slots, own_issue, sent_out, sent_pio, waiting}
-use Rattle.slots.specs.Table.{IsIssue}
-use Rattle.slots.specs.Work.{is_dma, is_out, is_queued, is_read, needs_all}
-use Rattle.slots.specs.declared.answer.SetupError.{SetupError}
-use Rattle.slots.specs.declared.answer.SetupError.TheVariants.{NotOutstanding}
-use Rattle.slots.specs.declared.table.Context.{Context}
-use Rattle.slots.specs.declared.work.Kind.{Kind}
-use Rattle.slots.specs.declared.work.Kind.TheVariants.{QueuedRead, QueuedWrite, DmaIn, DmaOut, PioIn, PioOut, Control}
-use Rattle.slots.specs.declared.work.Work.{Work}
+use Rattle.std.proofs.Common.{◌≡◌, ℕ, ◌<◌, Bool, true, false, cond, eqb, [], ◌∷◌, ◌++◌, refl, sym, ap, subst, ◌∙◌, inl, inr, Option, Some, None}
+use Rattle.std.proofs.{Common.arith, lemmas.Bool.{cases_Bool, cases_eq, eq-eqb, ne_eqb, eqb-false, false≢true, true≢false, and_parts}}
+use Rattle.std.specs.{Prelude.{is_some, ◌&&◌, ◌||◌, not, if◌then◌else◌, Result, Ok, Err}, List.{range_with_len, list_all}, Option.option_map}
+use Rattle.slots.specs.{Bytes.{is_over, is_whole}, Commands.{after_complete, after_sent, answered_issue, is_done, is_slot, sent_issue, with_answered}}
+use Rattle.slots.specs.{Commands.with_sent, Setup.{after_setup_pio, begun, came, context_or, dma_context, is_outstanding, new_context, out_context}}
+use Rattle.slots.specs.Setup.{out_fault, out_setup, whole_context, pio_fault, pio_issue, setup_fault, transfer_fault, with_own_context}
+use Rattle.slots.specs.Slots.{DeviceSlots, Issue, context_unless, freed, has_bit, holds, is_control, is_done_issue, is_out_issue, is_pio}
+use Rattle.slots.specs.Slots.{is_queued_issue, is_sent_pio, is_waiting, is_whole_issue, match_some, no_own_slots, own_issue, sent_out, sent_pio}
+use Rattle.slots.specs.{Slots.waiting, Table.IsIssue, Work.{is_dma, is_out, is_queued, is_read, needs_all}, declared.answer.SetupError.SetupError}
+use Rattle.slots.specs.declared.{answer.SetupError.TheVariants.NotOutstanding, table.Context.Context, work.Kind.{Kind, TheVariants.QueuedRead}}
+use Rattle.slots.specs.declared.work.{Kind.TheVariants.{QueuedWrite, DmaIn, DmaOut, PioIn, PioOut, Control}, Work.Work}
 use Rattle.slots.proofs.Door.{get-free, lowest_found, lowest_is}
-use Rattle.hba_laws.specs.Agreement.{Agrees, AreIssued, ContextAgrees, IssueAgrees, work_of_issue, work_of_transfer}
-use Rattle.hba_laws.specs.Delivering.{begun_by}
-use Rattle.hba_laws.specs.History.{Answered, Emptied, Event, History, Named, PioSetUp, Sent, SentControl, SetUp, Transfer, completes, filled, is_all_filled, is_at, issued, unless, waiting_in}
-use Rattle.hba_laws.specs.Between.{IsOwn, at_slot, frees}
-use Rattle.hba_laws.proofs.histories.StandLemmas.{some_inj}
-use Rattle.hba_laws.proofs.histories.AgreeLemmas.{agrees_answered, agrees_freed, agrees_nobody, agrees_pio, agrees_sent, agrees_set_up, context_answered, context_control, context_named, issue_answered, issue_control, issue_named, others_calm}
-use Rattle.hba_laws.proofs.histories.ViewLemmas.{at_other, at_same, ext, held, holds_at, none_waits, own_below, own_freed, own_set}
+use Rattle.hba_laws.specs.{Agreement.{Agrees, AreIssued, ContextAgrees, IssueAgrees, work_of_issue, work_of_transfer}, Delivering.begun_by}
+use Rattle.hba_laws.specs.History.{Answered, Emptied, Event, History, Named, PioSetUp, Sent, SentControl, SetUp, Transfer, completes, filled}
+use Rattle.hba_laws.specs.{History.{is_all_filled, is_at, issued, unless, waiting_in}, Between.{IsOwn, at_slot, frees}}
+use Rattle.hba_laws.proofs.histories.{StandLemmas.some_inj, AgreeLemmas.{agrees_answered, agrees_freed, agrees_nobody, agrees_pio, agrees_sent}}
+use Rattle.hba_laws.proofs.histories.AgreeLemmas.{agrees_set_up, context_answered, context_control, context_named, issue_answered, issue_control}
+use Rattle.hba_laws.proofs.histories.{AgreeLemmas.{issue_named, others_calm}, ViewLemmas.{at_other, at_same, ext, held, holds_at, none_waits}}
+use Rattle.hba_laws.proofs.histories.ViewLemmas.{own_below, own_freed, own_set}
 
 -- a device's part of the slots, and the Status at the end of its block, are what a history says
 pub record Says (own : DeviceSlots) (ends : Option ℕ) (past : History) : Type 0 where

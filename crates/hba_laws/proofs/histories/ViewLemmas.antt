@@ -1,17 +1,14 @@
 -- For `delivers`. A device's part of the slots, read slot by slot, and what a table of slots says of it.
-use Rattle.std.proofs.Common.{◌≡◌, ◌≢◌, ℕ, ◌<◌, Bool, true, false, cond, eqb, get_or, set, length, map, refl, sym, ap, subst, ◌∙◌, inl, inr, Option, Some, None, arith, get_or-set_same, get_or-set_other}
+use Rattle.std.proofs.Common.{◌≡◌, ◌≢◌, ℕ, ◌<◌, Bool, true, false, cond, eqb, get_or, set, length, map, refl, sym, ap, subst, ◌∙◌, inl, inr, Option}
+use Rattle.std.proofs.{Common.{Some, None, arith, get_or-set_same, get_or-set_other}, lemmas.Bool.{cases_eq, cases_lt, eq-eqb, ne_eqb, false≢true}}
+use Rattle.std.proofs.lemmas.{Bool.{lt-ltb, le-ltb}, List.{get_or_past, length-map, FromFn.{get_or-map-range_with_len, length-map-range_with_len}}}
 use Rattle.std.specs.Prelude.{MatchOption}
-use Rattle.std.proofs.lemmas.Bool.{cases_eq, cases_lt, eq-eqb, ne_eqb, false≢true, lt-ltb, le-ltb}
-use Rattle.std.proofs.lemmas.List.{get_or_past, length-map}
-use Rattle.std.proofs.lemmas.List.FromFn.{get_or-map-range_with_len, length-map-range_with_len}
 use Rattle.hba_commands.specs.declared.command.Command.{Command}
-use Rattle.slots.specs.Slots.{DeviceSlots, Issue, Slots, freed, holds, is_waiting, issue_at, issues_unless, own_issue, owned_by, slots_of, waiting, with_own_issue}
-use Rattle.slots.specs.Table.{IsContext, IsContextOf, IsIssue, IsTable}
-use Rattle.slots.specs.declared.table.Context.{Context}
+use Rattle.slots.specs.Slots.{DeviceSlots, Issue, Slots, freed, holds, is_waiting, issue_at, issues_unless, own_issue, owned_by, slots_of, waiting}
+use Rattle.slots.specs.{Slots.with_own_issue, Table.{IsContext, IsContextOf, IsIssue, IsTable}, declared.table.Context.Context}
 use Rattle.slots.proofs.Door.{get-unless, length-unless, none_below, own_at, owned_own}
 use Rattle.hba_fbs.specs.Issuing.{issue_with, issued_slots, issues_with}
-use Rattle.hba_laws.specs.History.{unless}
-use Rattle.hba_laws.specs.Between.{HasContext, IsOwn, at_slot, frees, issue_below}
+use Rattle.hba_laws.specs.{History.unless, Between.{HasContext, IsOwn, at_slot, frees, issue_below}}
 
 pub ext : {A B : Type 0} (f g : A → B) → ((x : A) → f x ≡ g x) → f ≡ g
 ext f g h = λ i x. h x i

@@ -1,46 +1,26 @@
 -- For `isolated`. The history of a device is told by its own events, as that of its core is.
 use Rattle.std.proofs.Common.{◌≡◌, ℕ, ◌<◌, Bool, true, false, List, [], ◌∷◌, ◌++◌, drop, refl, sym, ◌∙◌, ap, ap₂, subst, Option, Some, None}
-use Rattle.std.specs.Prelude.{◌==◌, if◌then◌else◌, map, not}
-use Rattle.std.specs.List.{AllZip}
 use Rattle.std.proofs.lemmas.Bool.{not-false, or_parts, true≢false}
-use Rattle.fis_view.specs.Frames.{Stamped}
-use Rattle.fis_view.specs.Seen.{seen}
+use Rattle.std.specs.{Prelude.{◌==◌, if◌then◌else◌, map, not}, List.AllZip}
+use Rattle.fis_view.specs.{Frames.Stamped, Seen.seen}
 use Rattle.hba_commands.specs.declared.command.Command.{Command}
 use Rattle.slots.specs.Slots.{match_some}
-use Rattle.hba_fbs.specs.declared.hearing.Heard.{Heard}
-use Rattle.hba_fbs.specs.declared.register.Register.{Register}
-use Rattle.hba_fbs.specs.declared.register.Register.TheVariants.{Ci, Fbs}
-use Rattle.hba_fbs.specs.declared.room.Room.{Room}
-use Rattle.hba_fbs.specs.declared.room.Room.TheVariants.{Whole}
-use Rattle.hba_fbs.specs.declared.turn.Turn.{Turn}
-use Rattle.hba_fbs.specs.declared.turn.Turn.TheVariants.{Feeds, Orders, Rests}
-use Rattle.hba_fbs.specs.Deciding.{decided, room_if}
-use Rattle.hba_fbs.specs.Issuing.{aimed, asked}
-use Rattle.hba_fbs.specs.Offering.{offer_of}
-use Rattle.hba_fbs.specs.Sending.{Gives, Outgoing, data_with, outgoing}
-use Rattle.hba_fbs.specs.Tables.{is_sound, sound_command}
-use Rattle.hba_fbs.specs.Taking.{admitted, is_running, port_of}
-use Rattle.hba_fbs.specs.Turning.{outgoing_at, turn_of}
-use Rattle.hba_fbs.specs.Views.{view_of}
-use Rattle.hba_fbs.specs.Writing.{cleared_by, is_device}
+use Rattle.hba_fbs.specs.declared.{hearing.Heard.Heard, register.Register.{Register, TheVariants.{Ci, Fbs}}, room.Room.{Room, TheVariants.Whole}}
+use Rattle.hba_fbs.specs.{declared.turn.Turn.{Turn, TheVariants.{Feeds, Orders, Rests}}, Deciding.{decided, room_if}, Issuing.{aimed, asked}}
+use Rattle.hba_fbs.specs.{Offering.offer_of, Sending.{Gives, Outgoing, data_with, outgoing}, Tables.{is_sound, sound_command}, Taking.admitted}
+use Rattle.hba_fbs.specs.{Taking.{is_running, port_of}, Turning.{outgoing_at, turn_of}, Views.view_of, Writing.{cleared_by, is_device}}
 use Rattle.hba_fbs.proofs.Door.{decided_if, outgoing_is}
-use Rattle.hba_laws.specs.Alike.{Brought, HistoriesByOwn, IsBroughtAlike, OwnFillAlike, brought, brought_over, bytes_out, history_by, tables_in, told_came, told_own, with_memory}
-use Rattle.hba_laws.specs.Client.{own}
-use Rattle.hba_laws.specs.CoreHistories.{Given, given_by, history_given, told_arrival, told_given, with_caller}
+use Rattle.hba_laws.specs.Alike.{Brought, HistoriesByOwn, IsBroughtAlike, OwnFillAlike, brought, brought_over, bytes_out, history_by, tables_in}
+use Rattle.hba_laws.specs.{Alike.{told_came, told_own, with_memory}, Client.own, CoreHistories.{Given, given_by, history_given, told_arrival}}
+use Rattle.hba_laws.specs.{CoreHistories.{told_given, with_caller}, Cores.{Arrived, CoreEvent, CoreOwn, IsPart, Own, StepsBy, core_event, stops_by}}
+use Rattle.hba_laws.specs.{Cores.{turned_to, used}, Delivering.{event_heard, history_after, touched}, History.{Event, History}, Hosts.{Does, Flushed}}
+use Rattle.hba_laws.specs.{Hosts.{Gave, Host, HostEvent, Rewrote, Runs, Took, Wrote}, Isolation.{AreOfDevices, Came, Cleared, Emptied, Issued}}
+use Rattle.hba_laws.specs.Isolation.{OwnEvent, Rewritten, Went, fails_by_bus, is_port_event, own_events, part_after, part_after_all, skips, stops}
+use Rattle.hba_laws.specs.{Parts.{DevicePart, part_of}, Sound.{AreHosts, IsHost}}
 use Rattle.hba_laws.specs.Cores as core
-use Rattle.hba_laws.specs.Cores.{Arrived, CoreEvent, CoreOwn, IsPart, Own, StepsBy, core_event, stops_by, turned_to, used}
-use Rattle.hba_laws.specs.Delivering.{event_heard, history_after, touched}
-use Rattle.hba_laws.specs.History.{Event, History}
-use Rattle.hba_laws.specs.Hosts.{Does, Flushed, Gave, Host, HostEvent, Rewrote, Runs, Took, Wrote}
-use Rattle.hba_laws.specs.Isolation.{AreOfDevices, Came, Cleared, Emptied, Issued, OwnEvent, Rewritten, Went, fails_by_bus, is_port_event, own_events, part_after, part_after_all, skips, stops}
-use Rattle.hba_laws.specs.Parts.{DevicePart, part_of}
-use Rattle.hba_laws.specs.Sound.{AreHosts, IsHost}
-use Rattle.hba_laws.proofs.cores.CoreHostLemmas.{hosts_are_cores, is_core}
-use Rattle.hba_laws.proofs.histories.EventLemmas.{happened_if, touched_is}
-use Rattle.hba_laws.proofs.isolation.CoreAlikeLemmas.{filled_alike, own_alike, told_by}
-use Rattle.hba_laws.proofs.isolation.CoreFoldLemmas.{goes_on, stops_same}
-use Rattle.hba_laws.proofs.isolation.IsolationLemmas.{own_step, part_is}
-use Rattle.hba_laws.proofs.soundness.KeptLemmas.{first_host}
+use Rattle.hba_laws.proofs.{cores.CoreHostLemmas.{hosts_are_cores, is_core}, histories.EventLemmas.{happened_if, touched_is}}
+use Rattle.hba_laws.proofs.isolation.{CoreAlikeLemmas.{filled_alike, own_alike, told_by}, CoreFoldLemmas.{goes_on, stops_same}}
+use Rattle.hba_laws.proofs.{isolation.IsolationLemmas.{own_step, part_is}, soundness.KeptLemmas.first_host}
 
 -- ---- what memory brings is what the caller of the core brings
 

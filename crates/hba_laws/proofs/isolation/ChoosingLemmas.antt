@@ -1,14 +1,10 @@
 -- For `core_isolated`. What may go to a device is what its view says.
 use Rattle.std.proofs.Common.{◌≡◌, ℕ, ◌<◌, Bool, true, false, refl, ◌∙◌, ap, Some}
 use Rattle.std.specs.Prelude.{◌&&◌, not}
-use Rattle.slots.specs.Commands.{any_sent_beside, may_go}
-use Rattle.slots.specs.Slots.{Issue, holds, issue_at}
-use Rattle.hba_fbs.specs.Choosing.{is_free, may_feed, may_order}
-use Rattle.hba_fbs.specs.Sending.{faulty_devices, is_due, ready_devices}
-use Rattle.hba_fbs.specs.Taking.{is_running}
-use Rattle.hba_fbs.specs.Views.{Port, view_of}
-use Rattle.hba_laws.specs.Cores.{CoreGoesByView, GoesByView}
-use Rattle.hba_laws.specs.Isolation.{may_leave}
+use Rattle.slots.specs.{Commands.{any_sent_beside, may_go}, Slots.{Issue, holds, issue_at}}
+use Rattle.hba_fbs.specs.{Choosing.{is_free, may_feed, may_order}, Sending.{faulty_devices, is_due, ready_devices}, Taking.is_running, Views.Port}
+use Rattle.hba_fbs.specs.Views.{view_of}
+use Rattle.hba_laws.specs.{Cores.{CoreGoesByView, GoesByView}, Isolation.may_leave}
 use Rattle.hba_laws.proofs.isolation.OutgoingLemmas.{alike}
 
 waits_for_none : (b switching beside : Bool) → switching ≡ true → (b && not (not switching && beside)) ≡ b

@@ -1,41 +1,26 @@
 -- For `core_isolated`. The history of a device of the core is told by its own events.
-use Rattle.std.proofs.Common.{◌≡◌, ℕ, zero, suc, ◌<◌, Bool, true, false, ◌&&◌, List, [], ◌∷◌, ◌++◌, drop, refl, sym, ◌∙◌, ap, ap₂, subst, lt_trans, lt-suc_self, Option, Some, None}
-use Rattle.std.specs.Prelude.{◌==◌, if◌then◌else◌, is_some, map, not}
-use Rattle.std.specs.List.{AllZip}
-use Rattle.std.proofs.lemmas.Bool.{cond-false, cond-true, eqb-true, not-false, or_parts, true≢false}
-use Rattle.fis_view.specs.Seen.{seen}
-use Rattle.fis_view.specs.declared.view.Fis.{Fis}
+use Rattle.std.proofs.Common.{◌≡◌, ℕ, zero, suc, ◌<◌, Bool, true, false, ◌&&◌, List, [], ◌∷◌, ◌++◌, drop, refl, sym, ◌∙◌, ap, ap₂, subst, lt_trans}
+use Rattle.std.proofs.{Common.{lt-suc_self, Option, Some, None}, lemmas.Bool.{cond-false, cond-true, eqb-true, not-false, or_parts, true≢false}}
+use Rattle.std.specs.{Prelude.{◌==◌, if◌then◌else◌, is_some, map, not}, List.AllZip}
+use Rattle.fis_view.specs.{Seen.seen, declared.view.Fis.Fis}
 use Rattle.host_memory.specs.declared.table.Prd.{Prd}
 use Rattle.hba_commands.specs.declared.command.Command.{Command}
-use Rattle.slots.specs.Data.{payload}
-use Rattle.slots.specs.Slots.{Issue, context_of, holds, issue_at, match_some, own_issue}
-use Rattle.hba_fbs.specs.declared.hearing.Fault.{Fault}
-use Rattle.hba_fbs.specs.declared.hearing.Heard.{Heard}
-use Rattle.hba_fbs.specs.declared.register.Register.{Register}
-use Rattle.hba_fbs.specs.declared.register.Register.TheVariants.{Cmd, Ci, Fbs}
-use Rattle.hba_fbs.specs.declared.report.TakeReport.{TakeReport}
-use Rattle.hba_fbs.specs.declared.room.Room.{Room}
-use Rattle.hba_fbs.specs.declared.turn.Turn.{Turn}
-use Rattle.hba_fbs.specs.declared.turn.Turn.TheVariants.{Feeds, Orders, Rests}
-use Rattle.hba_fbs.specs.Choosing.{MayChoose}
-use Rattle.hba_fbs.specs.Deciding.{decided}
-use Rattle.hba_fbs.specs.Offering.{Offer, aimed_by, asked_by}
-use Rattle.hba_fbs.specs.Sending.{next_receiver, next_to_send}
-use Rattle.hba_fbs.specs.Taking.{admitted, ignores, is_running, port_cause, port_of, stops_with}
-use Rattle.hba_fbs.specs.Turning.{IsOrdered, turn_of}
-use Rattle.hba_fbs.specs.Views.{DeviceView, Port, view_of}
-use Rattle.hba_fbs.specs.Writing.{cleared_by, is_device}
-use Rattle.hba_laws.specs.Alike.{AreFilledAlike, told_going, told_issue, told_issued, told_order, told_own}
-use Rattle.hba_laws.specs.CoreHistories.{CoreFillAlike, CoreHistoriesByOwn, Given, IsGivenAlike, event_by, given_by, given_through, happened, history_given, history_through, told_arrival, told_given, turned_for, with_caller, written_for}
-use Rattle.hba_laws.specs.Cores.{AreCores, AreOfOnes, Arrived, Chose, Commanded, CoreEvent, CoreOwn, DoesBy, Fed, Flushed, Gave, Gone, Hung, IsCore, IsPart, Overridden, Overrode, Own, Placed, RunsBy, Sent, Took, Wrote, chosen_to, own_by, part_by, part_by_all, stops_by, turned_to, used}
-use Rattle.hba_laws.specs.Delivering.{begun_by, event_heard, event_sent, is_control_issue}
-use Rattle.hba_laws.specs.History as event
-use Rattle.hba_laws.specs.History.{Event, History, filled, issued}
-use Rattle.hba_laws.specs.Isolation.{Cleared, Emptied, Issued, OwnEvent, Went, lowers_st, next_own}
-use Rattle.hba_laws.specs.Parts.{DevicePart}
+use Rattle.slots.specs.{Data.payload, Slots.{Issue, context_of, holds, issue_at, match_some, own_issue}}
+use Rattle.hba_fbs.specs.declared.{hearing.{Fault.Fault, Heard.Heard}, register.Register.{Register, TheVariants.{Cmd, Ci, Fbs}}}
+use Rattle.hba_fbs.specs.declared.{report.TakeReport.TakeReport, room.Room.Room, turn.Turn.{Turn, TheVariants.{Feeds, Orders, Rests}}}
+use Rattle.hba_fbs.specs.{Choosing.MayChoose, Deciding.decided, Offering.{Offer, aimed_by, asked_by}, Sending.{next_receiver, next_to_send}}
+use Rattle.hba_fbs.specs.{Taking.{admitted, ignores, is_running, port_cause, port_of, stops_with}, Turning.{IsOrdered, turn_of}, Views.DeviceView}
+use Rattle.hba_fbs.specs.{Views.{Port, view_of}, Writing.{cleared_by, is_device}}
+use Rattle.hba_laws.specs.{Alike.{AreFilledAlike, told_going, told_issue, told_issued, told_order, told_own}, CoreHistories.CoreFillAlike}
+use Rattle.hba_laws.specs.CoreHistories.{CoreHistoriesByOwn, Given, IsGivenAlike, event_by, given_by, given_through, happened, history_given}
+use Rattle.hba_laws.specs.{CoreHistories.{history_through, told_arrival, told_given, turned_for, with_caller, written_for}, Cores.AreCores}
+use Rattle.hba_laws.specs.Cores.{AreOfOnes, Arrived, Chose, Commanded, CoreEvent, CoreOwn, DoesBy, Fed, Flushed, Gave, Gone, Hung, IsCore, IsPart}
+use Rattle.hba_laws.specs.Cores.{Overridden, Overrode, Own, Placed, RunsBy, Sent, Took, Wrote, chosen_to, own_by, part_by, part_by_all, stops_by}
+use Rattle.hba_laws.specs.{Cores.{turned_to, used}, Delivering.{begun_by, event_heard, event_sent, is_control_issue}, History.{Event, History}}
+use Rattle.hba_laws.specs.{History.{filled, issued}, Isolation.{Cleared, Emptied, Issued, OwnEvent, Went, lowers_st, next_own}, Parts.DevicePart}
 use Rattle.hba_laws.specs.Between.{IsOrder}
-use Rattle.hba_laws.proofs.histories.ChoiceLemmas.{chosen_own}
-use Rattle.hba_laws.proofs.isolation.CoreLemmas.{decided_used, feeds_by, first_core, order_by, skipped, step}
+use Rattle.hba_laws.specs.History as event
+use Rattle.hba_laws.proofs.{histories.ChoiceLemmas.chosen_own, isolation.CoreLemmas.{decided_used, feeds_by, first_core, order_by, skipped, step}}
 use Rattle.hba_laws.proofs.isolation.OutgoingLemmas.{order_is_own, order_no_payload, order_stands}
 
 -- ---- a list of one own event, or none

@@ -1,38 +1,23 @@
 -- For `core_isolated`. A host's isolation by that of its core: of the memory nothing is said but that rows stay rows.
 use Rattle.std.proofs.Common.{◌≡◌, ℕ, ◌<◌, Bool, true, false, ◌&&◌, List, [], ◌∷◌, refl, sym, ◌∙◌, ap, subst, Option, Some, None}
-use Rattle.std.specs.Prelude.{◌==◌, if◌then◌else◌, is_some, not}
-use Rattle.std.specs.Option.{option_map}
 use Rattle.std.proofs.lemmas.Bool.{not-false, or_parts, true≢false}
-use Rattle.fis_view.specs.Frames.{Stamped}
-use Rattle.fis_view.specs.Seen.{seen}
-use Rattle.fis_view.specs.declared.view.Fis.{Fis}
+use Rattle.std.specs.{Prelude.{◌==◌, if◌then◌else◌, is_some, not}, Option.option_map}
+use Rattle.fis_view.specs.{Frames.Stamped, Seen.seen, declared.view.Fis.Fis}
 use Rattle.hba_commands.specs.declared.command.Command.{Command}
 use Rattle.host_memory.specs.Memory.{Memory}
-use Rattle.hba_fbs.specs.declared.hearing.Heard.{Heard}
-use Rattle.hba_fbs.specs.declared.register.Register.{Register}
-use Rattle.hba_fbs.specs.declared.register.Register.TheVariants.{Ci, Fbs}
-use Rattle.hba_fbs.specs.declared.turn.Turn.{Turn}
-use Rattle.hba_fbs.specs.declared.turn.Turn.TheVariants.{Feeds, Orders, Rests}
-use Rattle.hba_fbs.specs.Deciding.{heard_within, room_if}
-use Rattle.hba_fbs.specs.Issuing.{aimed, asked}
-use Rattle.hba_fbs.specs.Offering.{offer_of}
-use Rattle.hba_fbs.specs.Sending.{Gives, Outgoing, Unreadable, data_with, outgoing}
-use Rattle.hba_fbs.specs.Tables.{is_sound, sound_command}
-use Rattle.hba_fbs.specs.Taking.{admitted, ignored_report, ignores, is_running, port_of, stops_with}
-use Rattle.hba_fbs.specs.Turning.{outgoing_at, turn_of}
-use Rattle.hba_fbs.specs.Views.{DeviceView, Port, view_of}
-use Rattle.hba_fbs.specs.Writing.{cleared_by, is_device}
+use Rattle.hba_fbs.specs.declared.{hearing.Heard.Heard, register.Register.{Register, TheVariants.{Ci, Fbs}}, turn.Turn.{Turn, TheVariants.Feeds}}
+use Rattle.hba_fbs.specs.{declared.turn.Turn.TheVariants.{Orders, Rests}, Deciding.{heard_within, room_if}, Issuing.{aimed, asked}, Offering.offer_of}
+use Rattle.hba_fbs.specs.{Sending.{Gives, Outgoing, Unreadable, data_with, outgoing}, Tables.{is_sound, sound_command}, Taking.admitted}
+use Rattle.hba_fbs.specs.{Taking.{ignored_report, ignores, is_running, port_of, stops_with}, Turning.{outgoing_at, turn_of}, Views.{DeviceView, Port}}
+use Rattle.hba_fbs.specs.{Views.view_of, Writing.{cleared_by, is_device}}
 use Rattle.hba_fbs.proofs.Door.{decided_if, outgoing_is}
-use Rattle.hba_laws.specs.Alike.{bytes_out, tables_in}
+use Rattle.hba_laws.specs.{Alike.{bytes_out, tables_in}, Cores.{Arrived, CoreEvent, CoreOwn, DoesBy, HostsFoldByCore, IsCore, IsPart, Own}}
+use Rattle.hba_laws.specs.{Cores.{after_hearing, gave_event, part_by, part_by_all, stops_by, told_to, turned_to, used}, Hosts.{Does, Flushed, Gave}}
+use Rattle.hba_laws.specs.{Hosts.{Host, HostEvent, Rewrote, Runs, Took, Wrote}, Isolation.{AreOfDevices, Came, Cleared, Emptied, Issued, OwnEvent}}
+use Rattle.hba_laws.specs.Isolation.{Rewritten, Went, after_fis, fails_by_bus, gone_to, own_events, own_over, part_after, part_after_all, skips}
+use Rattle.hba_laws.specs.{Isolation.{stops, stops_port, written_to}, Parts.{DevicePart, part_of}, Sound.{AreHosts, IsHost}}
 use Rattle.hba_laws.specs.Cores as core
-use Rattle.hba_laws.specs.Cores.{Arrived, CoreEvent, CoreOwn, DoesBy, HostsFoldByCore, IsCore, IsPart, Own, after_hearing, gave_event, part_by, part_by_all, stops_by, told_to, turned_to, used}
-use Rattle.hba_laws.specs.Hosts.{Does, Flushed, Gave, Host, HostEvent, Rewrote, Runs, Took, Wrote}
-use Rattle.hba_laws.specs.Isolation.{AreOfDevices, Came, Cleared, Emptied, Issued, OwnEvent, Rewritten, Went, after_fis, fails_by_bus, gone_to, own_events, own_over, part_after, part_after_all, skips, stops, stops_port, written_to}
-use Rattle.hba_laws.specs.Parts.{DevicePart, part_of}
-use Rattle.hba_laws.specs.Sound.{AreHosts, IsHost}
-use Rattle.hba_laws.proofs.soundness.KeptLemmas.{first_host}
-use Rattle.hba_laws.proofs.cores.CoreHostLemmas.{hosts_are_cores, is_core}
-use Rattle.hba_laws.proofs.isolation.CoreLemmas.{same_port, step}
+use Rattle.hba_laws.proofs.{soundness.KeptLemmas.first_host, cores.CoreHostLemmas.{hosts_are_cores, is_core}, isolation.CoreLemmas.{same_port, step}}
 use Rattle.hba_laws.proofs.isolation.HeardLemmas.{after_append, row_shows}
 
 -- ---- what the core is told, the host is told

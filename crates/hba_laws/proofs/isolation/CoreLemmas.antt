@@ -1,48 +1,28 @@
 -- For `core_isolated`. One event of a port without a memory, and then a list of them.
-use Rattle.std.proofs.Common.{◌≡◌, ◌≢◌, ℕ, ◌<◌, Bool, true, false, ◌&&◌, ◌||◌, List, [], ◌∷◌, ◌++◌, refl, sym, ◌∙◌, ap, subst, inl, inr, Option, Some, None}
-use Rattle.std.specs.Prelude.{◌==◌, if◌then◌else◌, not, is_none, is_some, Result}
-use Rattle.std.specs.Option.{option_or}
-use Rattle.std.proofs.lemmas.Bool.{and_parts, cases_Bool, cond-false, cond-true, eqb-true, eqb-false, not-false, or_parts, true≢false}
-use Rattle.fis_view.specs.Seen.{seen}
-use Rattle.fis_view.specs.declared.view.Fis.{Fis}
-use Rattle.fis_view.specs.declared.view.FisFault.{FisFault}
+use Rattle.std.proofs.Common.{◌≡◌, ◌≢◌, ℕ, ◌<◌, Bool, true, false, ◌&&◌, ◌||◌, List, [], ◌∷◌, ◌++◌, refl, sym, ◌∙◌, ap, subst, inl, inr, Option, Some}
+use Rattle.std.proofs.{Common.None, lemmas.Bool.{and_parts, cases_Bool, cond-false, cond-true, eqb-true, eqb-false, not-false, or_parts, true≢false}}
+use Rattle.std.specs.{Prelude.{◌==◌, if◌then◌else◌, not, is_none, is_some, Result}, Option.option_or}
+use Rattle.fis_view.specs.{Seen.seen, declared.view.{Fis.Fis, FisFault.FisFault}}
 use Rattle.hba_commands.specs.declared.command.Command.{Command}
-use Rattle.slots.specs.Between.{Owns}
-use Rattle.slots.specs.Data.{payload}
-use Rattle.slots.specs.Slots.{Issue, context_of, issue_at, match_some, own_issue}
-use Rattle.hba_fbs.specs.declared.hearing.Fault.{Fault}
-use Rattle.hba_fbs.specs.declared.register.Register.{Register}
-use Rattle.hba_fbs.specs.declared.register.Register.TheVariants.{Clb, Cmd, Ci, Fbs}
-use Rattle.hba_fbs.specs.declared.registers.Registers.{Registers}
-use Rattle.hba_fbs.specs.declared.report.TakeReport.{TakeReport}
-use Rattle.hba_fbs.specs.declared.room.Room.{Room}
-use Rattle.hba_fbs.specs.declared.room.Room.TheVariants.{NoTable}
-use Rattle.hba_fbs.specs.declared.turn.Turn.{Turn}
-use Rattle.hba_fbs.specs.declared.turn.Turn.TheVariants.{Feeds, Orders, Rests}
-use Rattle.hba_fbs.specs.declared.greeting.Line.{Line}
-use Rattle.hba_fbs.specs.Choosing.{Chooses, GoesTo, MayChoose}
-use Rattle.hba_fbs.specs.Deciding.{Decides, decided, decided_view, heard_within}
-use Rattle.hba_fbs.specs.Greeting.{Hangs, line_view}
-use Rattle.hba_fbs.specs.Issuing.{any_slot, is_busy, issued_slots, view_with}
-use Rattle.hba_fbs.specs.Offering.{AcceptsBy, Offer, aimed_by, asked_by, commands_by, refusal_by, slots_refusal_by, view_by}
-use Rattle.hba_fbs.specs.Placing.{Places, issue_error}
-use Rattle.hba_fbs.specs.Registers.{falls, own_refusal_by, written}
-use Rattle.hba_fbs.specs.Sending.{next_receiver, next_to_send, view_fed, view_sent}
-use Rattle.hba_fbs.specs.Taking.{admitted, ignores, is_ignored, is_running, passes_over, port_cause, port_of, stops_with, view_after_hearing}
-use Rattle.hba_fbs.specs.Stopping.{Overrides, SetsCmd, fallen_view, overridden_view}
-use Rattle.hba_fbs.specs.Turning.{Goes, IsOrdered, Turns, feeds, orders, turn_of}
-use Rattle.hba_fbs.specs.Views.{DeviceView, Flushes, Port, flushed_view, last_command, stopped_view, view_of}
+use Rattle.slots.specs.{Between.Owns, Data.payload, Slots.{Issue, context_of, issue_at, match_some, own_issue}}
+use Rattle.hba_fbs.specs.declared.{hearing.Fault.Fault, register.Register.{Register, TheVariants.{Clb, Cmd, Ci, Fbs}}, registers.Registers.Registers}
+use Rattle.hba_fbs.specs.declared.{report.TakeReport.TakeReport, room.Room.{Room, TheVariants.NoTable}, turn.Turn.{Turn, TheVariants.{Feeds, Orders}}}
+use Rattle.hba_fbs.specs.{declared.{turn.Turn.TheVariants.Rests, greeting.Line.Line}, Choosing.{Chooses, GoesTo, MayChoose}, Deciding.Decides}
+use Rattle.hba_fbs.specs.{Deciding.{decided, decided_view, heard_within}, Greeting.{Hangs, line_view}, Issuing.{any_slot, is_busy, issued_slots}}
+use Rattle.hba_fbs.specs.{Issuing.view_with, Offering.{AcceptsBy, Offer, aimed_by, asked_by, commands_by, refusal_by, slots_refusal_by, view_by}}
+use Rattle.hba_fbs.specs.{Placing.{Places, issue_error}, Registers.{falls, own_refusal_by, written}, Sending.{next_receiver, next_to_send, view_fed}}
+use Rattle.hba_fbs.specs.{Sending.view_sent, Taking.{admitted, ignores, is_ignored, is_running, passes_over, port_cause, port_of, stops_with}}
+use Rattle.hba_fbs.specs.{Taking.view_after_hearing, Stopping.{Overrides, SetsCmd, fallen_view, overridden_view}, Turning.{Goes, IsOrdered, Turns}}
+use Rattle.hba_fbs.specs.{Turning.{feeds, orders, turn_of}, Views.{DeviceView, Flushes, Port, flushed_view, last_command, stopped_view, view_of}}
 use Rattle.hba_fbs.specs.Writing.{cleared_by, is_device}
-use Rattle.hba_laws.specs.Between.{IsOrder, KeepsOwn}
-use Rattle.hba_laws.specs.Cores.{AreCores, AreOfOnes, Arrived, Chose, Commanded, CoreEvent, CoreOwn, DoesBy, Fed, Flushed, Gave, Gone, Hung, IsCore, IsFoldByOwn, IsPart, Overridden, Overrode, Own, Placed, RunsBy, Sent, Took, Wrote, after_hearing, chosen_to, own_by, own_through, part_by, part_by_all, stops_by, told_to, turned_to, used}
+use Rattle.hba_laws.specs.{Between.{IsOrder, KeepsOwn}, Cores.{AreCores, AreOfOnes, Arrived, Chose, Commanded, CoreEvent, CoreOwn, DoesBy, Fed}}
+use Rattle.hba_laws.specs.Cores.{Flushed, Gave, Gone, Hung, IsCore, IsFoldByOwn, IsPart, Overridden, Overrode, Own, Placed, RunsBy, Sent, Took, Wrote}
+use Rattle.hba_laws.specs.Cores.{after_hearing, chosen_to, own_by, own_through, part_by, part_by_all, stops_by, told_to, turned_to, used}
 use Rattle.hba_laws.specs.Isolation.{Cleared, Emptied, Issued, Went, after_going, after_order, lowers_st, next_own, part_after, row_with, skips}
 use Rattle.hba_laws.specs.Parts.{DevicePart, commands_of, with_view}
-use Rattle.hba_laws.proofs.soundness.KeptLemmas.{taken_mode}
-use Rattle.hba_laws.proofs.soundness.WriteLemmas.{commands_chosen, commands_other_by, first_none, free_by, mode_own, none_busy_by}
-use Rattle.hba_laws.proofs.histories.ChoiceLemmas.{chosen_filled, none_busy}
-use Rattle.hba_laws.proofs.isolation.HeardLemmas.{heard_alike}
-use Rattle.hba_laws.proofs.isolation.OutgoingLemmas.{order_filled, order_is_own, order_no_payload}
-use Rattle.hba_laws.proofs.isolation.PartLemmas.{commands_kept, commands_same}
+use Rattle.hba_laws.proofs.soundness.{KeptLemmas.taken_mode, WriteLemmas.{commands_chosen, commands_other_by, first_none, free_by, mode_own}}
+use Rattle.hba_laws.proofs.{soundness.WriteLemmas.none_busy_by, histories.ChoiceLemmas.{chosen_filled, none_busy}, isolation.HeardLemmas.heard_alike}
+use Rattle.hba_laws.proofs.isolation.{OutgoingLemmas.{order_filled, order_is_own, order_no_payload}, PartLemmas.{commands_kept, commands_same}}
 use Rattle.hba_laws.proofs.isolation.SlotLemmas.{keeps_fed, keeps_moved, keeps_none, keeps_sent}
 
 -- ---- parts

@@ -1,18 +1,12 @@
 -- For `isolated`. The bytes that go out to a device are told by what belongs to it.
-use Rattle.std.proofs.Common.{◌≡◌, ℕ, ◌<◌, true, false, List, refl, sym, ◌∙◌, ap, subst, Option, Some, None}
+use Rattle.std.proofs.{Common.{◌≡◌, ℕ, ◌<◌, true, false, List, refl, sym, ◌∙◌, ap, subst, Option, Some, None}, lemmas.Bool.{cond-true, true≢false}}
 use Rattle.std.specs.Prelude.{is_some}
-use Rattle.std.proofs.lemmas.Bool.{cond-true, true≢false}
 use Rattle.fis_view.specs.Frames.{Stamped}
 use Rattle.hba_commands.specs.declared.command.Command.{Command}
-use Rattle.slots.specs.Data.{payload}
-use Rattle.slots.specs.Slots.{context_of, match_some, own_issue, slots_of}
-use Rattle.hba_fbs.specs.Sending.{Data, Gives, Order, Outgoing, data_fis, gathered, next_receiver, next_to_send, outgoing}
-use Rattle.hba_fbs.specs.Tables.{prds_of}
+use Rattle.slots.specs.{Data.payload, Slots.{context_of, match_some, own_issue, slots_of}}
+use Rattle.hba_fbs.specs.{Sending.{Data, Gives, Order, Outgoing, data_fis, gathered, next_receiver, next_to_send, outgoing}, Tables.prds_of}
 use Rattle.hba_fbs.specs.Views.{Port, last_command, view_of}
-use Rattle.hba_laws.specs.Hosts.{Host}
-use Rattle.hba_laws.specs.Isolation.{GoesByOwn, next_own, own_bytes, own_data, own_order}
-use Rattle.hba_laws.specs.Parts.{DevicePart, part_of}
-use Rattle.hba_laws.specs.Sound.{IsHost}
+use Rattle.hba_laws.specs.{Hosts.Host, Isolation.{GoesByOwn, next_own, own_bytes, own_data, own_order}, Parts.{DevicePart, part_of}, Sound.IsHost}
 use Rattle.hba_laws.specs.Between.{IsData, IsOrder}
 use Rattle.hba_laws.proofs.isolation.OutgoingLemmas.{data_is, order_filled, order_is, order_is_own, order_no_payload}
 

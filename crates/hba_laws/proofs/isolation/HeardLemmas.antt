@@ -1,19 +1,13 @@
 -- For `core_isolated`. A FIS that stops no port is heard as if its table could be used; lists of own events.
-use Rattle.std.proofs.Common.{◌≡◌, ℕ, ◌-◌, Bool, true, false, List, [], ◌∷◌, ◌++◌, length, refl, Option, Some, None}
+use Rattle.std.proofs.{Common.{◌≡◌, ℕ, ◌-◌, Bool, true, false, List, [], ◌∷◌, ◌++◌, length, refl, Option, Some, None}, lemmas.Bool.{true≢false}}
 use Rattle.std.specs.Prelude.{is_some}
-use Rattle.std.proofs.lemmas.Bool.{true≢false}
 use Rattle.fis_view.specs.declared.view.Fis.{Fis}
 use Rattle.fis_view.specs.declared.view.Fis.TheVariants as view
 use Rattle.port_errors.specs.declared.cause.DeviceCause.TheVariants.{Stray}
-use Rattle.slots.specs.Slots.{DeviceSlots, match_some}
-use Rattle.slots.specs.declared.table.Context.{Context}
-use Rattle.hba_fbs.specs.declared.hearing.Heard.{Heard}
-use Rattle.hba_fbs.specs.declared.state.DeviceState.{DeviceState}
-use Rattle.hba_fbs.specs.Hearing.{faulty, heard_data, heard_data_of, heard_fis}
-use Rattle.hba_fbs.specs.Taking.{heard, port_cause}
-use Rattle.hba_fbs.specs.Views.{DeviceView}
-use Rattle.hba_laws.specs.Isolation.{OwnEvent, part_after, part_after_all}
-use Rattle.hba_laws.specs.Parts.{DevicePart, own_row}
+use Rattle.slots.specs.{Slots.{DeviceSlots, match_some}, declared.table.Context.Context}
+use Rattle.hba_fbs.specs.{declared.{hearing.Heard.Heard, state.DeviceState.DeviceState}, Hearing.{faulty, heard_data, heard_data_of, heard_fis}}
+use Rattle.hba_fbs.specs.{Taking.{heard, port_cause}, Views.DeviceView}
+use Rattle.hba_laws.specs.{Isolation.{OwnEvent, part_after, part_after_all}, Parts.{DevicePart, own_row}}
 
 -- ---- a FIS
 

@@ -1,37 +1,24 @@
 -- For `isolated`. What belongs to a device of a host is what its core says, and its row. One event, and then a list of
 -- them.
-use Rattle.std.proofs.Common.{◌≡◌, ◌≢◌, ℕ, ◌+◌, ◌*◌, ◌<◌, ◌≤◌, Bool, true, false, List, [], ◌∷◌, length, refl, sym, ◌∙◌, ap, subst, arith, inl, inr, Option, Some, None}
-use Rattle.std.specs.Prelude.{◌==◌, if◌then◌else◌, not, is_some}
-use Rattle.std.specs.Option.{option_map}
-use Rattle.std.proofs.lemmas.Bool.{cases_Bool, cond-false, cond-true, eqb-true, eqb-false, not-false, or_parts}
-use Rattle.fis_view.specs.Frames.{Stamped}
-use Rattle.fis_view.specs.Seen.{seen}
-use Rattle.fis_view.specs.declared.view.Fis.{Fis}
+use Rattle.std.proofs.Common.{◌≡◌, ◌≢◌, ℕ, ◌+◌, ◌*◌, ◌<◌, ◌≤◌, Bool, true, false, List, [], ◌∷◌, length, refl, sym, ◌∙◌, ap, subst, arith, inl, inr}
+use Rattle.std.proofs.{Common.{Option, Some, None}, lemmas.Bool.{cases_Bool, cond-false, cond-true, eqb-true, eqb-false, not-false, or_parts}}
+use Rattle.std.specs.{Prelude.{◌==◌, if◌then◌else◌, not, is_some}, Option.option_map}
+use Rattle.fis_view.specs.{Frames.Stamped, Seen.seen, declared.view.Fis.Fis}
 use Rattle.hba_commands.specs.declared.command.Command.{Command}
 use Rattle.host_memory.specs.Memory.{Memory, overwritten}
 use Rattle.rx_area.specs.Area.{row_of}
-use Rattle.slots.specs.Data.{payload}
-use Rattle.slots.specs.Slots.{match_some}
-use Rattle.hba_fbs.specs.declared.register.Register.{Register}
-use Rattle.hba_fbs.specs.declared.register.Register.TheVariants.{Ci, Fbs}
-use Rattle.hba_fbs.specs.declared.report.TakeReport.{TakeReport}
-use Rattle.hba_fbs.specs.Issuing.{aimed, asked}
-use Rattle.hba_fbs.specs.Posting.{area_at}
-use Rattle.hba_fbs.specs.Sending.{view_fed}
-use Rattle.hba_fbs.specs.Taking.{admitted, ignores, is_running, port_of, row_for}
-use Rattle.hba_fbs.specs.Views.{Port, view_of}
+use Rattle.slots.specs.{Data.payload, Slots.match_some}
+use Rattle.hba_fbs.specs.{declared.{register.Register.{Register, TheVariants.{Ci, Fbs}}, report.TakeReport.TakeReport}, Issuing.{aimed, asked}}
+use Rattle.hba_fbs.specs.{Posting.area_at, Sending.view_fed, Taking.{admitted, ignores, is_running, port_of, row_for}, Views.{Port, view_of}}
 use Rattle.hba_fbs.specs.Writing.{cleared_by, is_device}
-use Rattle.hba_laws.specs.Cores.{IsPart}
-use Rattle.hba_laws.specs.Hosts.{Does, Flushed, Gave, Host, HostEvent, Put, Rewrote, Runs, Stored, TakesFrame, Took, Wrote}
-use Rattle.hba_laws.specs.Isolation.{AreAlike, AreOfDevices, Came, Cleared, Rewritten, Emptied, IsFoldOfOwn, Issued, OwnEvent, Went, after_fis, after_going, after_order, gone_to, is_port_event, next_own, own_events, own_over, part_after, part_after_all, skips, stops, written_to}
-use Rattle.hba_laws.specs.Parts.{DevicePart, own_row, part_of, with_view}
-use Rattle.hba_laws.specs.Sound.{AreHosts, IsHost}
-use Rattle.hba_laws.proofs.prd_tables.AreaLemmas.{row_beside, row_beside_posted, row_posted, row_rewritten}
-use Rattle.hba_laws.proofs.soundness.KeptLemmas.{fb_kept, first_host, mode_kept, receives, stays_put}
-use Rattle.hba_laws.proofs.isolation.CoreFoldLemmas.{host_step}
-use Rattle.hba_laws.proofs.isolation.CoreLemmas.{skipped}
-use Rattle.hba_laws.proofs.isolation.HeardLemmas.{after_append, row_shows}
-use Rattle.hba_laws.proofs.isolation.PartLemmas.{SamePlace, commands_at, row_at, row_moved, row_same, same_part, same_place}
+use Rattle.hba_laws.specs.{Cores.IsPart, Hosts.{Does, Flushed, Gave, Host, HostEvent, Put, Rewrote, Runs, Stored, TakesFrame, Took, Wrote}}
+use Rattle.hba_laws.specs.Isolation.{AreAlike, AreOfDevices, Came, Cleared, Rewritten, Emptied, IsFoldOfOwn, Issued, OwnEvent, Went, after_fis}
+use Rattle.hba_laws.specs.Isolation.{after_going, after_order, gone_to, is_port_event, next_own, own_events, own_over, part_after, part_after_all}
+use Rattle.hba_laws.specs.{Isolation.{skips, stops, written_to}, Parts.{DevicePart, own_row, part_of, with_view}, Sound.{AreHosts, IsHost}}
+use Rattle.hba_laws.proofs.{prd_tables.AreaLemmas.{row_beside, row_beside_posted, row_posted, row_rewritten}, soundness.KeptLemmas.fb_kept}
+use Rattle.hba_laws.proofs.{soundness.KeptLemmas.{first_host, mode_kept, receives, stays_put}, isolation.CoreFoldLemmas.host_step}
+use Rattle.hba_laws.proofs.isolation.{CoreLemmas.skipped, HeardLemmas.{after_append, row_shows}, PartLemmas.{SamePlace, commands_at, row_at}}
+use Rattle.hba_laws.proofs.isolation.PartLemmas.{row_moved, row_same, same_part, same_place}
 
 -- what belongs to a device of a host is a part of its core
 pub part_is : (n : ℕ) (old : Host) → IsPart n old.port (part_of n old)

@@ -1,23 +1,18 @@
 -- For `isolated`. What goes out is the device's own next: its data, or the command of its lowest slot that may go.
-use Rattle.std.proofs.Common.{◌≡◌, ◌≢◌, ℕ, zero, suc, ◌+◌, ◌*◌, ◌%◌, ◌^◌, ◌<◌, ◌≤◌, Bool, true, false, ◌&&◌, ◌||◌, not, nat_eq, bit_or, length, refl, sym, ◌∙◌, ap, subst, arith, inl, inr, Option, Some, None, w32, eq-eqb}
+use Rattle.std.proofs.Common.{◌≡◌, ◌≢◌, ℕ, zero, suc, ◌+◌, ◌*◌, ◌%◌, ◌^◌, ◌<◌, ◌≤◌, Bool, true, false, ◌&&◌, ◌||◌, not, nat_eq, bit_or, length, refl}
+use Rattle.std.proofs.{Common.{sym, ◌∙◌, ap, subst, arith, inl, inr, Option, Some, None, w32, eq-eqb}, lemmas.Bool.{cases_Bool, cases_eq}}
+use Rattle.std.proofs.lemmas.Bool.{false_from_ne_true, true≢false, false≢true}
 use Rattle.std.specs.Prelude.{if◌then◌else◌, is_none, is_some}
-use Rattle.std.proofs.lemmas.Bool.{cases_Bool, cases_eq, false_from_ne_true, true≢false, false≢true}
 use Rattle.hba_commands.specs.declared.command.Command.{Command}
 use Rattle.host_memory.specs.Memory.{Memory}
-use Rattle.port_errors.specs.Errors.{cause_of}
-use Rattle.port_errors.specs.declared.cause.DeviceCause.{DeviceCause}
-use Rattle.slots.specs.Commands.{may_begin, may_go}
-use Rattle.slots.specs.Data.{payload}
-use Rattle.slots.specs.Slots.{Issue, context_of, has_bit, holds, is_control, issue_at, mask_below, match_some, own_issue, slots_of, waiting}
-use Rattle.slots.specs.Between.{Owns}
-use Rattle.slots.proofs.Door.{has_bit_below, lowest_before, lowest_found, lowest_is}
-use Rattle.slots.proofs.Door.{none_below, own_at, owned_same, owns_where}
-use Rattle.hba_fbs.specs.Sending.{Data, Nothing, Order, data_due, data_with, faulty_devices, is_ready, next_receiver, next_to_send, order_due, outgoing, ready_devices, is_due}
-use Rattle.hba_fbs.specs.Tables.{is_readable, sound_command}
-use Rattle.hba_fbs.specs.Taking.{is_running}
-use Rattle.hba_fbs.specs.Views.{Port, last_command, state_at, view_of}
-use Rattle.hba_laws.specs.Isolation.{may_leave, next_own}
-use Rattle.hba_laws.specs.Between.{IsData, IsOrder}
+use Rattle.port_errors.specs.{Errors.cause_of, declared.cause.DeviceCause.DeviceCause}
+use Rattle.slots.specs.{Commands.{may_begin, may_go}, Data.payload, Slots.{Issue, context_of, has_bit, holds, is_control, issue_at, mask_below}}
+use Rattle.slots.specs.{Slots.{match_some, own_issue, slots_of, waiting}, Between.Owns}
+use Rattle.slots.proofs.Door.{has_bit_below, lowest_before, lowest_found, lowest_is, none_below, own_at, owned_same, owns_where}
+use Rattle.hba_fbs.specs.Sending.{Data, Nothing, Order, data_due, data_with, faulty_devices, is_ready, next_receiver, next_to_send, order_due}
+use Rattle.hba_fbs.specs.{Sending.{outgoing, ready_devices, is_due}, Tables.{is_readable, sound_command}, Taking.is_running, Views.Port}
+use Rattle.hba_fbs.specs.Views.{last_command, state_at, view_of}
+use Rattle.hba_laws.specs.{Isolation.{may_leave, next_own}, Between.{IsData, IsOrder}}
 
 -- ---- sets of devices, as numbers
 

@@ -1,14 +1,10 @@
 -- For `isolated`. What belongs to a device, piece by piece.
-use Rattle.std.proofs.Common.{◌≡◌, ℕ, Bool, List, refl, ◌∙◌, ap, Option, Some, None}
+use Rattle.std.proofs.{Common.{◌≡◌, ℕ, Bool, List, refl, ◌∙◌, ap, Option, Some, None}, Math.Path.fun_ext}
 use Rattle.std.specs.Prelude.{if◌then◌else◌, is_some}
-use Rattle.std.proofs.Math.Path.{fun_ext}
 use Rattle.hba_commands.specs.declared.command.Command.{Command}
 use Rattle.slots.specs.Slots.{DeviceSlots, Issue, own_issue}
-use Rattle.hba_fbs.specs.declared.registers.Registers.{Registers}
-use Rattle.hba_fbs.specs.Views.{DeviceView, last_command, view_of}
-use Rattle.hba_laws.specs.Hosts.{Host}
-use Rattle.hba_laws.specs.Parts.{DevicePart, commands_of, own_row}
-use Rattle.hba_laws.specs.Between.{KeepsOwn}
+use Rattle.hba_fbs.specs.{declared.registers.Registers.Registers, Views.{DeviceView, last_command, view_of}}
+use Rattle.hba_laws.specs.{Hosts.Host, Parts.{DevicePart, commands_of, own_row}, Between.KeepsOwn}
 
 abbrev pub row_at : ℕ → Host → Option (List ℕ)
 row_at n host = own_row host.port.registers.switching host.port.registers.fb host.memory.structure n

@@ -1,23 +1,17 @@
 -- For `isolated`. No slot of a device that is free becomes filled, but by an issue.
-use Rattle.std.proofs.Common.{◌≡◌, ℕ, Bool, true, false, cond, List, get_or, set, length, refl, sym, ◌∙◌, ap, inl, inr, Option, Some, None, replicate, get_or-set_same, get_or-set_other, length-set}
-use Rattle.std.specs.Prelude.{if◌then◌else◌}
-use Rattle.std.specs.Option.{option_map}
-use Rattle.std.proofs.lemmas.Bool.{cases_eq, cases_lt}
-use Rattle.std.proofs.lemmas.List.{get_or-replicate, get_or_past, length-replicate}
-use Rattle.slots.specs.declared.answer.Answered.{Answered}
+use Rattle.std.proofs.Common.{◌≡◌, ℕ, Bool, true, false, cond, List, get_or, set, length, refl, sym, ◌∙◌, ap, inl, inr, Option, Some, None, replicate}
+use Rattle.std.proofs.{Common.{get_or-set_same, get_or-set_other, length-set}, lemmas.{Bool.{cases_eq, cases_lt}, List.{get_or-replicate}}}
+use Rattle.std.proofs.lemmas.List.{get_or_past, length-replicate}
+use Rattle.std.specs.{Prelude.{if◌then◌else◌, is_some, is_ok}, Option.option_map}
+use Rattle.slots.specs.{declared.{answer.Answered.Answered, table.Context.Context}, Slots.{DeviceSlots, Issue, freed, holds, is_control}}
+use Rattle.slots.specs.{Slots.{issues_unless, match_some, no_own_slots, own_issue, with_own_issue, sent_pio}, Commands.{after_pio_done, after_sent}}
+use Rattle.slots.specs.{Commands.{answered_as, answered_issue, is_done, is_slot, sent_issue, whole_pio, with_sent}, Data.{activated, after_arrive}}
+use Rattle.slots.specs.{Data.{after_payload, arrive_answer, gone_over, may_activate, moved_over, payload_len}, Setup.{after_setup_pio, begun, came}}
+use Rattle.slots.specs.{Setup.{new_context, pio_fault, pio_issue, whole_context, with_own_context}, Work.is_dma}
 use Rattle.slots.specs.declared.answer.Answered.TheVariants as answer
-use Rattle.slots.specs.declared.table.Context.{Context}
-use Rattle.slots.specs.Slots.{DeviceSlots, Issue, freed, holds, is_control, issues_unless, match_some, no_own_slots, own_issue, with_own_issue}
-use Rattle.slots.specs.Commands.{after_pio_done, after_sent, answered_as, answered_issue, is_done, is_slot, sent_issue, whole_pio, with_sent}
-use Rattle.slots.specs.Data.{activated, after_arrive, after_payload, arrive_answer, gone_over, may_activate, moved_over, payload_len}
-use Rattle.slots.specs.Setup.{after_setup_pio, begun, came, new_context, pio_fault, pio_issue, whole_context, with_own_context}
-use Rattle.slots.specs.Work.{is_dma}
-use Rattle.slots.specs.Slots.{sent_pio}
 use Rattle.slots.proofs.Door.{get-unless, length-unless}
-use Rattle.std.specs.Prelude.{is_some, is_ok}
-use Rattle.hba_fbs.specs.declared.hearing.Happening.{Happening}
+use Rattle.hba_fbs.specs.{declared.hearing.Happening.Happening, Hearing.{block_ended, moved}}
 use Rattle.hba_fbs.specs.declared.hearing.Happening.TheVariants as happening
-use Rattle.hba_fbs.specs.Hearing.{block_ended, moved}
 use Rattle.hba_laws.specs.Between.{KeepsOwn}
 
 -- ---- ways to leave it so

@@ -1,55 +1,34 @@
 -- For `delivers`. Client memory is what the touches make of it, and all Data is within what is issued.
-use Rattle.std.proofs.Common.{◌≡◌, ℕ, zero, suc, ◌+◌, ◌-◌, ◌*◌, ◌%◌, ◌<◌, ◌≤◌, Bool, true, false, cond, eqb, List, [], ◌∷◌, ◌++◌, drop, take, length, refl, sym, ap, subst, ◌∙◌, inl, inr, Option, Some, None, arith, append_assoc}
-use Rattle.std.specs.Prelude.{MatchOption, is_some, is_none, ◌&&◌, ◌||◌, nat_le, nat_lt, slice_index, min, if◌then◌else◌, map}
-use Rattle.std.specs.Option.{option_map, option_or}
-use Rattle.std.proofs.lemmas.Bool.{cases_lt, eq-eqb, eqb-true, false≢true, and_parts, lt-leb, le-ltb, le-leb, lt-ltb}
-use Rattle.std.proofs.lemmas.List.{get_or-append_right, get_or_append_left, get_or_past, length-take-le}
-use Rattle.std.proofs.lemmas.List.FromFn.{length-map-range_with_len}
+use Rattle.std.proofs.Common.{◌≡◌, ℕ, zero, suc, ◌+◌, ◌-◌, ◌*◌, ◌%◌, ◌<◌, ◌≤◌, Bool, true, false, cond, eqb, List, [], ◌∷◌, ◌++◌, drop, take, length}
+use Rattle.std.proofs.{Common.{refl, sym, ap, subst, ◌∙◌, inl, inr, Option, Some, None, arith, append_assoc}, lemmas.Bool.{cases_lt, eq-eqb}}
+use Rattle.std.proofs.lemmas.{Bool.{eqb-true, false≢true, and_parts, lt-leb, le-ltb, le-leb, lt-ltb}, List.{get_or-append_right, get_or_append_left}}
+use Rattle.std.proofs.lemmas.List.{get_or_past, length-take-le, FromFn.{length-map-range_with_len}}
+use Rattle.std.specs.{Prelude.{MatchOption, is_some, is_none, ◌&&◌, ◌||◌, nat_le, nat_lt, slice_index, min, if◌then◌else◌, map}, Option.option_map}
+use Rattle.std.specs.Option.{option_or}
 use Rattle.fis_view.specs.Seen.{seen}
-use Rattle.host_memory.specs.Memory.{Memory, client_start, overwritten}
-use Rattle.host_memory.specs.Place.{Scatters, total_of, written}
-use Rattle.host_memory.specs.Reading.{first_fault, have_overlap, read_fault}
-use Rattle.host_memory.specs.declared.table.Prd.{Prd}
-use Rattle.host_memory.specs.declared.table.PrdError.{PrdError}
-use Rattle.host_memory.specs.declared.table.PrdError.TheVariants.{OutsideStructure, Overlap}
-use Rattle.host_memory.proofs.Door.{apart_from_overlap, inside_from_faults, length-overwritten, overwritten_beside}
-use Rattle.host_memory.proofs.Door.{scattered}
+use Rattle.host_memory.specs.{Memory.{Memory, client_start, overwritten}, Place.{Scatters, total_of, written}, Reading.{first_fault, have_overlap}}
+use Rattle.host_memory.specs.{Reading.read_fault, declared.table.{Prd.Prd, PrdError.{PrdError, TheVariants.{OutsideStructure, Overlap}}}}
+use Rattle.host_memory.proofs.Door.{apart_from_overlap, inside_from_faults, length-overwritten, overwritten_beside, scattered}
 use Rattle.hba_commands.specs.declared.command.Command.{Command}
-use Rattle.slots.specs.Data.{receiving_slot}
-use Rattle.slots.specs.Work.{is_dma, is_read}
-use Rattle.slots.specs.Slots.{DeviceSlots, Issue, context_of, holds, issue_at, match_some, own_issue}
-use Rattle.slots.specs.declared.answer.Answered.TheVariants as answer
+use Rattle.slots.specs.{Data.receiving_slot, Work.{is_dma, is_read}, Slots.{DeviceSlots, Issue, context_of, holds, issue_at, match_some, own_issue}}
 use Rattle.slots.specs.declared.table.Context.{Context}
-use Rattle.hba_fbs.specs.declared.hearing.Happening.{Happening}
+use Rattle.slots.specs.declared.answer.Answered.TheVariants as answer
+use Rattle.hba_fbs.specs.declared.{hearing.Happening.Happening, register.Register.{Register, TheVariants.{Cmd, Ci, Fbs}}}
+use Rattle.hba_fbs.specs.{declared.{report.{TakeReport.TakeReport, Wrote.Wrote}, status.Block.Block}, Issuing.{aimed, asked}, Registers.falls}
+use Rattle.hba_fbs.specs.{Sending.{Outgoing, gathered, outgoing}, Tables.{Delivers, is_readable, is_sound, prds_of, sound_command}, Taking.admitted}
+use Rattle.hba_fbs.specs.{Taking.{heard_now, ignores, port_of, wrote_by}, Views.{DeviceView, last_command, view_of}, Writing.cleared_by}
 use Rattle.hba_fbs.specs.declared.hearing.Happening.TheVariants as happening
-use Rattle.hba_fbs.specs.declared.register.Register.{Register}
-use Rattle.hba_fbs.specs.declared.register.Register.TheVariants.{Cmd, Ci, Fbs}
-use Rattle.hba_fbs.specs.declared.report.TakeReport.{TakeReport}
-use Rattle.hba_fbs.specs.declared.report.Wrote.{Wrote}
-use Rattle.hba_fbs.specs.declared.status.Block.{Block}
-use Rattle.hba_fbs.specs.Issuing.{aimed, asked}
-use Rattle.hba_fbs.specs.Registers.{falls}
-use Rattle.hba_fbs.specs.Sending.{Outgoing, gathered, outgoing}
 use Rattle.hba_fbs.specs.Sending as out
-use Rattle.hba_fbs.specs.Tables.{Delivers, is_readable, is_sound, prds_of, sound_command}
-use Rattle.hba_fbs.specs.Taking.{admitted, heard_now, ignores, port_of, wrote_by}
-use Rattle.hba_fbs.specs.Views.{DeviceView, last_command, view_of}
-use Rattle.hba_fbs.specs.Writing.{cleared_by}
-use Rattle.hba_laws.specs.Agreement.{AreHistoriesOf, IsHistoryOf, end_of, is_for}
-use Rattle.hba_laws.specs.Client.{AreWithin, By, Filling, IsWithin, Puts, Stops, Touches, client, filling, filling_by, own}
-use Rattle.hba_laws.specs.Delivering.{begun_by, ClientIsTouched, DataIsWithin, DataReadsAsIssued, IsClient, IsFramed, IsReadAsIssued, ReadsAsIssued, by_device, event_heard, event_of, event_taken, is_control_issue, issued_below, issued_in, touched, touched_by_clear, touched_by_out, touched_by_write}
-use Rattle.hba_laws.specs.History.{Carried, Emptied, Sent, SentControl, SetUp, Setup, is_set_up, issued}
-use Rattle.hba_laws.specs.Hosts.{Does, Flushed, Gave, Host, HostEvent, Put, PutsBytes, TakesFrame, Took, Wrote as WroteRegister}
-use Rattle.hba_laws.specs.Sound.{IsHost}
-use Rattle.hba_laws.specs.Between.{GoesOut, HasContext, IsOwn}
-use Rattle.hba_laws.proofs.histories.CarryLemmas.{next_is}
-use Rattle.hba_laws.proofs.histories.CoreEventLemmas.{says_of}
-use Rattle.hba_laws.proofs.histories.EventLemmas.{goes_out, step}
-use Rattle.hba_laws.proofs.histories.IssueLemmas.{own_app}
-use Rattle.hba_laws.proofs.histories.StandLemmas.{fills_as, filling_of, if_there}
-use Rattle.hba_laws.proofs.histories.StepLemmas.{Says}
-use Rattle.hba_laws.proofs.histories.ViewLemmas.{is_own}
-use Rattle.hba_laws.proofs.placed.WithinLemmas.{Carries, CarriesFor, HasSetup, has_setup, heard_carries, the_transfer, within_is}
+use Rattle.hba_laws.specs.{Agreement.{AreHistoriesOf, IsHistoryOf, end_of, is_for}, Client.{AreWithin, By, Filling, IsWithin, Puts, Stops, Touches}}
+use Rattle.hba_laws.specs.{Client.{client, filling, filling_by, own}, Delivering.{begun_by, ClientIsTouched, DataIsWithin, DataReadsAsIssued}}
+use Rattle.hba_laws.specs.Delivering.{IsClient, IsFramed, IsReadAsIssued, ReadsAsIssued, by_device, event_heard, event_of, event_taken}
+use Rattle.hba_laws.specs.Delivering.{is_control_issue, issued_below, issued_in, touched, touched_by_clear, touched_by_out, touched_by_write}
+use Rattle.hba_laws.specs.{History.{Carried, Emptied, Sent, SentControl, SetUp, Setup, is_set_up, issued}, Hosts.{Does, Flushed, Gave, Host}}
+use Rattle.hba_laws.specs.{Hosts.{HostEvent, Put, PutsBytes, TakesFrame, Took, Wrote as WroteRegister}, Sound.IsHost, Between.{GoesOut, HasContext}}
+use Rattle.hba_laws.specs.Between.{IsOwn}
+use Rattle.hba_laws.proofs.histories.{CarryLemmas.next_is, CoreEventLemmas.says_of, EventLemmas.{goes_out, step}, IssueLemmas.own_app}
+use Rattle.hba_laws.proofs.{histories.{StandLemmas.{fills_as, filling_of, if_there}, StepLemmas.Says, ViewLemmas.is_own}, placed.WithinLemmas.Carries}
+use Rattle.hba_laws.proofs.placed.WithinLemmas.{CarriesFor, HasSetup, has_setup, heard_carries, the_transfer, within_is}
 
 -- ---- a table that can be used
 

@@ -1,52 +1,30 @@
 -- For `core_delivers`. Data is within what is issued, and fills what reports and turns say.
-use Rattle.std.proofs.Common.{◌≡◌, ℕ, zero, suc, ◌+◌, ◌<◌, ◌≤◌, Bool, true, false, List, [], ◌∷◌, ◌++◌, drop, length, length-drop, append_assoc, refl, sym, ap, subst, ◌∙◌, inl, inr, Option, Some, None, arith, min}
-use Rattle.std.specs.Prelude.{MatchOption, ◌==◌, if◌then◌else◌, slice_index}
-use Rattle.std.specs.Option.{option_map}
-use Rattle.std.proofs.lemmas.Bool.{cases_lt, eq-eqb, eqb-true}
+use Rattle.std.proofs.Common.{◌≡◌, ℕ, zero, suc, ◌+◌, ◌<◌, ◌≤◌, Bool, true, false, List, [], ◌∷◌, ◌++◌, drop, length, length-drop, append_assoc, refl}
+use Rattle.std.proofs.{Common.{sym, ap, subst, ◌∙◌, inl, inr, Option, Some, None, arith, min}, lemmas.Bool.{cases_lt, eq-eqb, eqb-true}}
 use Rattle.std.proofs.lemmas.List.{get_or_past}
+use Rattle.std.specs.{Prelude.{MatchOption, ◌==◌, if◌then◌else◌, slice_index}, Option.option_map}
 use Rattle.fis_view.specs.Seen.{seen}
 use Rattle.host_memory.specs.declared.table.Prd.{Prd}
 use Rattle.hba_commands.specs.declared.command.Command.{Command}
-use Rattle.slots.specs.Slots.{DeviceSlots, Issue, context_of, holds, issue_at, match_some, own_issue}
-use Rattle.slots.specs.Work.{is_dma, is_read}
-use Rattle.slots.specs.declared.answer.Answered.{Answered}
+use Rattle.slots.specs.{Slots.{DeviceSlots, Issue, context_of, holds, issue_at, match_some, own_issue}, Work.{is_dma, is_read}}
+use Rattle.slots.specs.declared.{answer.Answered.Answered, table.Context.Context, work.Work.Work}
 use Rattle.slots.specs.declared.answer.Answered.TheVariants as answer
-use Rattle.slots.specs.declared.table.Context.{Context}
-use Rattle.slots.specs.declared.work.Work.{Work}
-use Rattle.hba_fbs.specs.declared.hearing.Happening.{Happening}
+use Rattle.hba_fbs.specs.declared.{hearing.{Happening.Happening, Heard.Heard}, register.Register.{Register, TheVariants.{Cmd, Ci, Fbs}}}
+use Rattle.hba_fbs.specs.declared.{report.{TakeReport.TakeReport, Wrote.Wrote}, room.Room.Room, status.Block.Block, turn.Turn.Turn}
+use Rattle.hba_fbs.specs.{declared.turn.Turn.TheVariants.{Feeds, Orders, Rests}, Deciding.decided, Offering.{Offer, aimed_by, asked_by}}
+use Rattle.hba_fbs.specs.{Registers.falls, Taking.{admitted, heard_report, ignores, port_of, wrote_by}, Turning.turn_of, Views.{DeviceView, Port}}
+use Rattle.hba_fbs.specs.{Views.view_of, Writing.{cleared_by, is_device}}
 use Rattle.hba_fbs.specs.declared.hearing.Happening.TheVariants as happening
-use Rattle.hba_fbs.specs.declared.hearing.Heard.{Heard}
-use Rattle.hba_fbs.specs.declared.register.Register.{Register}
-use Rattle.hba_fbs.specs.declared.register.Register.TheVariants.{Cmd, Ci, Fbs}
-use Rattle.hba_fbs.specs.declared.report.TakeReport.{TakeReport}
-use Rattle.hba_fbs.specs.declared.report.Wrote.{Wrote}
-use Rattle.hba_fbs.specs.declared.room.Room.{Room}
-use Rattle.hba_fbs.specs.declared.status.Block.{Block}
-use Rattle.hba_fbs.specs.declared.turn.Turn.{Turn}
-use Rattle.hba_fbs.specs.declared.turn.Turn.TheVariants.{Feeds, Orders, Rests}
-use Rattle.hba_fbs.specs.Deciding.{decided}
-use Rattle.hba_fbs.specs.Offering.{Offer, aimed_by, asked_by}
-use Rattle.hba_fbs.specs.Registers.{falls}
-use Rattle.hba_fbs.specs.Taking.{admitted, heard_report, ignores, port_of, wrote_by}
-use Rattle.hba_fbs.specs.Turning.{turn_of}
-use Rattle.hba_fbs.specs.Views.{DeviceView, Port, view_of}
-use Rattle.hba_fbs.specs.Writing.{cleared_by, is_device}
-use Rattle.hba_laws.specs.Agreement.{IsTold, end_of, is_for}
-use Rattle.hba_laws.specs.Alike.{told_issue, told_issued}
-use Rattle.hba_laws.specs.Client.{IsWithin}
-use Rattle.hba_laws.specs.CoreHistories.{CoreChoicesFilled, CoreDataIsWithin, CoreReportsFilled, CoreSendsFilled, FillsFrom, ReportsFilled, WereWithin, event_by, happened, history_through, turned_for, written_for}
+use Rattle.hba_laws.specs.{Agreement.{IsTold, end_of, is_for}, Alike.{told_issue, told_issued}, Client.IsWithin, CoreHistories.CoreChoicesFilled}
+use Rattle.hba_laws.specs.CoreHistories.{CoreDataIsWithin, CoreReportsFilled, CoreSendsFilled, FillsFrom, ReportsFilled, WereWithin, event_by}
+use Rattle.hba_laws.specs.{CoreHistories.{happened, history_through, turned_for, written_for}, Cores.{Chose, Commanded, CoreEvent, Flushed, Gave}}
+use Rattle.hba_laws.specs.{Cores.{Hearkens, Hung, IsCore, Placed, RunsBy, Took}, Delivering.{begun_by, event_heard, event_of, event_sent}}
+use Rattle.hba_laws.specs.{Delivering.is_control_issue, History.{Carried, Emptied, History, Sent, SentControl, SetUp, issued}, Between.HasContext}
+use Rattle.hba_laws.specs.Between.{IsOwn}
 use Rattle.hba_laws.specs.Cores as core
-use Rattle.hba_laws.specs.Cores.{Chose, Commanded, CoreEvent, Flushed, Gave, Hearkens, Hung, IsCore, Placed, RunsBy, Took}
-use Rattle.hba_laws.specs.Delivering.{begun_by, event_heard, event_of, event_sent, is_control_issue}
-use Rattle.hba_laws.specs.History.{Carried, Emptied, History, Sent, SentControl, SetUp, issued}
-use Rattle.hba_laws.specs.Between.{HasContext, IsOwn}
-use Rattle.hba_laws.proofs.completed.DoneLemmas.{below_16, last_core}
-use Rattle.hba_laws.proofs.histories.CarryLemmas.{next_is}
-use Rattle.hba_laws.proofs.histories.CoreEventLemmas.{GoesBy, IsFeeding, chosen_goes, core_views_are_told, says_of, step_by, turn_goes}
-use Rattle.hba_laws.proofs.histories.HearLemmas.{decided_cases}
-use Rattle.hba_laws.proofs.histories.StepLemmas.{Says}
-use Rattle.hba_laws.proofs.histories.ViewLemmas.{is_own}
-use Rattle.hba_laws.proofs.placed.WithinLemmas.{Carries, heard_carries, the_transfer, within_is}
+use Rattle.hba_laws.proofs.{completed.DoneLemmas.{below_16, last_core}, histories.{CarryLemmas.next_is, CoreEventLemmas.{GoesBy, IsFeeding}}}
+use Rattle.hba_laws.proofs.histories.{CoreEventLemmas.{chosen_goes, core_views_are_told, says_of, step_by, turn_goes}, HearLemmas.decided_cases}
+use Rattle.hba_laws.proofs.{histories.{StepLemmas.Says, ViewLemmas.is_own}, placed.WithinLemmas.{Carries, heard_carries, the_transfer, within_is}}
 
 -- what is set up is what the device's context says
 fills_from : (n : ℕ) (own : DeviceSlots) (ends : Option ℕ) (past : History) (c : Context) (len : ℕ) → IsOwn n own → Says own ends past → own.context ≡ Some c → len ≤ c.left → FillsFrom c.slot c.next len past

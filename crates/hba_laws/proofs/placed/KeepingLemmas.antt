@@ -1,9 +1,7 @@
 -- For `delivers`. PRD tables that the software keeps stay.
 use Rattle.std.proofs.Common.{List, [], ◌∷◌, refl}
-use Rattle.hba_laws.specs.Delivering.{SparesTables}
-use Rattle.hba_laws.specs.Hosts.{Does, Host, HostEvent, Runs}
-use Rattle.hba_laws.specs.Keeping.{KeepsTables, KeptTablesStay}
-use Rattle.hba_laws.specs.Sound.{AreHosts, IsHost}
+use Rattle.hba_laws.specs.{Delivering.SparesTables, Hosts.{Does, Host, HostEvent, Runs}, Keeping.{KeepsTables, KeptTablesStay}, Sound.AreHosts}
+use Rattle.hba_laws.specs.Sound.{IsHost}
 use Rattle.hba_laws.proofs.prd_tables.TableLemmas.{tables_stay}
 
 first_host : (old new : Host) (events : List HostEvent) (run : Runs old events new) → AreHosts old new events run → IsHost old

@@ -1,16 +1,12 @@
 -- For `delivers`. A read that is reported as done stands in client memory.
 use Rattle.std.proofs.Common.{◌≡◌, ℕ, ◌%◌, ◌<◌, true, false, ◌∷◌, ◌++◌, refl, sym, ap, subst, ◌∙◌, Option, Some, None, arith}
-use Rattle.std.specs.Prelude.{slice_index}
 use Rattle.std.proofs.lemmas.Bool.{false≢true}
+use Rattle.std.specs.Prelude.{slice_index}
 use Rattle.slots.specs.Slots.{match_some}
 use Rattle.hba_fbs.specs.Taking.{port_of}
-use Rattle.hba_laws.specs.Client.{AreWithin, By, IsKept, Touches, client, own}
-use Rattle.hba_laws.specs.Delivering.{DoneReadsStand, IsClient, IsDelivered, by_device, event_taken}
-use Rattle.hba_laws.specs.History.{Event, completes}
-use Rattle.hba_laws.specs.Hosts.{Took}
-use Rattle.hba_laws.proofs.placed.ClientLemmas.{event_is, event_within}
-use Rattle.hba_laws.proofs.completed.DoneLemmas.{reports_done}
-use Rattle.hba_laws.proofs.histories.StandLemmas.{completes_in_place}
+use Rattle.hba_laws.specs.{Client.{AreWithin, By, IsKept, Touches, client, own}, Delivering.{DoneReadsStand, IsClient, IsDelivered, by_device}}
+use Rattle.hba_laws.specs.{Delivering.event_taken, History.{Event, completes}, Hosts.Took}
+use Rattle.hba_laws.proofs.{placed.ClientLemmas.{event_is, event_within}, completed.DoneLemmas.reports_done, histories.StandLemmas.completes_in_place}
 
 below_16 : (n : ℕ) → n % 16 < 16
 below_16 n = omega arith

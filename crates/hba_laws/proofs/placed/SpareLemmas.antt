@@ -1,42 +1,27 @@
 -- For `delivers`. Where the PRDs of issued commands stay, they read as at the issue.
-use Rattle.std.proofs.Common.{◌≡◌, ℕ, zero, suc, ◌%◌, ◌<◌, Bool, true, false, cond, eqb, List, [], ◌∷◌, ◌++◌, drop, length, refl, sym, ap, subst, ◌∙◌, inl, inr, Option, Some, None, ◌⊎◌, arith}
-use Rattle.std.specs.Prelude.{MatchOption, is_some, slice_index, if◌then◌else◌, map}
-use Rattle.std.specs.Option.{option_map, option_or}
-use Rattle.std.proofs.lemmas.Bool.{cases_Bool, cases_eq, cases_lt, eqb-true, false≢true}
-use Rattle.std.proofs.lemmas.List.{get_or_past}
-use Rattle.std.proofs.lemmas.List.FromFn.{get_or-map-range_with_len, length-map-range_with_len}
-use Rattle.fis_view.specs.Frames.{Stamped}
-use Rattle.fis_view.specs.Seen.{seen}
+use Rattle.std.proofs.Common.{◌≡◌, ℕ, zero, suc, ◌%◌, ◌<◌, Bool, true, false, cond, eqb, List, [], ◌∷◌, ◌++◌, drop, length, refl, sym, ap, subst, ◌∙◌}
+use Rattle.std.proofs.{Common.{inl, inr, Option, Some, None, ◌⊎◌, arith}, lemmas.Bool.{cases_Bool, cases_eq, cases_lt, eqb-true, false≢true}}
+use Rattle.std.proofs.lemmas.List.{get_or_past, FromFn.{get_or-map-range_with_len, length-map-range_with_len}}
+use Rattle.std.specs.{Prelude.{MatchOption, is_some, slice_index, if◌then◌else◌, map}, Option.{option_map, option_or}}
+use Rattle.fis_view.specs.{Frames.Stamped, Seen.seen}
 use Rattle.host_memory.specs.Memory.{Memory}
 use Rattle.hba_commands.specs.declared.command.Command.{Command}
-use Rattle.slots.specs.Work.{is_dma, is_read}
-use Rattle.slots.specs.Slots.{Issue, holds, issue_at, match_some, own_issue, slots_of}
+use Rattle.slots.specs.{Work.{is_dma, is_read}, Slots.{Issue, holds, issue_at, match_some, own_issue, slots_of}}
 use Rattle.slots.specs.declared.answer.Answered.TheVariants as answer
-use Rattle.hba_fbs.specs.declared.hearing.Happening.{Happening}
+use Rattle.hba_fbs.specs.declared.{hearing.Happening.Happening, register.Register.{Register, TheVariants.{Cmd, Ci, Fbs}}}
+use Rattle.hba_fbs.specs.{declared.{report.TakeReport.TakeReport, status.Block.Block}, Issuing.{aimed, asked, commands_with}, Registers.falls}
+use Rattle.hba_fbs.specs.{Sending.{Gives, Outgoing, outgoing}, Tables.prds_of, Taking.{admitted, heard_now, ignores, port_of}, Views.Port}
+use Rattle.hba_fbs.specs.{Views.last_command, Writing.{Accepts, cleared_by, commands_after, refusal_of}}
 use Rattle.hba_fbs.specs.declared.hearing.Happening.TheVariants as happening
-use Rattle.hba_fbs.specs.declared.register.Register.{Register}
-use Rattle.hba_fbs.specs.declared.register.Register.TheVariants.{Cmd, Ci, Fbs}
-use Rattle.hba_fbs.specs.declared.report.TakeReport.{TakeReport}
-use Rattle.hba_fbs.specs.declared.status.Block.{Block}
-use Rattle.hba_fbs.specs.Issuing.{aimed, asked, commands_with}
-use Rattle.hba_fbs.specs.Registers.{falls}
-use Rattle.hba_fbs.specs.Sending.{Gives, Outgoing, outgoing}
 use Rattle.hba_fbs.specs.Sending as out
-use Rattle.hba_fbs.specs.Tables.{prds_of}
-use Rattle.hba_fbs.specs.Taking.{admitted, heard_now, ignores, port_of}
-use Rattle.hba_fbs.specs.Views.{Port, last_command}
-use Rattle.hba_fbs.specs.Writing.{Accepts, cleared_by, commands_after, refusal_of}
-use Rattle.hba_laws.specs.Agreement.{AreHistoriesOf, work_of_issue, work_of_transfer}
-use Rattle.hba_laws.specs.Client.{By, Filling, Puts, Stops, Touches, filling, own}
-use Rattle.hba_laws.specs.Delivering.{begun_by, DataReadsAsIssued, HasTables, HaveTables, IsReadAsIssued, ReadsAsIssued, SparedTablesRead, SparesTables, by_device, event_heard, event_of, event_taken, is_control_issue, issued_below, touched, touched_by_clear, touched_by_out, touched_by_write}
-use Rattle.hba_laws.specs.History.{Carried, Emptied, Event, History, Issued, Sent, SentControl, SetUp, Transfer, completes, issued, unless}
-use Rattle.hba_laws.specs.Hosts.{Does, Flushed, Gave, Host, HostEvent, Put, TakesFrame, Took, Wrote}
-use Rattle.hba_laws.specs.Sound.{IsHost}
-use Rattle.hba_laws.specs.Between.{NoneIssues, NotIssue, history_below, transfer_of, with_issued}
-use Rattle.hba_laws.proofs.placed.ClientLemmas.{histories_step}
-use Rattle.hba_laws.proofs.histories.IssueLemmas.{asked_free, other_below, own_app, own_below_is}
-use Rattle.hba_laws.proofs.histories.StandLemmas.{filling_is, some_inj}
-use Rattle.hba_laws.proofs.histories.ViewLemmas.{own_in}
+use Rattle.hba_laws.specs.{Agreement.{AreHistoriesOf, work_of_issue, work_of_transfer}, Client.{By, Filling, Puts, Stops, Touches, filling, own}}
+use Rattle.hba_laws.specs.Delivering.{begun_by, DataReadsAsIssued, HasTables, HaveTables, IsReadAsIssued, ReadsAsIssued, SparedTablesRead}
+use Rattle.hba_laws.specs.Delivering.{SparesTables, by_device, event_heard, event_of, event_taken, is_control_issue, issued_below, touched}
+use Rattle.hba_laws.specs.{Delivering.{touched_by_clear, touched_by_out, touched_by_write}, History.{Carried, Emptied, Event, History, Issued, Sent}}
+use Rattle.hba_laws.specs.{History.{SentControl, SetUp, Transfer, completes, issued, unless}, Hosts.{Does, Flushed, Gave, Host, HostEvent, Put}}
+use Rattle.hba_laws.specs.{Hosts.{TakesFrame, Took, Wrote}, Sound.IsHost, Between.{NoneIssues, NotIssue, history_below, transfer_of, with_issued}}
+use Rattle.hba_laws.proofs.{placed.ClientLemmas.histories_step, histories.IssueLemmas.{asked_free, other_below, own_app, own_below_is}}
+use Rattle.hba_laws.proofs.histories.{StandLemmas.{filling_is, some_inj}, ViewLemmas.own_in}
 
 -- ---- what was issued before
 

@@ -1,40 +1,22 @@
 -- For `delivers`. Data is within what is issued, and what is known of Data that is heard.
-use Rattle.std.proofs.Common.{◌≡◌, ℕ, ◌-◌, ◌≤◌, Bool, true, false, cond, eqb, List, drop, length, refl, sym, ap, subst, ◌∙◌, Option, Some, None, arith, length-drop}
-use Rattle.std.specs.Prelude.{MatchOption, is_some, not, nat_lt, Result, Ok, Err}
-use Rattle.std.specs.Option.{option_map}
-use Rattle.std.proofs.lemmas.Bool.{ltb-false}
-use Rattle.fis_view.specs.Seen.{seen}
+use Rattle.std.proofs.Common.{◌≡◌, ℕ, ◌-◌, ◌≤◌, Bool, true, false, cond, eqb, List, drop, length, refl, sym, ap, subst, ◌∙◌, Option, Some, None}
+use Rattle.std.proofs.{Common.{arith, length-drop}, lemmas.Bool.{ltb-false}}
+use Rattle.std.specs.{Prelude.{MatchOption, is_some, not, nat_lt, Result, Ok, Err}, Option.option_map}
+use Rattle.fis_view.specs.{Seen.seen, Table.field, declared.view.{Fis.Fis, FisFault.FisFault}}
 use Rattle.fis_view.specs.Table as table
-use Rattle.fis_view.specs.Table.{field}
-use Rattle.fis_view.specs.declared.view.Fis.{Fis}
 use Rattle.fis_view.specs.declared.view.Fis.TheVariants as view
-use Rattle.fis_view.specs.declared.view.FisFault.{FisFault}
 use Rattle.port_errors.specs.declared.cause.DeviceCause.TheVariants as cause
-use Rattle.slots.specs.Commands.{answer_of, completed}
-use Rattle.slots.specs.Data.{after_arrive, may_activate}
-use Rattle.slots.specs.Setup.{dma_context, out_setup, pio_fault, pio_issue, setup_fault}
-use Rattle.slots.specs.Slots.{DeviceSlots, Issue, match_some, own_issue, sent_pio}
-use Rattle.slots.specs.Work.{is_read}
-use Rattle.slots.specs.declared.answer.SetupError.{SetupError}
-use Rattle.slots.specs.declared.table.Context.{Context}
-use Rattle.slots.specs.declared.work.Work.{Work}
-use Rattle.hba_fbs.specs.declared.hearing.Happening.{Happening}
+use Rattle.slots.specs.{Commands.{answer_of, completed}, Data.{after_arrive, may_activate}, Setup.{dma_context, out_setup, pio_fault, pio_issue}}
+use Rattle.slots.specs.{Setup.setup_fault, Slots.{DeviceSlots, Issue, match_some, own_issue, sent_pio}, Work.is_read}
+use Rattle.slots.specs.declared.{answer.SetupError.SetupError, table.Context.Context, work.Work.Work}
+use Rattle.hba_fbs.specs.declared.{hearing.Happening.Happening, report.Wrote.Wrote, state.DeviceState.DeviceState, status.Block.Block}
+use Rattle.hba_fbs.specs.Hearing.{answered, block_of, bus_failed, faulty, heard_bytes, heard_d2h, heard_data, heard_data_of, heard_fis, heard_out}
+use Rattle.hba_fbs.specs.{Hearing.{is_admitted, named, overflowed, quietly, set_up, tag_of}, Status.{after_reset, is_busy, is_error, with_bits}}
+use Rattle.hba_fbs.specs.{Status.with_file, Taking.{admitted, heard}, Views.DeviceView}
 use Rattle.hba_fbs.specs.declared.hearing.Happening.TheVariants as happening
-use Rattle.hba_fbs.specs.declared.report.Wrote.{Wrote}
-use Rattle.hba_fbs.specs.declared.state.DeviceState.{DeviceState}
-use Rattle.hba_fbs.specs.declared.status.Block.{Block}
-use Rattle.hba_fbs.specs.Hearing.{answered, block_of, bus_failed, faulty, heard_bytes, heard_d2h, heard_data, heard_data_of, heard_fis, heard_out, is_admitted, named, overflowed, quietly, set_up, tag_of}
-use Rattle.hba_fbs.specs.Status.{after_reset, is_busy, is_error, with_bits, with_file}
-use Rattle.hba_fbs.specs.Taking.{admitted, heard}
-use Rattle.hba_fbs.specs.Views.{DeviceView}
-use Rattle.hba_laws.specs.Agreement.{SetupAgrees, work_of_issue, work_of_transfer}
-use Rattle.hba_laws.specs.Client.{Filling, FillsWithin, IsWithin, filling}
-use Rattle.hba_laws.specs.History.{History, Setup, Transfer, is_set_up, issued, last_setup}
-use Rattle.hba_laws.specs.Between.{HasContext, IsOwn}
-use Rattle.hba_laws.proofs.histories.CarryLemmas.{next_is}
-use Rattle.hba_laws.proofs.histories.HearLemmas.{payload_is}
-use Rattle.hba_laws.proofs.histories.StandLemmas.{filling_is, some_inj}
-use Rattle.hba_laws.proofs.histories.StepLemmas.{Says}
+use Rattle.hba_laws.specs.{Agreement.{SetupAgrees, work_of_issue, work_of_transfer}, Client.{Filling, FillsWithin, IsWithin, filling}}
+use Rattle.hba_laws.specs.{History.{History, Setup, Transfer, is_set_up, issued, last_setup}, Between.{HasContext, IsOwn}}
+use Rattle.hba_laws.proofs.histories.{CarryLemmas.next_is, HearLemmas.payload_is, StandLemmas.{filling_is, some_inj}, StepLemmas.Says}
 
 -- ---- the last setup of a context
 

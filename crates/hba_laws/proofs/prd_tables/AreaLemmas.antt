@@ -1,17 +1,14 @@
 -- For `tables_stay`. The structure area: rows of the received area, and bytes apart from it.
-use Rattle.std.proofs.Common.{◌≡◌, ◌≢◌, ℕ, Bool, true, false, subst, ◌+◌, ◌-◌, ◌*◌, ◌<◌, ◌≤◌, List, ◌++◌, get_or, length, take, drop, refl, sym, ◌∙◌, ap, arith, inl, inr, length-append, length-drop, length-take, get_or-drop, get_or-take, ext_get_or}
+use Rattle.std.proofs.Common.{◌≡◌, ◌≢◌, ℕ, Bool, true, false, subst, ◌+◌, ◌-◌, ◌*◌, ◌<◌, ◌≤◌, List, ◌++◌, get_or, length, take, drop, refl, sym, ◌∙◌}
+use Rattle.std.proofs.Common.{ap, arith, inl, inr, length-append, length-drop, length-take, get_or-drop, get_or-take, ext_get_or}
+use Rattle.std.proofs.lemmas.{Bool.cases_lt, List.{length-take-le, get_or_append_left, get_or-append_right}}
 use Rattle.std.specs.Prelude.{slice_index, Option, Some, None}
-use Rattle.std.proofs.lemmas.Bool.{cases_lt}
-use Rattle.std.proofs.lemmas.List.{length-take-le, get_or_append_left, get_or-append_right}
 use Rattle.fis_view.specs.declared.view.Fis.{Fis}
-use Rattle.host_memory.specs.Memory.{overwritten}
-use Rattle.host_memory.specs.Reading.{AgreeFrom, LieApart}
+use Rattle.host_memory.specs.{Memory.overwritten, Reading.{AgreeFrom, LieApart}}
 use Rattle.host_memory.proofs.Door.{agree_beside, length-overwritten, overwritten_beside}
 use Rattle.rx_area.specs.Area.{row_of}
-use Rattle.hba_fbs.specs.Posting.{area_at}
-use Rattle.hba_fbs.specs.Taking.{PostsIn, PostsOf}
-use Rattle.hba_laws.specs.Isolation.{row_with}
-use Rattle.hba_laws.specs.Parts.{own_row}
+use Rattle.hba_fbs.specs.{Posting.area_at, Taking.{PostsIn, PostsOf}}
+use Rattle.hba_laws.specs.{Isolation.row_with, Parts.own_row}
 
 -- ---- a FIS is posted
 

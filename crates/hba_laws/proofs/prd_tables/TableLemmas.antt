@@ -1,28 +1,20 @@
 -- For `tables_stay`. Bytes of the structure area apart from the received area over a run, and what a PRD table there
 -- says.
-use Rattle.std.proofs.Common.{◌≡◌, ℕ, ◌+◌, ◌*◌, ◌<◌, ◌≤◌, Bool, true, false, ◌&&◌, List, [], ◌∷◌, length, refl, sym, ◌∙◌, ap, subst, arith, inl, inr, Option, Some, None}
+use Rattle.std.proofs.Common.{◌≡◌, ℕ, ◌+◌, ◌*◌, ◌<◌, ◌≤◌, Bool, true, false, ◌&&◌, List, [], ◌∷◌, length, refl, sym, ◌∙◌, ap, subst, arith, inl, inr}
+use Rattle.std.proofs.{Common.{Option, Some, None}, lemmas.Bool.{and_from, and_parts, cases_Bool}}
 use Rattle.std.specs.Prelude.{slice_index, is_none, if◌then◌else◌, ◌==◌}
-use Rattle.std.proofs.lemmas.Bool.{and_from, and_parts, cases_Bool}
 use Rattle.fis_view.specs.Seen.{seen}
 use Rattle.hba_commands.specs.Commands.{cfis_at, command_at, command_in, command_under, has_table, is_proper, suits, total_at, total_if_sound}
-use Rattle.hba_commands.specs.Headers.{header_at}
-use Rattle.hba_commands.specs.Requests.{kind_of, request_at, work_of}
-use Rattle.hba_commands.specs.declared.command.Command.{Command}
-use Rattle.host_memory.specs.Memory.{Memory, overwritten}
-use Rattle.host_memory.specs.Place.{total_of}
-use Rattle.host_memory.specs.Reading.{AgreeFrom, LieApart, SaysTheSame, prds_at, read_fault}
-use Rattle.host_memory.specs.declared.table.Prd.{Prd}
-use Rattle.host_memory.specs.declared.table.PrdError.{PrdError}
+use Rattle.hba_commands.specs.{Headers.header_at, Requests.{kind_of, request_at, work_of}, declared.command.Command.Command}
+use Rattle.host_memory.specs.{Memory.{Memory, overwritten}, Place.total_of, Reading.{AgreeFrom, LieApart, SaysTheSame, prds_at, read_fault}}
+use Rattle.host_memory.specs.declared.table.{Prd.Prd, PrdError.PrdError}
 use Rattle.host_memory.proofs.Door.{says_the_same}
 use Rattle.slots.specs.Slots.{Issue, match_some, own_issue}
-use Rattle.hba_fbs.specs.Tables.{is_readable, prds_of}
-use Rattle.hba_fbs.specs.Taking.{admitted, ignores, port_of, row_for}
-use Rattle.hba_fbs.specs.Views.{last_command}
-use Rattle.hba_laws.specs.Hosts.{Does, Host, HostEvent, Put, Rewrote, Runs, Stored, Took, Wrote}
-use Rattle.hba_laws.specs.Sound.{AreHosts, IsHost}
-use Rattle.hba_laws.specs.Tables.{BytesStay, IssuedStayReadable, Spares, SparesBytes, TablesStay}
-use Rattle.hba_laws.proofs.prd_tables.AreaLemmas.{apart_posted, apart_rewritten, row_inside}
-use Rattle.hba_laws.proofs.soundness.KeptLemmas.{client_lens, fb_kept, first_host, structure_lens}
+use Rattle.hba_fbs.specs.{Tables.{is_readable, prds_of}, Taking.{admitted, ignores, port_of, row_for}, Views.last_command}
+use Rattle.hba_laws.specs.{Hosts.{Does, Host, HostEvent, Put, Rewrote, Runs, Stored, Took, Wrote}, Sound.{AreHosts, IsHost}, Tables.BytesStay}
+use Rattle.hba_laws.specs.Tables.{IssuedStayReadable, Spares, SparesBytes, TablesStay}
+use Rattle.hba_laws.proofs.{prd_tables.AreaLemmas.{apart_posted, apart_rewritten, row_inside}, soundness.KeptLemmas.{client_lens, fb_kept}}
+use Rattle.hba_laws.proofs.soundness.KeptLemmas.{first_host, structure_lens}
 
 -- ---- bytes
 

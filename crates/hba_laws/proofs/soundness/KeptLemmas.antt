@@ -1,29 +1,17 @@
 -- For `stays_sound`. What an event keeps: the place of the received area, the mode, and the sizes of memory.
-use Rattle.std.proofs.Common.{◌≡◌, ℕ, ◌+◌, ◌-◌, ◌≤◌, Bool, true, false, List, [], ◌∷◌, length, refl, sym, ◌∙◌, ap, subst, arith, inl, inr, Option, Some, None}
+use Rattle.std.proofs.Common.{◌≡◌, ℕ, ◌+◌, ◌-◌, ◌≤◌, Bool, true, false, List, [], ◌∷◌, length, refl, sym, ◌∙◌, ap, subst, arith, inl, inr, Option}
+use Rattle.std.proofs.{Common.{Some, None}, lemmas.Bool.{and_parts, cases_Bool, eq-eqb, eqb-true, not-false}}
 use Rattle.std.specs.Prelude.{◌==◌, drop, MatchOption, is_none, not}
-use Rattle.std.proofs.lemmas.Bool.{and_parts, cases_Bool, eq-eqb, eqb-true, not-false}
-use Rattle.fis_view.specs.Frames.{Stamped}
-use Rattle.fis_view.specs.Seen.{seen}
-use Rattle.fis_view.specs.declared.view.Fis.{Fis}
+use Rattle.fis_view.specs.{Frames.Stamped, Seen.seen, declared.view.Fis.Fis}
 use Rattle.fis_view.specs.declared.view.Fis.TheVariants as view
 use Rattle.hba_commands.specs.declared.command.Command.{Command}
-use Rattle.host_memory.specs.Memory.{Memory, client_start, overwritten}
-use Rattle.host_memory.specs.Place.{Scatters}
+use Rattle.host_memory.specs.{Memory.{Memory, client_start, overwritten}, Place.Scatters}
 use Rattle.host_memory.proofs.Door.{length-overwritten}
-use Rattle.hba_fbs.specs.declared.hearing.Heard.{Heard}
-use Rattle.hba_fbs.specs.declared.register.Register.{Register}
-use Rattle.hba_fbs.specs.declared.register.Register.TheVariants.{Fb, Fbs}
-use Rattle.hba_fbs.specs.declared.registers.Registers.{Registers}
-use Rattle.hba_fbs.specs.declared.report.Wrote.{Wrote as BytesTold}
-use Rattle.hba_fbs.specs.Posting.{posted}
-use Rattle.hba_fbs.specs.Registers.{written}
-use Rattle.hba_fbs.specs.Sending.{Data, Gives, Order, Outgoing, outgoing}
-use Rattle.hba_fbs.specs.Tables.{Delivers, prds_of}
-use Rattle.hba_fbs.specs.Taking.{admitted, heard_now, ignores, is_running, port_of, posted_of, settled, wrote_by}
-use Rattle.hba_fbs.specs.Views.{Port, last_command, view_of}
-use Rattle.hba_fbs.specs.Writing.{refusal_of}
-use Rattle.hba_laws.specs.Hosts.{Does, Flushed, Gave, Host, HostEvent, Put, Rewrote, Runs, Stored, Took, Wrote}
-use Rattle.hba_laws.specs.Sound.{AreHosts, IsHost}
+use Rattle.hba_fbs.specs.declared.{hearing.Heard.Heard, register.Register.{Register, TheVariants.{Fb, Fbs}}, registers.Registers.Registers}
+use Rattle.hba_fbs.specs.{declared.report.Wrote.Wrote as BytesTold, Posting.posted, Registers.written, Sending.{Data, Gives, Order, Outgoing}}
+use Rattle.hba_fbs.specs.{Sending.outgoing, Tables.{Delivers, prds_of}, Taking.{admitted, heard_now, ignores, is_running, port_of, posted_of}}
+use Rattle.hba_fbs.specs.{Taking.{settled, wrote_by}, Views.{Port, last_command, view_of}, Writing.refusal_of}
+use Rattle.hba_laws.specs.{Hosts.{Does, Flushed, Gave, Host, HostEvent, Put, Rewrote, Runs, Stored, Took, Wrote}, Sound.{AreHosts, IsHost}}
 use Rattle.hba_laws.specs.Tables.{moves_area}
 use Rattle.hba_laws.proofs.soundness.WriteLemmas.{fb_refused, mode_stays}
 

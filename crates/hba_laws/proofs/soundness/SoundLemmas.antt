@@ -1,39 +1,24 @@
 -- For `stays_sound`. What is true of the host as it opens, and what of it each event keeps.
-use Rattle.std.proofs.Common.{◌≡◌, ℕ, ◌%◌, ◌<◌, Bool, true, false, ◌&&◌, List, set, refl, sym, ap, subst, arith, inl, inr, Option, Some, None, replicate, eqb, nat_le, ◌-◌}
-use Rattle.std.specs.Prelude.{if◌then◌else◌, ◌==◌, unwrap_or}
-use Rattle.std.specs.Option.{option_eq, option_map_or}
-use Rattle.std.proofs.lemmas.Bool.{and_parts, cases_Bool, cases_lt, eqb-true, false≢true, leb-true}
+use Rattle.std.proofs.Common.{◌≡◌, ℕ, ◌%◌, ◌<◌, Bool, true, false, ◌&&◌, List, set, refl, sym, ap, subst, arith, inl, inr, Option, Some, None}
+use Rattle.std.proofs.{Common.{replicate, eqb, nat_le, ◌-◌}, lemmas.Bool.{and_parts, cases_Bool, cases_lt, eqb-true, false≢true, leb-true}}
 use Rattle.std.proofs.lemmas.List.{get_or-replicate, get_or_past, length-replicate}
-use Rattle.fis_view.specs.Frames.{Stamped}
-use Rattle.fis_view.specs.Seen.{seen}
-use Rattle.fis_view.specs.declared.view.Fis.{Fis}
+use Rattle.std.specs.{Prelude.{if◌then◌else◌, ◌==◌, unwrap_or}, Option.{option_eq, option_map_or}}
+use Rattle.fis_view.specs.{Frames.Stamped, Seen.seen, declared.view.Fis.Fis}
 use Rattle.host_memory.specs.Memory.{Memory, client_start, zeros}
 use Rattle.host_memory.proofs.Door.{zeros_sized}
-use Rattle.port_errors.specs.Errors.{AreErrors, Errors, after_clear, cause_of, cleared_device, is_reported, lowest_marked, no_errors, with_port, without}
-use Rattle.port_errors.specs.declared.cause.DeviceCause.{DeviceCause}
-use Rattle.port_errors.specs.declared.cause.PortCause.{PortCause}
-use Rattle.port_errors.specs.declared.cause.PortCause.TheVariants.{Bus}
-use Rattle.port_errors.proofs.Door.{after_clear_none, after_clear_some, cleared_below, with_device_keeps}
-use Rattle.port_errors.proofs.Door.{without_other, without_reported}
+use Rattle.port_errors.specs.Errors.{AreErrors, Errors, after_clear, cause_of, cleared_device, is_reported, lowest_marked, no_errors, with_port}
+use Rattle.port_errors.specs.{Errors.without, declared.cause.{DeviceCause.DeviceCause, PortCause.{PortCause, TheVariants.Bus}}}
+use Rattle.port_errors.proofs.Door.{after_clear_none, after_clear_some, cleared_below, with_device_keeps, without_other, without_reported}
 use Rattle.slots.specs.Slots.{has_bit}
 use Rattle.slots.proofs.Door.{new_table}
-use Rattle.hba_fbs.specs.declared.hearing.Fault.{Fault}
+use Rattle.hba_fbs.specs.declared.{hearing.{Fault.Fault, Heard.Heard}, register.Register.{Register, TheVariants.{Cmd, Fbs}}}
+use Rattle.hba_fbs.specs.{declared.registers.Registers.Registers, Bits.dec, Registers.{AreRegisters, falls, opening_registers, own_refusal, written}}
+use Rattle.hba_fbs.specs.{Sending.{Gives, Nothing, Outgoing, Unreadable, outgoing}, Taking.{admitted, errors_alone, errors_in, errors_with}}
+use Rattle.hba_fbs.specs.{Taking.{heard_now, ignores, port_of, posted_of, settled}, Views.{Port, view_of}, Writing.{errors_after, slots_refusal}}
 use Rattle.hba_fbs.specs.declared.hearing.Fault.TheVariants as fault
-use Rattle.hba_fbs.specs.declared.hearing.Heard.{Heard}
-use Rattle.hba_fbs.specs.declared.register.Register.{Register}
-use Rattle.hba_fbs.specs.declared.register.Register.TheVariants.{Cmd, Fbs}
-use Rattle.hba_fbs.specs.declared.registers.Registers.{Registers}
-use Rattle.hba_fbs.specs.Bits.{dec}
-use Rattle.hba_fbs.specs.Registers.{AreRegisters, falls, opening_registers, own_refusal, written}
-use Rattle.hba_fbs.specs.Sending.{Gives, Nothing, Outgoing, Unreadable, outgoing}
-use Rattle.hba_fbs.specs.Taking.{admitted, errors_alone, errors_in, errors_with, heard_now, ignores, port_of, posted_of, settled}
-use Rattle.hba_fbs.specs.Views.{Port, view_of}
-use Rattle.hba_fbs.specs.Writing.{errors_after, slots_refusal}
 use Rattle.hba_fbs.proofs.Door.{heard_are, none_have, written_are}
-use Rattle.hba_laws.specs.Hosts.{Does, Flushed, Gave, Host, HostEvent, Took, Wrote}
-use Rattle.hba_laws.specs.Sound.{OpensSound, RegistersStaySound, SizesStay}
-use Rattle.hba_laws.proofs.soundness.KeptLemmas.{client_lens, structure_lens}
-use Rattle.hba_laws.proofs.soundness.WriteLemmas.{first_none}
+use Rattle.hba_laws.specs.{Hosts.{Does, Flushed, Gave, Host, HostEvent, Took, Wrote}, Sound.{OpensSound, RegistersStaySound, SizesStay}}
+use Rattle.hba_laws.proofs.soundness.{KeptLemmas.{client_lens, structure_lens}, WriteLemmas.first_none}
 
 -- ---- errors
 

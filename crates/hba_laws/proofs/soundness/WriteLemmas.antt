@@ -1,28 +1,17 @@
 -- For `stays_sound`. The commands of a device's slots after a write of PxCI that is not refused.
 use Rattle.std.proofs.Common.{◌≡◌, ℕ, ◌<◌, Bool, true, false, ◌&&◌, List, length, map, refl, sym, ◌∙◌, ap, arith, inl, inr, Option, Some, None}
-use Rattle.std.specs.Bool.{beq}
-use Rattle.std.specs.Prelude.{if◌then◌else◌, is_some, not}
-use Rattle.std.specs.List.{range_with_len}
-use Rattle.std.specs.Option.{option_or}
-use Rattle.std.proofs.Math.Path.{fun_ext}
-use Rattle.std.proofs.lemmas.Bool.{cases_lt, cond-true, false≢true, true≢false}
-use Rattle.std.proofs.lemmas.List.{get_or_past, length-map}
+use Rattle.std.proofs.{Math.Path.fun_ext, lemmas.{Bool.{cases_lt, cond-true, false≢true, true≢false}, List.{get_or_past, length-map}}}
 use Rattle.std.proofs.lemmas.List.FromFn.{get_or-map-range_with_len, length-map-range_with_len}
+use Rattle.std.specs.{Bool.beq, Prelude.{if◌then◌else◌, is_some, not}, List.range_with_len, Option.option_or}
 use Rattle.hba_commands.specs.declared.command.Command.{Command}
 use Rattle.host_memory.specs.Memory.{Memory}
-use Rattle.slots.specs.Slots.{DeviceSlots, Issue, Slots, has_bit, issue_at, lowest_below, own_issue, owned_by, slots_of}
-use Rattle.slots.specs.Table.{IsTable}
+use Rattle.slots.specs.{Slots.{DeviceSlots, Issue, Slots, has_bit, issue_at, lowest_below, own_issue, owned_by, slots_of}, Table.IsTable}
 use Rattle.slots.proofs.Door.{none_below, own_at}
-use Rattle.hba_fbs.specs.declared.error.WriteError.{WriteError}
+use Rattle.hba_fbs.specs.{declared.{error.WriteError.WriteError, register.Register.TheVariants.{Ci, Fb, Fbs}, registers.Registers.Registers}, Bits.en}
+use Rattle.hba_fbs.specs.{Issuing.{any_slot, commands_with, is_busy, issue_with, issued_slots, issues_with}, Offering.{Offer, is_apart_by, is_bad_by}}
+use Rattle.hba_fbs.specs.{Offering.{issue_refusal_by, refusal_by, slots_refusal_by}, Registers.{own_refusal, own_refusal_by, running_if}}
+use Rattle.hba_fbs.specs.{Views.{HaveCommands, Port, last_command}, Writing.{apart_refusal, refusal_of, slots_refusal}}
 use Rattle.hba_fbs.specs.declared.error.WriteError.TheVariants as refusal
-use Rattle.hba_fbs.specs.declared.register.Register.TheVariants.{Ci, Fb, Fbs}
-use Rattle.hba_fbs.specs.declared.registers.Registers.{Registers}
-use Rattle.hba_fbs.specs.Bits.{en}
-use Rattle.hba_fbs.specs.Issuing.{any_slot, commands_with, is_busy, issue_with, issued_slots, issues_with}
-use Rattle.hba_fbs.specs.Offering.{Offer, is_apart_by, is_bad_by, issue_refusal_by, refusal_by, slots_refusal_by}
-use Rattle.hba_fbs.specs.Registers.{own_refusal, own_refusal_by, running_if}
-use Rattle.hba_fbs.specs.Views.{HaveCommands, Port, last_command}
-use Rattle.hba_fbs.specs.Writing.{apart_refusal, refusal_of, slots_refusal}
 use Rattle.hba_laws.specs.Parts.{commands_of}
 
 -- ---- refusals

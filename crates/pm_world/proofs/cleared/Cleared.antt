@@ -1,29 +1,28 @@
 -- For the field `new_devices_wait` of `laws`. A port that reported a new device forwards nothing until bit X of its
 -- PSCR[1] is cleared. This holds in each step, and so in each run.
-use Rattle.std.proofs.Common.{◌≡◌, ◌≢◌, ℕ, zero, suc, ◌+◌, ◌%◌, ◌<◌, ◌==◌, ◌&&◌, min, max, Bool, true, false, not, if◌then◌else◌, List, [], ◌∷◌, ◌++◌, length, flat_map, take, replicate, Option, Some, None, Ok, get_or, set, refl, sym, ap, subst, ◌∙◌, inl, inr, bit_and, bit_or, arith}
-use Rattle.std.specs.{Prelude.{◌||◌, is_none, is_some, nat_lt, MatchOption, MatchBool}, Int.bit_at, List.list_any}
-use Rattle.std.proofs.lemmas.{Bool.{cases_eq, eqb-true, eq-eqb, ne_eqb}, List.{length-replicate, length-set}}
+use Rattle.std.proofs.Common.{◌≡◌, ◌≢◌, ℕ, zero, suc, ◌+◌, ◌%◌, ◌<◌, ◌==◌, ◌&&◌, min, max, Bool, true, false, not, if◌then◌else◌, List, [], ◌∷◌, ◌++◌}
+use Rattle.std.proofs.Common.{length, flat_map, take, replicate, Option, Some, None, Ok, get_or, set, refl, sym, ap, subst, ◌∙◌, inl, inr, bit_and}
+use Rattle.std.proofs.{Common.{bit_or, arith}, lemmas.{Bool.{cases_eq, eqb-true, eq-eqb, ne_eqb}, List.{length-replicate, length-set}}}
 use Rattle.std.proofs.lemmas.Nat.Bits.{bit_at-lt, bit_at_and, bit_at_or, bit_at_xor}
+use Rattle.std.specs.{Prelude.{◌||◌, is_none, is_some, nat_lt, MatchOption, MatchBool}, Int.bit_at, List.list_any}
 use Rattle.fis_view.specs.Frames.{Stamped}
-use Rattle.pm_registers.specs.{Bits.{shares, without}, declared.port.PortRegisters.PortRegisters}
-use Rattle.pm_registers.specs.Port.{ShowsTruly, bit_n, bit_x, controlled, det, inserted, is_open, met, opened, opening_port, passes, port_written}
-use Rattle.pm_registers.specs.Port.{removed}
-use Rattle.pm_registers.specs.RegisterMap.{RegisterMap, after_write, control_port, control_written, forwards, register_at, settled, summary}
+use Rattle.pm_registers.specs.{Bits.{shares, without}, declared.port.PortRegisters.PortRegisters, Port.{ShowsTruly, bit_n, bit_x, controlled, det}}
+use Rattle.pm_registers.specs.{Port.{inserted, is_open, met, opened, opening_port, passes, port_written, removed}, RegisterMap.RegisterMap}
+use Rattle.pm_registers.specs.RegisterMap.{after_write, control_port, control_written, forwards, register_at, settled, summary}
 use Rattle.pm_registers.specs.RegisterMap.{with_port as with_registers, written}
 use Rattle.pm_registers.specs.RegisterMap as map
 use Rattle.pm_registers.proofs.Door.{either, shows_inserted, shows_removed, shows_written}
 use Rattle.pm_control.specs.{Answers.registers_after_request, Requests.request_in, declared.request.Request.{Request, TheVariants.Write}}
 use Rattle.pm_ports.specs.Port.{PortState, came_refusal, gone_refusal, rises, with_connection, with_removal, with_up}
 use Rattle.multiplier.specs.{Passing.falls, Rules.{FromHostRule, ToControl, ToDevice, ToNobody, ToPort, with_device as connected, without_device}}
-use Rattle.multiplier.specs.{State.{PmState, passes_to, pm_port, port_at}, declared.multiplier.Passed.Passed}
-use Rattle.multiplier.specs.Between.{Answer as Answers, FromPort, Gives, Notice, at}
+use Rattle.multiplier.specs.{State.{PmState, passes_to, pm_port, port_at}, declared.multiplier.Passed.Passed, Between.{Answer as Answers, FromPort}}
+use Rattle.multiplier.specs.Between.{Gives, Notice, at}
 use Rattle.multiplier.specs.declared.multiplier.Passed.TheVariants as passed
 use Rattle.multiplier.proofs.Door.{gives, kept_part, other_port}
 use Rattle.pm_world.specs.{Attached.Attached, Cleared.{EachWaits, NewDevicesWait, PassesNone, clears_x, is_cleared, is_up_from}, Downward.fell_to}
-use Rattle.pm_world.specs.Places.{IsOrderly, Place, Places, Queue, new_world, new_world_in}
-use Rattle.pm_world.specs.Rules.{CameRule, DiskSendRule, DiskTakeRule, GoneRule, InjectRule, OnDevice, Outcome, PmDownRule, PmFromDeviceRule}
-use Rattle.pm_world.specs.{Rules.{PmFromHostRule, PmPresenceRule, PmUpRule, Rule, Run, recorded}, declared.{link.Change.Change, step.Config.Config}}
-use Rattle.pm_world.specs.declared.{step.Step.Step, step.Answer.Answer}
+use Rattle.pm_world.specs.{Places.{IsOrderly, Place, Places, Queue, new_world, new_world_in}, Rules.{CameRule, DiskSendRule, DiskTakeRule, GoneRule}}
+use Rattle.pm_world.specs.Rules.{InjectRule, OnDevice, Outcome, PmDownRule, PmFromDeviceRule, PmFromHostRule, PmPresenceRule, PmUpRule, Rule, Run}
+use Rattle.pm_world.specs.{Rules.recorded, declared.{link.Change.Change, step.{Config.Config, Step.Step, Answer.Answer}}}
 use Rattle.pm_world.specs.declared.link.Change.TheVariants as change
 use Rattle.pm_world.specs.declared.step.Step.TheVariants as step
 use Rattle.pm_world.specs.declared.step.Answer.TheVariants as answer

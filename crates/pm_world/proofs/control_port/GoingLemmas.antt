@@ -1,14 +1,13 @@
 -- For `ports_go_on`. The host port of a world goes on.
-use Rattle.std.proofs.Common.{◌≡◌, ℕ, All, List, ◌∷◌, Option, Ok, sym, ◌∙◌, subst, inl, inr, arith}
-use Rattle.std.proofs.lemmas.Bool.{cases_Bool}
+use Rattle.std.proofs.{Common.{◌≡◌, ℕ, All, List, ◌∷◌, Option, Ok, sym, ◌∙◌, subst, inl, inr, arith}, lemmas.Bool.cases_Bool}
 use Rattle.fis_view.specs.Frames.{IsFrame, Stamped}
 use Rattle.hba_fbs.specs.declared.report.TakeReport.{TakeReport}
 use Rattle.multiplier.specs.Arbiter.{control_port}
 use Rattle.hba_driver.specs.{Going.IsOfControl, HostTurns.Took, Slot31.{Asks, IsNotice31, MayBe31, MayCome31, Signs, Stage31}}
 use Rattle.hba_driver.proofs.Door.{control_in31, goes_on}
-use Rattle.pm_world.specs.Places.{Places, new_world}
-use Rattle.pm_world.specs.Rules.{CameRule, DiskSendRule, DiskTakeRule, GoneRule, InjectRule, PmDownRule, PmFromDeviceRule, PmPresenceRule, Rule}
-use Rattle.pm_world.specs.{declared.step.Step.Step, PortsGoOn.PortsGoOn, Line.{AreNotices, OnLine, is_reply}}
+use Rattle.pm_world.specs.{Places.{Places, new_world}, Rules.{CameRule, DiskSendRule, DiskTakeRule, GoneRule, InjectRule, PmDownRule}}
+use Rattle.pm_world.specs.{Rules.{PmFromDeviceRule, PmPresenceRule, Rule}, declared.step.Step.Step, PortsGoOn.PortsGoOn, Line.{AreNotices, OnLine}}
+use Rattle.pm_world.specs.Line.{is_reply}
 use Rattle.pm_world.specs.declared.step.Step.TheVariants as step
 use Rattle.pm_world.specs.declared.step.Answer.TheVariants as answer
 use Rattle.pm_world.proofs.{upward.PortMarks.HasPortMark, steps.Steps.{at_both, at_device}, control_port.LineLemmas.{IsNow, opening_now, run_now}}

@@ -1,39 +1,37 @@
 -- For `one_order_at_a_time`. Each step of a world keeps what is on its way between its host and its control port.
-use Rattle.std.proofs.Common.{◌≡◌, ◌≢◌, ℕ, ◌<◌, ◌==◌, ◌&&◌, Bool, true, false, if◌then◌else◌, All, List, [], ◌∷◌, ◌++◌, Option, Some, None, Ok, length, refl, sym, ◌∙◌, ap, subst, inl, inr, arith}
+use Rattle.std.proofs.Common.{◌≡◌, ◌≢◌, ℕ, ◌<◌, ◌==◌, ◌&&◌, Bool, true, false, if◌then◌else◌, All, List, [], ◌∷◌, ◌++◌, Option, Some, None, Ok}
+use Rattle.std.proofs.{Common.{length, refl, sym, ◌∙◌, ap, subst, inl, inr, arith}, lemmas.Bool.{cases_Bool, cases_eq, eq-eqb, eqb-true, eqb-false}}
+use Rattle.std.proofs.lemmas.Bool.{false≢true, ne_eqb}
 use Rattle.std.specs.Prelude.{is_none, MatchOption, MatchBool}
-use Rattle.std.proofs.lemmas.Bool.{cases_Bool, cases_eq, eq-eqb, eqb-true, eqb-false, false≢true, ne_eqb}
 use Rattle.fis_view.specs.{Frames.Stamped, Seen.seen}
 use Rattle.fis_view.specs.declared.view.Fis.TheVariants as view
 use Rattle.host_memory.specs.Memory.{zeroed}
 use Rattle.hba_fbs.specs.{declared.report.TakeReport.TakeReport, Taking.port_of}
 use Rattle.pm_ports.specs.Port.{came_refusal, gone_refusal}
 use Rattle.pm_control.specs.{Answers.{IsAnswer, answer_to_request}, Requests.request_in}
-use Rattle.multiplier.specs.Arbiter.{control_port}
-use Rattle.multiplier.specs.Rules.{FromHostRule, ToControl, ToDevice, ToNobody, ToPort, with_device as connected, without_device}
-use Rattle.multiplier.specs.{State.{PmState, control_stamp, passes_to, pm_port, port_at}, declared.multiplier.Passed.Passed}
+use Rattle.multiplier.specs.{Arbiter.control_port, Rules.{FromHostRule, ToControl, ToDevice, ToNobody, ToPort, with_device as connected}}
+use Rattle.multiplier.specs.{Rules.without_device, State.{PmState, control_stamp, passes_to, pm_port, port_at}, declared.multiplier.Passed.Passed}
 use Rattle.multiplier.specs.Between.{Answer as Answers, FromPort, Gives, Notice}
 use Rattle.multiplier.specs.declared.multiplier.Passed.TheVariants as passed
 use Rattle.multiplier.proofs.Door.{gives}
-use Rattle.hba_driver.specs.declared.mode.Mode.TheVariants.{Switching}
-use Rattle.hba_driver.specs.HostTurns.{Does, Host, HostTurn, Ticks, Took, Pushed, Ticked, Submitted, Polled, Put}
-use Rattle.hba_driver.specs.declared.request.Request.{Request as Asked}
-use Rattle.hba_driver.specs.Slot31.{Asks, Follows31, IsAt31, IsNext31, IsNotice31, MayBe31, MayCome31, Pushes31, Resets, Rests, Signs, Stage31}
-use Rattle.hba_driver.specs.{Slot31.{TakesOn, TicksOn, Turns31, Waits, is_quiet, orders_clear}, Between.{AreOfTheir, IsGoing}}
+use Rattle.hba_driver.specs.{declared.mode.Mode.TheVariants.Switching, HostTurns.{Does, Host, HostTurn, Ticks, Took, Pushed, Ticked, Submitted}}
+use Rattle.hba_driver.specs.{HostTurns.{Polled, Put}, declared.request.Request.Request as Asked, Slot31.{Asks, Follows31, IsAt31, IsNext31}}
+use Rattle.hba_driver.specs.Slot31.{IsNotice31, MayBe31, MayCome31, Pushes31, Resets, Rests, Signs, Stage31, TakesOn, TicksOn, Turns31, Waits}
+use Rattle.hba_driver.specs.{Slot31.{is_quiet, orders_clear}, Between.{AreOfTheir, IsGoing}}
 use Rattle.hba_driver.proofs.Door.{begins_srst, control_in31, ends_srst, going_opens, going_turn, none_issued, opens31, turn31, turn_addressed}
 use Rattle.hba_driver.proofs.Door.{turn_their, zeroed_right}
-use Rattle.pm_world.specs.{Attached.Attached, Places.{IsOrderly, Place, Places, Queue, is_config, new_world, with_host}}
-use Rattle.pm_world.specs.Rules.{CameRule, DiskSendRule, DiskTakeRule, GoneRule, HostPushRule, HostTakeRule, InjectRule, OnDevice}
-use Rattle.pm_world.specs.Rules.{OnDeviceAndMultiplier, Outcome, PmDownRule, PmFromDeviceRule, PmFromHostRule, PmPresenceRule, PmUpRule, PollRule}
-use Rattle.pm_world.specs.{Rules.{PutRule, Rule, Run, SubmitRule, TickRule, recorded}, declared.{link.Change.Change, step.Config.Config}}
-use Rattle.pm_world.specs.declared.{step.Step.Step, step.Answer.Answer}
+use Rattle.pm_world.specs.{Attached.Attached, Places.{IsOrderly, Place, Places, Queue, is_config, new_world, with_host}, Rules.CameRule}
+use Rattle.pm_world.specs.Rules.{DiskSendRule, DiskTakeRule, GoneRule, HostPushRule, HostTakeRule, InjectRule, OnDevice, OnDeviceAndMultiplier}
+use Rattle.pm_world.specs.Rules.{Outcome, PmDownRule, PmFromDeviceRule, PmFromHostRule, PmPresenceRule, PmUpRule, PollRule, PutRule, Rule, Run}
+use Rattle.pm_world.specs.{Rules.{SubmitRule, TickRule, recorded}, declared.{link.Change.Change, step.{Config.Config, Step.Step, Answer.Answer}}}
 use Rattle.pm_world.specs.Line.{AreNotices, IsClean, IsEnd, IsLine, IsReset, OnLine, OneOrderAtATime, is_register, is_reply}
 use Rattle.pm_world.specs.declared.link.Change.TheVariants as change
 use Rattle.pm_world.specs.declared.step.Step.TheVariants as step
 use Rattle.pm_world.specs.declared.step.Answer.TheVariants as answer
-use Rattle.pm_world.proofs.{turns.Delivery.sized, steps.Orderly.{opening_orderly, orderly_after}}
-use Rattle.pm_world.proofs.{upward.PortMarks.{AllHavePortMarks, HasPortMark, opening_marks, run_marks}, steps.Steps.{at_both, at_device}}
-use Rattle.pm_world.proofs.control_port.ListLemmas.{IsAwaited, line_app, line_asks, line_begins, line_ends, line_goes, line_passes, line_reply}
-use Rattle.pm_world.proofs.control_port.ListLemmas.{line_rises, line_quiet, line_takes, line_up, line_waits, idle_quiet, notices_app, quiet_line}
+use Rattle.pm_world.proofs.{turns.Delivery.sized, steps.Orderly.{opening_orderly, orderly_after}, upward.PortMarks.{AllHavePortMarks, HasPortMark}}
+use Rattle.pm_world.proofs.{upward.PortMarks.{opening_marks, run_marks}, steps.Steps.{at_both, at_device}, control_port.ListLemmas.IsAwaited}
+use Rattle.pm_world.proofs.control_port.ListLemmas.{line_app, line_asks, line_begins, line_ends, line_goes, line_passes, line_reply, line_rises}
+use Rattle.pm_world.proofs.control_port.ListLemmas.{line_quiet, line_takes, line_up, line_waits, idle_quiet, notices_app, quiet_line}
 use Rattle.pm_world.proofs.control_port.SaidLemmas.{answers, asks_end, asks_reset, end_signs, notice_is, reset_silent}
 
 -- ---- a world on its way

@@ -1,14 +1,13 @@
 -- For `one_order_at_a_time`. What the control port says, and what is said to it.
 use Rattle.std.proofs.Common.{◌≡◌, ℕ, Bool, true, false, bit_and, List, Option, Some, None, Ok, Err, refl, ◌∙◌, ap, subst}
 use Rattle.std.specs.{Prelude.{◌==◌, if◌then◌else◌, Result}, Int.from_bool}
-use Rattle.fis_view.specs.{Built.{IsBuilt, cut, d2h_given, h2d_given, set_bits_given}, Frames.Stamped}
-use Rattle.fis_view.specs.{Table.{Bits, C, Control, Count, D2h, Error, H2d, Lba, SActive, Status, field, places}, declared.build.D2hFields.D2hFields}
-use Rattle.fis_view.specs.declared.{build.H2dFields.H2dFields, frame.Stamp.Stamp}
+use Rattle.fis_view.specs.{Built.{IsBuilt, cut, d2h_given, h2d_given, set_bits_given}, Frames.Stamped, Table.{Bits, C, Control, Count, D2h, Error}}
+use Rattle.fis_view.specs.{Table.{H2d, Lba, SActive, Status, field, places}, declared.build.{D2hFields.D2hFields, H2dFields.H2dFields}}
+use Rattle.fis_view.specs.declared.frame.Stamp.{Stamp}
 use Rattle.hba_fbs.specs.{Posting.is_signature, Status.{is_busy, is_error}}
 use Rattle.pm_registers.specs.{RegisterMap.{RegisterMap, read_at}, declared.words.RegisterError.{RegisterError, TheVariants.{NoPort, NoRegister}}}
-use Rattle.pm_control.specs.Answers.{IsAnswer, answer_to_request, notice_fields, read_answer, refused, signature, write_answer}
-use Rattle.pm_control.specs.Requests.{request_in, request_under}
-use Rattle.pm_control.specs.declared.request.Request.{Request, TheVariants.{Read, Write, Unknown, Reset, EndReset}}
+use Rattle.pm_control.specs.{Answers.{IsAnswer, answer_to_request, notice_fields, read_answer, refused, signature, write_answer}, Requests.request_in}
+use Rattle.pm_control.specs.{Requests.request_under, declared.request.Request.{Request, TheVariants.{Read, Write, Unknown, Reset, EndReset}}}
 use Rattle.hba_driver.specs.Slot31.{IsAnswer31, IsNotice31, IsSignature31}
 
 -- ---- what is said to the control port

@@ -1,21 +1,20 @@
 -- For `Counts::note`. A connection of which no answer says that it came has sent nothing, so nothing of it was taken.
-use Rattle.std.proofs.Common.{◌≡◌, ◌≢◌, ℕ, zero, suc, ◌+◌, ◌<◌, ◌≤◌, List, [], ◌∷◌, ◌++◌, Option, Some, None, Bool, true, false, refl, sym, ap, subst, ◌∙◌, append_assoc, inl, inr, map, length, arith, length-append}
+use Rattle.std.proofs.Common.{◌≡◌, ◌≢◌, ℕ, zero, suc, ◌+◌, ◌<◌, ◌≤◌, List, [], ◌∷◌, ◌++◌, Option, Some, None, Bool, true, false, refl, sym, ap, subst}
+use Rattle.std.proofs.{Common.{◌∙◌, append_assoc, inl, inr, map, length, arith, length-append}, lemmas.Bool.{cases_eq, eqb-true, eq-eqb, ne_eqb}}
+use Rattle.std.proofs.lemmas.{Bool.{false≢true}, Option.{same_Some, slice_get_within}, List.append-nil, List.Folds.{list_any-append}}
 use Rattle.std.specs.{Prelude.{◌&&◌, ◌==◌, ◌||◌, ◌⊎◌, if◌then◌else◌, slice_get, slice_set, IsTrue, Ok, option_map}, Option.option_or, List.flat_map}
-use Rattle.std.proofs.lemmas.{Bool.{cases_eq, eqb-true, eq-eqb, ne_eqb, false≢true}, Option.{same_Some, slice_get_within}, List.append-nil}
-use Rattle.std.proofs.lemmas.List.Folds.{list_any-append}
 use Rattle.multiplier.specs.{Arbiter.control_port, State.PmState}
 use Rattle.hba_driver.specs.{declared.mode.Mode.Mode, HostTurns.Host}
-use Rattle.pm_world.specs.{Attached.Attached, Places.{Places, Place, Queue, IsOrderly, opening, new_world_in}}
-use Rattle.pm_world.specs.Rules.{Outcome, CameActs, GoneActs, DiskSendActs, InjectActs, CameRule, GoneRule, DiskSendRule, InjectRule, DiskTakeRule}
-use Rattle.pm_world.specs.Rules.{PmPresenceRule, PmFromDeviceRule, PmDownRule, PmUpRule, HostTakeRule, OnDevice, OnDeviceAndMultiplier, Rule, Run}
-use Rattle.pm_world.specs.Traffic.{sent_by, taken_by, sent, taken}
-use Rattle.pm_world.specs.Counting.{capped, row_of, first_row, sent_more, taken_more, noted, says_came, has_come, Tell, AreOfARun}
-use Rattle.pm_world.specs.declared.{counts.ConnCount.ConnCount, step.Config.Config, step.Step.Step, step.Answer.Answer}
+use Rattle.pm_world.specs.{Attached.Attached, Places.{Places, Place, Queue, IsOrderly, opening, new_world_in}, Rules.{Outcome, CameActs, GoneActs}}
+use Rattle.pm_world.specs.Rules.{DiskSendActs, InjectActs, CameRule, GoneRule, DiskSendRule, InjectRule, DiskTakeRule, PmPresenceRule}
+use Rattle.pm_world.specs.{Rules.{PmFromDeviceRule, PmDownRule, PmUpRule, HostTakeRule, OnDevice, OnDeviceAndMultiplier, Rule, Run}, Traffic.sent_by}
+use Rattle.pm_world.specs.{Traffic.{taken_by, sent, taken}, Counting.{capped, row_of, first_row, sent_more, taken_more, noted, says_came, has_come}}
+use Rattle.pm_world.specs.{Counting.{Tell, AreOfARun}, declared.{counts.ConnCount.ConnCount, step.{Config.Config, Step.Step, Answer.Answer}}}
 use Rattle.pm_world.specs.declared.step.Step.TheVariants as step
 use Rattle.pm_world.specs.declared.step.Answer.TheVariants as answer
-use Rattle.pm_world.proofs.{upward.Law.nothing_lost, steps.Lists.{slice_get-set_same, slice_get-set_other}}
-use Rattle.pm_world.proofs.upward.FrameMoves.{IsQuiet, from_host_quiet, push_quiet, tick_quiet, submit_quiet, poll_quiet, put_quiet}
-use Rattle.pm_world.proofs.steps.{Openings.nothing_stands, Orderly.{opening_orderly, run_orderly}, Steps.{at_device, at_both}}
+use Rattle.pm_world.proofs.{upward.{Law.nothing_lost, FrameMoves.{IsQuiet, from_host_quiet}}, steps.Lists.{slice_get-set_same, slice_get-set_other}}
+use Rattle.pm_world.proofs.{upward.FrameMoves.{push_quiet, tick_quiet, submit_quiet, poll_quiet, put_quiet}, steps.Openings.nothing_stands}
+use Rattle.pm_world.proofs.steps.{Orderly.{opening_orderly, run_orderly}, Steps.{at_device, at_both}}
 
 -- a device is plugged in at port n, on connection c
 pub record IsPluggedAt (devices : List Place) (n c : ℕ) : Type 0 where

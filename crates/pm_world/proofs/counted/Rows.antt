@@ -1,13 +1,12 @@
 -- For `Counts::note`. Where a row stands among sorted rows, and what a write or a new row leaves.
-use Rattle.std.proofs.Common.{◌≡◌, ℕ, ◌+◌, ◌-◌, ◌<◌, ◌≤◌, List, ◌∷◌, Option, Some, None, Result, Ok, Err, IfOk, IfErr, true, false, refl, sym, ap, subst, ◌∙◌, inl, inr, length, get_or, set, take, drop, arith, length-set, take-append-drop}
+use Rattle.std.proofs.Common.{◌≡◌, ℕ, ◌+◌, ◌-◌, ◌<◌, ◌≤◌, List, ◌∷◌, Option, Some, None, Result, Ok, Err, IfOk, IfErr, true, false, refl, sym, ap}
+use Rattle.std.proofs.{Common.{subst, ◌∙◌, inl, inr, length, get_or, set, take, drop, arith, length-set, take-append-drop}, lemmas.Bool.cases_eq}
+use Rattle.std.proofs.lemmas.{Bool.{cases_lt, eq-eqb, ne_eqb}, List.{get_or-set_same, get_or-set_other, Edits.{length-insert, get_or-insert_below}}}
+use Rattle.std.proofs.lemmas.List.{Edits.{get_or-insert_at, get_or-insert_above}, Folds.{find_at, find-set, find_past, find-append}}
+use Rattle.std.proofs.lemmas.{List.Sums.position_or_len_is, Option.{slice_get_past, slice_get-get_or}}
 use Rattle.std.specs.{Prelude.{◌&&◌, ◌==◌, ◌⊎◌, if◌then◌else◌, AllPairs, option_map}, Option.option_or, List.{insert, AllWithin, position_or_len}}
-use Rattle.std.specs.List.Sorted.{IsSearchInRange, IsBinarySearchResult, IsNonDecreasingBy}
-use Rattle.std.specs.Ordering.{nat_cmp, ordering_index, ordering_then, MatchOrdering}
-use Rattle.std.specs.{declared.cmp.Ordering.{Ordering, TheVariants.{Less, Equal, Greater}}, Cmp.ranks}
-use Rattle.std.proofs.lemmas.{Bool.{cases_eq, cases_lt, eq-eqb, ne_eqb}, List.{get_or-set_same, get_or-set_other}}
-use Rattle.std.proofs.lemmas.List.Edits.{length-insert, get_or-insert_below, get_or-insert_at, get_or-insert_above}
-use Rattle.std.proofs.lemmas.{List.Folds.{find_at, find-set, find_past, find-append}, List.Sums.position_or_len_is}
-use Rattle.std.proofs.lemmas.Option.{slice_get_past, slice_get-get_or}
+use Rattle.std.specs.{List.Sorted.{IsSearchInRange, IsBinarySearchResult, IsNonDecreasingBy}, Ordering.{nat_cmp, ordering_index, ordering_then}}
+use Rattle.std.specs.{Ordering.MatchOrdering, declared.cmp.Ordering.{Ordering, TheVariants.{Less, Equal, Greater}}, Cmp.ranks}
 use Rattle.pm_world.specs.Counting.{is_of, row_of, Precedes, AreSorted, first_row, sent_more, taken_more, IsRowAt, IsGapFor}
 use Rattle.pm_world.specs.declared.counts.ConnCount.{ConnCount}
 

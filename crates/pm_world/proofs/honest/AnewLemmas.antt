@@ -1,7 +1,7 @@
 -- For `disks_are_honest`. From each order to clear a port until that order is taken, the host serves the device at the
 -- port anew. The host and a disk that is plugged in there are ends that go on.
 use Rattle.std.proofs.Common.{◌≡◌, ◌==◌, ℕ, ◌<◌, Bool, true, false, List, [], ◌∷◌, ◌++◌, append_assoc, length, refl, sym, ap, subst, ◌∙◌, inl, inr}
-use Rattle.std.proofs.Common.{Ok, arith, map}
+use Rattle.std.proofs.{Common.{Ok, arith, map}, lemmas.{Bool.{cases_Bool, false≢true, true≢false}, List.append-nil}}
 use Rattle.std.specs.{Prelude.{MatchBool, ◌⊎◌, if◌then◌else◌}, List.list_any}
 use Rattle.fis_view.specs.Frames.{marked, Stamped}
 use Rattle.disk_model.specs.{Histories.{Received, Happening, Plugged}, declared.plan.DiskPlan.DiskPlan, Ledger.IsSize, Runs.IsDiskRun}
@@ -12,20 +12,17 @@ use Rattle.disk_recovery.specs.{Flushes.bare_floors, Between.IsUnfaulted}
 use Rattle.disk_recovery.proofs.Door.{flush_begins, flush_unfaulted, none_issued, since_begins}
 use Rattle.disk_model.proofs.Door.{begins_anew}
 use Rattle.pm_world.specs.{Attached.Attached, PathEnds.IsAtHost, Cleared.is_cleared, Downward.pushed_by, Places.{Places, is_config, new_world}}
-use Rattle.pm_world.specs.{Rules.{Rule, Run}, Runs.over, Turns.{IsOfItsPort, turn_of}, declared.{step.Config.Config, step.Step.Step}}
-use Rattle.pm_world.specs.{declared.step.Answer.Answer, Stale.{IsInOrder, is_clear, orders_clear, unsent_after}, HostTouches.opens}
-use Rattle.pm_world.proofs.serving.TouchedLemmas.{touched_served, GoesTouched, touched_over}
-use Rattle.pm_world.proofs.honest.FlushLemmas.{flush_orders, flush_serves, held_at_flush, rests_at_flush}
-use Rattle.pm_world.proofs.control_port.LineLemmas.{IsNow, opening_now, run_now}
-use Rattle.pm_world.proofs.ports.DownLemmas.{down_change, DownChange, given_for, Gone, Put, Quiet}
-use Rattle.pm_world.proofs.{honest.{EndsSteps.{HasEnds, IsUnflushed, stays_beside}, FlushedLemmas.opened_at_flush}, meant.ChangeLemmas.tick_step}
-use Rattle.pm_world.proofs.{honest.CutLemmas.{IsHeld, held_after}, turns.Delivery.sized}
-use Rattle.pm_world.proofs.ports.EachLemmas.{Each, Nothing, any_one, each_more, none_of}
-use Rattle.pm_world.proofs.honest.FineLemmas.{further, opens_step, sound_at, untaken_none}
-use Rattle.pm_world.proofs.{serving.FirstLemmas.{FirstOn, comes_risen, first_step, is_taken_of}, control_port.GoingLemmas.ports_go_on}
-use Rattle.pm_world.proofs.{turns.HostFold.rule_does, serving.HostLemmas.{HostOn, drivers_serve}, upward.FrameMoves.rule_moves}
-use Rattle.pm_world.proofs.{meant.{OrderLemmas.Knows, OrderTurns.{opening_knows, order_step}}, honest.UnfaultedLemmas.step_unfaulted}
-use Rattle.std.proofs.lemmas.{Bool.{cases_Bool, false≢true, true≢false}, List.append-nil}
+use Rattle.pm_world.specs.{Rules.{Rule, Run}, Runs.over, Turns.{IsOfItsPort, turn_of}, declared.step.{Config.Config, Step.Step, Answer.Answer}}
+use Rattle.pm_world.specs.{Stale.{IsInOrder, is_clear, orders_clear, unsent_after}, HostTouches.opens}
+use Rattle.pm_world.proofs.{serving.TouchedLemmas.{touched_served, GoesTouched, touched_over}, honest.FlushLemmas.{flush_orders, flush_serves}}
+use Rattle.pm_world.proofs.{honest.FlushLemmas.{held_at_flush, rests_at_flush}, control_port.LineLemmas.{IsNow, opening_now, run_now}}
+use Rattle.pm_world.proofs.{ports.DownLemmas.{down_change, DownChange, given_for, Gone, Put, Quiet}, honest.EndsSteps.{HasEnds, IsUnflushed}}
+use Rattle.pm_world.proofs.{honest.{EndsSteps.stays_beside, FlushedLemmas.opened_at_flush, CutLemmas.IsHeld}, meant.ChangeLemmas.tick_step}
+use Rattle.pm_world.proofs.{honest.CutLemmas.held_after, turns.Delivery.sized, ports.EachLemmas.{Each, Nothing, any_one, each_more, none_of}}
+use Rattle.pm_world.proofs.{honest.FineLemmas.{further, opens_step, sound_at, untaken_none}, serving.FirstLemmas.{FirstOn, comes_risen, first_step}}
+use Rattle.pm_world.proofs.{serving.{FirstLemmas.is_taken_of, HostLemmas.HostOn}, control_port.GoingLemmas.ports_go_on, turns.HostFold.rule_does}
+use Rattle.pm_world.proofs.{serving.HostLemmas.drivers_serve, upward.FrameMoves.rule_moves, meant.{OrderLemmas.Knows, OrderTurns.opening_knows}}
+use Rattle.pm_world.proofs.{meant.OrderTurns.order_step, honest.UnfaultedLemmas.step_unfaulted}
 use Rattle.host_memory.specs.Memory.{is_memory_size}
 use Rattle.pm_world.specs.declared.step.Step.TheVariants as step
 use Rattle.pm_world.specs.declared.step.Answer.TheVariants as answer

@@ -1,8 +1,7 @@
 -- For `disks_are_honest`. What a FIS of a disk that the host of a world takes reports as done ended honestly.
 use Rattle.std.proofs.Common.{◌≡◌, ◌≢◌, ◌==◌, ℕ, ◌*◌, ◌<◌, Bool, true, false, List, [], ◌∷◌, ◌++◌, refl, sym, ap, subst, ◌∙◌, inl, inr, ◌≤◌, length}
-use Rattle.std.proofs.Common.{Option, Some, None, Ok, arith}
+use Rattle.std.proofs.{Common.{Option, Some, None, Ok, arith}, lemmas.Bool.{ne_eqb, true≢false}}
 use Rattle.std.specs.{Prelude.{◌⊎◌, if◌then◌else◌, IsSomeAnd, slice_get}, Option.option_map}
-use Rattle.std.proofs.lemmas.Bool.{ne_eqb, true≢false}
 use Rattle.host_memory.specs.{Memory.{Memory, is_memory_size}, declared.table.Prd.Prd}
 use Rattle.hba_commands.specs.declared.command.Command as written
 use Rattle.hba_commands.specs.Requests.{request_of, work_of}
@@ -14,12 +13,12 @@ use Rattle.disk_model.specs.{declared.{plan.DiskPlan.DiskPlan, request.Command.C
 use Rattle.disk_model.specs.{Histories.{DiskOf, Happening}, Ledger.{IsSize, ReadOut, Written, ledger, medium_with}, Runs.IsDiskRun, Fronts.IsFront}
 use Rattle.disk_model.specs.Anew.{StayWritten}
 use Rattle.disk_model.proofs.Door.{before_is_front, writes_stay}
-use Rattle.hba_laws.specs.{Agreement.{work_of_issue, work_of_transfer}, Client.own, Delivering.{completes_now, event_taken}}
-use Rattle.hba_laws.specs.{History.{History, Transfer, completes, filled, issued}, Sound.IsHost}
+use Rattle.hba_laws.specs.{Agreement.{work_of_issue, work_of_transfer}, Client.own, Delivering.{completes_now, event_taken}, History.History}
+use Rattle.hba_laws.specs.{History.{Transfer, completes, filled, issued}, Sound.IsHost}
 use Rattle.hba_laws.specs.Hosts as event
-use Rattle.hba_driver.specs.{declared.{request.Work.TheVariants.{Read, Write}, slot.Head.Head}, Delivered.TookDelivers}
-use Rattle.hba_driver.specs.{Drivers.{Driver, Entry, entry_at}, Events.{IsSoundHost, shared_by}, HostTurns.{Host, HostTurn, Tooks}}
-use Rattle.hba_driver.specs.{Orders.{is_queued, request_fields, work_fields}, Served.{IsIssueOf, IsOrdered, IsRequest, IsServed, IsStep}}
+use Rattle.hba_driver.specs.{declared.{request.Work.TheVariants.{Read, Write}, slot.Head.Head}, Delivered.TookDelivers, Drivers.{Driver, Entry}}
+use Rattle.hba_driver.specs.{Drivers.entry_at, Events.{IsSoundHost, shared_by}, HostTurns.{Host, HostTurn, Tooks}, Orders.{is_queued, request_fields}}
+use Rattle.hba_driver.specs.{Orders.work_fields, Served.{IsIssueOf, IsOrdered, IsRequest, IsServed, IsStep}}
 use Rattle.hba_driver.specs.declared.request.Work as asked
 use Rattle.disk_simulation.specs.Honest.{IsDoneHonestly, IsOnMedium}
 use Rattle.disk_recovery.specs.{Steady.command_of, Ends.since_floor, Flushes.{Floor, flushes_taken, write_floors}}
@@ -28,8 +27,8 @@ use Rattle.disk_recovery.proofs.Door.{each_end_is_honest, flushes_are_taken, req
 use Rattle.pm_world.specs.{Attached.{Attached, Modelled, Own, StandsFor, plan_of}, Units.LivesOn, Places.{Place, Places}, Rules.Rule}
 use Rattle.pm_world.specs.{declared.step.Step.Step, ReadBack.IsPart, HonestEnds.{EndsHonestly, ReadsSectors, StandsAt, WritesSectors}}
 use Rattle.pm_world.proofs.{honest.EndsSteps.{HasEnds, running}, control_port.LineLemmas.IsNow, serving.Brought.{IsBrought, StandsThere}}
-use Rattle.pm_world.proofs.serving.{BroughtLemmas.brought_there, TookLemmas.{host_takes, plain_frame}}
-use Rattle.pm_world.proofs.serving.TouchedLemmas.{touched_delivers, touched_served, touched_sound}
+use Rattle.pm_world.proofs.serving.{BroughtLemmas.brought_there, TookLemmas.{host_takes, plain_frame}, TouchedLemmas.touched_delivers}
+use Rattle.pm_world.proofs.serving.TouchedLemmas.{touched_served, touched_sound}
 use Rattle.pm_world.specs.declared.step.Answer.TheVariants as answer
 
 -- ## The disk's run

@@ -1,23 +1,21 @@
 -- For `disks_are_honest`. The plugging of a unit: its port is shut from there on.
 use Rattle.std.proofs.Common.{◌≡◌, ◌≢◌, ◌==◌, ◌&&◌, ℕ, ◌+◌, ◌<◌, ◌≤◌, Bool, true, false, List, [], ◌∷◌, length, refl, sym, ap, subst, ◌∙◌, inr}
-use Rattle.std.proofs.Common.{Option, Some, Ok, arith}
+use Rattle.std.proofs.{Common.{Option, Some, Ok, arith}, lemmas.Bool.{eq-eqb, true≢false}}
 use Rattle.std.specs.Prelude.{slice_get, if◌then◌else◌}
-use Rattle.std.proofs.lemmas.Bool.{eq-eqb, true≢false}
 use Rattle.fis_view.specs.Frames.{Stamped}
 use Rattle.pm_ports.specs.Port.{is_gone}
 use Rattle.multiplier.specs.{Arbiter.control_port, State.{PmState, port_at}}
 use Rattle.hba_driver.specs.declared.mode.Mode.TheVariants.{Switching}
-use Rattle.pm_world.specs.{Attached.Attached, Downward.falling_to, Places.{Place, Places, is_config, new_world}}
-use Rattle.pm_world.specs.{Rules.{CameActs, CameRule, Rule, Run}, Traffic.{all_marked, is_removed, of_conn, stamped, transit, waiting}}
-use Rattle.pm_world.specs.{declared.{step.Config.Config, step.Step.Step, step.Answer.Answer}, PathEnds.{IsThere, IsUnremoved}, Connections.IsUnused}
+use Rattle.pm_world.specs.{Attached.Attached, Downward.falling_to, Places.{Place, Places, is_config, new_world}, Rules.{CameActs, CameRule, Rule}}
+use Rattle.pm_world.specs.{Rules.Run, Traffic.{all_marked, is_removed, of_conn, stamped, transit, waiting}, declared.step.{Config.Config, Step.Step}}
+use Rattle.pm_world.specs.{declared.step.Answer.Answer, PathEnds.{IsThere, IsUnremoved}, Connections.IsUnused}
 use Rattle.pm_world.specs.declared.step.Step.TheVariants as step
 use Rattle.pm_world.specs.declared.step.Answer.TheVariants as answer
 use Rattle.pm_world.proofs.{steps.Lists.{slice_get-set_same, stamped-append, stamped-one}, upward.Recorded.{IsLed, led_last}}
 use Rattle.pm_world.proofs.{upward.PortMarks.{opening_marks, run_marks}, steps.Steps.{AtDevice, at_device}, ports.EachLemmas.{Each, each_map}}
-use Rattle.pm_world.proofs.{serving.FirstLemmas.comes_risen, paths.{KeptLemmas.{came_unremoved, unremoved}, RunLemmas.IsPlugged}}
-use Rattle.pm_world.proofs.paths.PathLemmas.{and_both, none_both, still_above}
-use Rattle.pm_world.proofs.ports.{FirmLemmas.{HasCome, IsFirm, firm_after, opening_firm, run_firm, seen_at}, SentLemmas.none_on_way}
-use Rattle.pm_world.proofs.honest.ShutLemmas.{IsForOther, IsNoneOf, IsShutOff, WaitsFor}
+use Rattle.pm_world.proofs.{serving.FirstLemmas.comes_risen, paths.{KeptLemmas.{came_unremoved, unremoved}, RunLemmas.IsPlugged, PathLemmas.and_both}}
+use Rattle.pm_world.proofs.{paths.PathLemmas.{none_both, still_above}, ports.FirmLemmas.{HasCome, IsFirm, firm_after, opening_firm, run_firm}}
+use Rattle.pm_world.proofs.{ports.{FirmLemmas.seen_at, SentLemmas.none_on_way}, honest.ShutLemmas.{IsForOther, IsNoneOf, IsShutOff, WaitsFor}}
 
 -- ## The plugging
 

@@ -1,9 +1,8 @@
 -- For `disks_are_honest`. A disk and the host of a world are ends that go on, from the step that clears the port for the
 -- disk, as long as the disk is not unplugged.
 use Rattle.std.proofs.Common.{◌≡◌, ℕ, ◌<◌, Bool, true, false, List, [], ◌∷◌, ◌++◌, append_assoc, length, refl, sym, ap, subst, ◌∙◌, inl, inr, ◌==◌}
-use Rattle.std.proofs.Common.{None, Option, Some, Ok}
+use Rattle.std.proofs.{Common.{None, Option, Some, Ok}, lemmas.{Bool.{eqb-true, false≢true}, List.append-nil}}
 use Rattle.std.specs.Prelude.{◌⊎◌}
-use Rattle.std.proofs.lemmas.{Bool.{eqb-true, false≢true}, List.append-nil}
 use Rattle.host_memory.specs.Memory.{is_memory_size}
 use Rattle.disk_model.specs.{declared.plan.DiskPlan.DiskPlan, Histories.{Happening, Plugged, Sent}, Ledger.IsSize, Runs.IsDiskRun}
 use Rattle.disk_simulation.proofs.Door.{run_to}
@@ -12,18 +11,16 @@ use Rattle.disk_recovery.proofs.Door.{ends_since_go_on, floors_rise_since, none_
 use Rattle.hba_driver.specs.{HostTurns.{Host, HostTurn}, Steady.{IsAskedOf, IsSteady}, Drivers.{Entry, entry_at}}
 use Rattle.multiplier.specs.State.{port_at}
 use Rattle.pm_world.specs.{Attached.Attached, Cleared.is_cleared, Places.{Places, is_config, new_world}, Rules.{Rule, Run}, Stale.unsent_after}
-use Rattle.pm_world.specs.{Turns.{IsOfItsPort, turn_of}, Units.happens, PathEnds.{injects, unplugs}, declared.step.Answer.Answer}
-use Rattle.pm_world.specs.declared.{step.Config.Config, step.Step.Step}
+use Rattle.pm_world.specs.{Turns.{IsOfItsPort, turn_of}, Units.happens, PathEnds.{injects, unplugs}, declared.step.{Answer.Answer, Config.Config}}
+use Rattle.pm_world.specs.declared.step.Step.{Step}
 use Rattle.pm_world.specs.declared.step.Answer.TheVariants as answer
 use Rattle.pm_world.proofs.{honest.{CutLemmas.IsCut, FineLemmas.further}, ports.FirmLemmas.{IsFirm, firm_at}, serving.FirstLemmas.comes_risen}
-use Rattle.pm_world.proofs.{honest.FlushLemmas.cut_there, control_port.LineLemmas.IsNow}
-use Rattle.pm_world.proofs.{honest.LiveLemmas.{IsLive, IsOpenAt, StaysPresent, stays_present}, meant.OrderTurns.order_step}
-use Rattle.pm_world.proofs.{upward.PortMarks.{opening_marks, run_marks}, honest.ShutLemmas.WaitsFor}
-use Rattle.pm_world.proofs.honest.AnewLemmas.{IsAnew, OrderedNow, cleared_anew, ends_now, now_at, ordered_on}
-use Rattle.pm_world.proofs.honest.EndsSteps.{HasEnds, HasEndsOn, IsNoTurn, IsUnflushed, ends_step, running, same_host}
-use Rattle.pm_world.proofs.honest.{ExactLemmas.{GoesExact, IsOpenFor, cleared_exact, open_at, open_step}, FlushedLemmas.unflushed}
-use Rattle.pm_world.proofs.{honest.WaitingLemmas.{IsWaiting, all_sent, waits_on}, serving.{HostLemmas.HostOn, TouchedLemmas.touched_served}}
-use Rattle.pm_world.proofs.reported.ReportedLemmas.{IsFreeSlot}
+use Rattle.pm_world.proofs.{honest.{FlushLemmas.cut_there, LiveLemmas.{IsLive, IsOpenAt, StaysPresent, stays_present}}, control_port.LineLemmas.IsNow}
+use Rattle.pm_world.proofs.{meant.OrderTurns.order_step, upward.PortMarks.{opening_marks, run_marks}, honest.{ShutLemmas.WaitsFor, AnewLemmas.IsAnew}}
+use Rattle.pm_world.proofs.honest.{AnewLemmas.{OrderedNow, cleared_anew, ends_now, now_at, ordered_on}, EndsSteps.{HasEnds, HasEndsOn, IsNoTurn}}
+use Rattle.pm_world.proofs.honest.{EndsSteps.{IsUnflushed, ends_step, running, same_host}, ExactLemmas.{GoesExact, IsOpenFor, cleared_exact, open_at}}
+use Rattle.pm_world.proofs.honest.{ExactLemmas.open_step, FlushedLemmas.unflushed, WaitingLemmas.{IsWaiting, all_sent, waits_on}}
+use Rattle.pm_world.proofs.{serving.{HostLemmas.HostOn, TouchedLemmas.touched_served}, reported.ReportedLemmas.IsFreeSlot}
 use Rattle.disk_model.proofs.Door.{begins_anew}
 use Rattle.hba_laws.specs.{Client.own, History.{Transfer, issued}}
 

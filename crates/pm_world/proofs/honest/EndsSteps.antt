@@ -1,27 +1,26 @@
 -- For `disks_are_honest`. Each step of a world leaves a disk and the host that serves it together or apart, with what
 -- is on its way between them.
 use Rattle.std.proofs.Common.{◌≡◌, ◌≢◌, ◌==◌, ℕ, ◌<◌, Bool, true, false, List, [], ◌∷◌, ◌++◌, drop, length, map, refl, sym, ap, subst, ◌∙◌, inl, inr}
-use Rattle.std.proofs.Common.{Some, None, Ok, arith}
+use Rattle.std.proofs.{Common.{Some, None, Ok, arith}, lemmas.{Bool.{eq-eqb, eqb-true, true≢false}, List.append-nil}}
 use Rattle.std.specs.{Prelude.{◌⊎◌, MatchBool, if◌then◌else◌}, List.flat_map}
-use Rattle.std.proofs.lemmas.{Bool.{eq-eqb, eqb-true, true≢false}, List.append-nil}
 use Rattle.fis_view.specs.Frames.{Stamped, marked}
 use Rattle.host_memory.specs.Memory.{is_memory_size}
 use Rattle.hba_fbs.specs.{declared.report.TakeReport.TakeReport, Taking.port_of}
 use Rattle.multiplier.specs.State.{pm_port}
 use Rattle.disk_model.specs.{declared.plan.DiskPlan.DiskPlan, Histories.{Happening, Received, Sent}, Ledger.IsSize, Runs.IsDiskRun}
 use Rattle.hba_laws.specs.{Client.Touches, Delivering.touches_after}
-use Rattle.hba_driver.specs.Events.{events_over, shared_by}
-use Rattle.hba_driver.specs.{HostTurns.{DoesAll, Host, HostTurn, Polled, Pushed, Put, Submitted, Ticked, Took, Tooks}, Steady.IsFlushTick}
+use Rattle.hba_driver.specs.{Events.{events_over, shared_by}, HostTurns.{DoesAll, Host, HostTurn, Polled, Pushed, Put, Submitted, Ticked, Took}}
+use Rattle.hba_driver.specs.{HostTurns.Tooks, Steady.IsFlushTick}
 use Rattle.hba_driver.proofs.Door.{goes_on, turn_addressed}
 use Rattle.disk_recovery.specs.{Ends.{IsBesideTurn, IsRunning}, Flushes.{AreEndsSince, EndsSinceAfter, Floor}}
 use Rattle.disk_recovery.proofs.Door.{ends_since_go_on}
-use Rattle.pm_world.specs.{Places.{Places, Queue}, Rules.Rule, HostTouches.{AreTouched, goes}, Turns.{IsOfItsPort, turn_of}}
-use Rattle.pm_world.specs.{PathEnds.{IsAtHost, for_port}, declared.{step.Step.Step, step.Answer.Answer}}
+use Rattle.pm_world.specs.{Places.{Places, Queue}, Rules.Rule, HostTouches.{AreTouched, goes}, Turns.{IsOfItsPort, turn_of}, PathEnds.IsAtHost}
+use Rattle.pm_world.specs.{PathEnds.for_port, declared.step.{Step.Step, Answer.Answer}}
 use Rattle.pm_world.specs.declared.step.Answer.TheVariants as answer
-use Rattle.pm_world.proofs.{serving.GivenLemmas.{HasGiven, host_gives}, turns.HostFold.rule_does}
-use Rattle.pm_world.proofs.{serving.HostLemmas.{idle_turn, pushed_turn, put_turn, submitted_turn, none_told}, control_port.LineLemmas.IsNow}
-use Rattle.pm_world.proofs.{serving.{TookLemmas.{host_takes, plain_frame}, TouchedLemmas.touched_served}, paths.PathLemmas.drop_front}
-use Rattle.pm_world.proofs.honest.ExactLemmas.{Comes, ExactMoves, Gives, IsExact, Sends, Still, Takes}
+use Rattle.pm_world.proofs.{serving.{GivenLemmas.{HasGiven, host_gives}, HostLemmas.{idle_turn, pushed_turn, put_turn}}, turns.HostFold.rule_does}
+use Rattle.pm_world.proofs.{serving.{HostLemmas.{submitted_turn, none_told}, TookLemmas.{host_takes, plain_frame}}, control_port.LineLemmas.IsNow}
+use Rattle.pm_world.proofs.{serving.TouchedLemmas.touched_served, paths.PathLemmas.drop_front, honest.ExactLemmas.{Comes, ExactMoves, Gives, IsExact}}
+use Rattle.pm_world.proofs.honest.ExactLemmas.{Sends, Still, Takes}
 pub use Rattle.pm_world.proofs.serving.HostLemmas.{IsNoTurn}
 
 -- ## What is kept

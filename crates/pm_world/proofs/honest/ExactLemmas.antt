@@ -1,8 +1,8 @@
 -- For `disks_are_honest`. What goes down to a unit whose port is open to it stays exact: nothing of it is dropped.
 use Rattle.std.proofs.Common.{◌≡◌, ◌≢◌, ◌==◌, ◌&&◌, ℕ, ◌<◌, Bool, true, false, not, List, [], ◌∷◌, ◌++◌, append_assoc, drop, length, map, refl, sym}
-use Rattle.std.proofs.Common.{ap, subst, ◌∙◌, inl, inr, Option, Some, None, Ok, arith}
+use Rattle.std.proofs.{Common.{ap, subst, ◌∙◌, inl, inr, Option, Some, None, Ok, arith}, lemmas.Bool.{cases_eq, eq-eqb, eqb-true, ne_eqb, true≢false}}
+use Rattle.std.proofs.lemmas.{List.append-nil, Option.same_Some}
 use Rattle.std.specs.{Prelude.{if◌then◌else◌, slice_get, take, MatchBool, MatchOption}, List.flat_map}
-use Rattle.std.proofs.lemmas.{Bool.{cases_eq, eq-eqb, eqb-true, ne_eqb, true≢false}, List.append-nil, Option.same_Some}
 use Rattle.fis_view.specs.Frames.{Stamped, marked}
 use Rattle.hba_fbs.specs.declared.report.TakeReport.{TakeReport}
 use Rattle.pm_registers.specs.RegisterMap.{forwards}
@@ -12,19 +12,17 @@ use Rattle.multiplier.specs.declared.multiplier.Passed.TheVariants as passed
 use Rattle.disk_model.specs.Histories.{Happening, Received, Sent}
 use Rattle.pm_world.specs.{Attached.Attached, Cleared.is_cleared, Downward.{falling_to, on_down_link}, Places.{Place, Places, is_config, new_world}}
 use Rattle.pm_world.specs.Rules.{CameRule, DiskSendRule, DiskTakeActs, DiskTakeRule, GoneRule, InjectRule, PmDownRule, PmFromDeviceRule}
-use Rattle.pm_world.specs.{Rules.{PmPresenceRule, Rule, Run, is_for}, Stale.unsent_after, Units.happens}
-use Rattle.pm_world.specs.{DevicePaths.{GoesOnPath, IsOnPath, PathMoves}, declared.step.Config.Config}
-use Rattle.pm_world.specs.{PathEnds.{AreAmong, IsAtHost, IsThere, befalls, descending_on, for_port, injects, unplugs}, declared.step.Step.Step}
-use Rattle.pm_world.specs.declared.step.Answer.{Answer}
+use Rattle.pm_world.specs.{Rules.{PmPresenceRule, Rule, Run, is_for}, Stale.unsent_after, Units.happens, DevicePaths.{GoesOnPath, IsOnPath}}
+use Rattle.pm_world.specs.{DevicePaths.PathMoves, declared.step.Config.Config, PathEnds.{AreAmong, IsAtHost, IsThere, befalls, descending_on}}
+use Rattle.pm_world.specs.{PathEnds.{for_port, injects, unplugs}, declared.step.{Step.Step, Answer.Answer}}
 use Rattle.pm_world.specs.DevicePaths as path
 use Rattle.pm_world.specs.declared.step.Step.TheVariants as step
 use Rattle.pm_world.specs.declared.step.Answer.TheVariants as answer
 use Rattle.pm_world.proofs.{honest.CutLemmas.{IsCut, path_now}, downward.DownMoves.{Goes, Lands, Loses, Starts, rule_moves_down}}
-use Rattle.pm_world.proofs.ports.{FirmLemmas.{IsFirm, firm_after, firm_at}, KeepingLemmas.drop_own}
-use Rattle.pm_world.proofs.{honest.LiveLemmas.{IsLive, live_after, stays_present}, meant.{OrderLemmas.Knows, OrderTurns.order_step}}
-use Rattle.pm_world.proofs.paths.{PlaceLemmas.takes_own, RunLemmas.{TellsOf, tells_of, there_after, unit_paths_go_on}}
-use Rattle.pm_world.proofs.{honest.ShutLemmas.{IsShutOff, only_there}, steps.Steps.{AtDevice, at_both, at_device}, ports.UpLemmas.passed_step}
-use Rattle.pm_world.proofs.ports.DownLemmas.{to_control, to_port}
+use Rattle.pm_world.proofs.{ports.{FirmLemmas.{IsFirm, firm_after, firm_at}, KeepingLemmas.drop_own}, honest.LiveLemmas.{IsLive, live_after}}
+use Rattle.pm_world.proofs.{honest.LiveLemmas.stays_present, meant.{OrderLemmas.Knows, OrderTurns.order_step}, paths.PlaceLemmas.takes_own}
+use Rattle.pm_world.proofs.{paths.RunLemmas.{TellsOf, tells_of, there_after, unit_paths_go_on}, honest.ShutLemmas.{IsShutOff, only_there}}
+use Rattle.pm_world.proofs.{steps.Steps.{AtDevice, at_both, at_device}, ports.{UpLemmas.passed_step, DownLemmas.{to_control, to_port}}}
 use Rattle.pm_world.proofs.paths.PathLemmas.{dropped_never_comes, falls_both, falls_first, falls_on, falls_other, flat_more, if_false, if_true}
 use Rattle.pm_world.proofs.{paths.PathLemmas.rests_on, honest.ForwardLemmas.{IsMet, live_passes, met_after, met_at}}
 

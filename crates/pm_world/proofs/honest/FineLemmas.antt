@@ -1,13 +1,12 @@
 -- For `disks_are_honest`. In a run from a new world the port goes on, and no fault stands of a device for which none
 -- was heard. What goes fine with a device goes well with it and with the port.
-use Rattle.std.proofs.Common.{◌≡◌, ℕ, ◌<◌, true, false, List, [], ◌∷◌, ◌++◌, length, refl, sym, ◌∙◌, Ok}
-use Rattle.std.proofs.lemmas.Bool.{eq-eqb, true≢false}
+use Rattle.std.proofs.{Common.{◌≡◌, ℕ, ◌<◌, true, false, List, [], ◌∷◌, ◌++◌, length, refl, sym, ◌∙◌, Ok}, lemmas.Bool.{eq-eqb, true≢false}}
 use Rattle.host_memory.specs.Memory.{zeroed}
 use Rattle.hba_driver.specs.{declared.mode.Mode.TheVariants.Switching, Events.IsSoundHost}
 use Rattle.disk_recovery.specs.Between.{IsUnfaulted}
 use Rattle.hba_driver.proofs.Door.{calm_or_flush, hosts_stay_sound, zeroed_right}
 use Rattle.pm_world.specs.{Attached.Attached, Places.{Places, is_config, new_world}, Rules.{Rule, Run}, Runs.over, Turns.{IsOfItsPort, turn_of}}
-use Rattle.pm_world.specs.{declared.{step.Config.Config, step.Step.Step, step.Answer.Answer}, PortsGoOn.PortGoesOn}
+use Rattle.pm_world.specs.{declared.step.{Config.Config, Step.Step, Answer.Answer}, PortsGoOn.PortGoesOn}
 use Rattle.pm_world.proofs.{serving.FirstLemmas.{OpensWell, is_taken_of}, turns.{Delivery.sized, HostFold.run_does}, upward.Law.run_append}
 use Rattle.pm_world.proofs.honest.UnfaultedLemmas.{IsHeardUnfaulted}
 use Rattle.pm_world.specs.declared.step.Answer.TheVariants as answer

@@ -1,9 +1,9 @@
 -- For `ports_rest_at_a_flush`. In the tick that flushes a disk, the earlier orders are taken, nothing of the disk is on
 -- the host's link, and the host begins anew.
 use Rattle.std.proofs.Common.{◌≡◌, ◌≢◌, ◌==◌, ◌&&◌, ℕ, zero, suc, ◌*◌, ◌^◌, ◌<◌, ◌≤◌, Bool, true, false, not, List, [], ◌∷◌, ◌++◌, length, refl, sym}
-use Rattle.std.proofs.Common.{ap, subst, ◌∙◌, inl, inr, Option, Some, None, Ok, arith}
+use Rattle.std.proofs.{Common.{ap, subst, ◌∙◌, inl, inr, Option, Some, None, Ok, arith}, lemmas.Bool.{cases_eq, cases_lt, eq-eqb, eqb-true}}
+use Rattle.std.proofs.lemmas.{Bool.{true≢false}, List.append-nil, Nat.Bits.{and_pow, bit_at-lt}}
 use Rattle.std.specs.{Int.bit_at, Prelude.{◌||◌, bit_and, slice_get}, List.list_any}
-use Rattle.std.proofs.lemmas.{Bool.{cases_eq, cases_lt, eq-eqb, eqb-true, true≢false}, List.append-nil, Nat.Bits.{and_pow, bit_at-lt}}
 use Rattle.fis_view.specs.Frames.{Stamped}
 use Rattle.host_memory.specs.Memory.{is_memory_size}
 use Rattle.pm_control.specs.Requests.{request_in}
@@ -11,20 +11,18 @@ use Rattle.pm_registers.specs.{Bits.shares, Port.bit_x}
 use Rattle.multiplier.specs.{Arbiter.control_port, State.{pm_port, port_at}}
 use Rattle.disk_model.specs.Histories.{Plugged}
 use Rattle.hba_laws.specs.{Client.Touches, Delivering.touches_after}
-use Rattle.hba_driver.specs.{Effects.{effects_of, order_effects}, Events.{events_over, shared_by}}
-use Rattle.hba_driver.specs.{HostTurns.{Does, DoesAll, Host, HostTurn, Ticked, sight_in}, Laws.flushes, Steady.IsFlushTick}
-use Rattle.hba_driver.specs.Ticks.{effects, effects_due}
+use Rattle.hba_driver.specs.{Effects.{effects_of, order_effects}, Events.{events_over, shared_by}, HostTurns.{Does, DoesAll, Host, HostTurn, Ticked}}
+use Rattle.hba_driver.specs.{HostTurns.sight_in, Laws.flushes, Steady.IsFlushTick, Ticks.{effects, effects_due}}
 use Rattle.disk_recovery.specs.Kept.{ServesOn}
 use Rattle.pm_world.specs.{Attached.Attached, Runs.AtEach, Cleared.clears_x, Places.{Place, Places, is_config, new_world}, Rules.{Rule, Run}}
-use Rattle.pm_world.specs.{Traffic.{is_removed, stamped}, declared.{step.Config.Config, step.Step.Step, step.Answer.Answer}}
-use Rattle.pm_world.specs.{Line.{HasLine, IsClean, NoneDown}, Stale.{InOrder, IsInOrder, is_clear, is_from, unsent_after}}
-use Rattle.pm_world.specs.{HostTouches.{AreTouched, goes}, PathEnds.{IsAway, IsThere}, Connections.{IsAhead, IsUnused}}
-use Rattle.pm_world.specs.Resting.{IsAtRest, PortsRest, RestsAtFlush}
+use Rattle.pm_world.specs.{Traffic.{is_removed, stamped}, declared.step.{Config.Config, Step.Step, Answer.Answer}, Line.{HasLine, IsClean, NoneDown}}
+use Rattle.pm_world.specs.{Stale.{InOrder, IsInOrder, is_clear, is_from, unsent_after}, HostTouches.{AreTouched, goes}, PathEnds.{IsAway, IsThere}}
+use Rattle.pm_world.specs.{Connections.{IsAhead, IsUnused}, Resting.{IsAtRest, PortsRest, RestsAtFlush}}
 use Rattle.pm_world.specs.declared.step.Step.TheVariants as step
 use Rattle.pm_world.specs.declared.step.Answer.TheVariants as answer
 use Rattle.pm_world.proofs.{cleared.Cleared.HasX, steps.Lists.{stamped-append, stamped-one}, control_port.LineLemmas.one_order_at_a_time}
 use Rattle.pm_world.proofs.{ports.EachLemmas.{Nothing, none_of}, meant.OrderTurns.orders_in_order, serving.HostLemmas.{DriversServe, HostOn}}
-use Rattle.pm_world.proofs.{paths.RunLemmas.IsPlugged, serving.TouchedLemmas.{touched_served, touched_sound}, paths.PathLemmas.{and_false, if_false}}
+use Rattle.pm_world.proofs.{paths.{RunLemmas.IsPlugged, PathLemmas.{and_false, if_false}}, serving.TouchedLemmas.{touched_served, touched_sound}}
 use Rattle.pm_world.proofs.{honest.CutLemmas.{IsCut, IsHeld}, ports.{FirmLemmas.{opening_firm, removed_before, run_firm}, SentLemmas.none_on_way}}
 
 -- ## The orders

@@ -1,18 +1,17 @@
 -- For `disks_are_honest`. A port that is open to a device passes FISes: communication is established there, over each
 -- run from a new world.
 use Rattle.std.proofs.Common.{◌≡◌, ℕ, zero, suc, ◌*◌, ◌^◌, ◌<◌, ◌==◌, ◌&&◌, Bool, true, false, List, length, replicate, refl, sym, ap, subst, ◌∙◌}
-use Rattle.std.proofs.Common.{inl, inr, get_or, set, bit_and, bit_or, Option, Some, None, Ok, [], ◌∷◌}
+use Rattle.std.proofs.{Common.{inl, inr, get_or, set, bit_and, bit_or, Option, Some, None, Ok, [], ◌∷◌}, lemmas.Bool.{and_from, eq-eqb, lt-ltb}}
+use Rattle.std.proofs.lemmas.{Bool.{true≢false}, Nat.Bits.and_pow}
 use Rattle.std.specs.Prelude.{◌⊎◌, if◌then◌else◌, is_some, nat_lt}
-use Rattle.std.proofs.lemmas.{Bool.{and_from, eq-eqb, lt-ltb, true≢false}, Nat.Bits.and_pow}
-use Rattle.pm_registers.specs.{Bits.without, declared.port.PortRegisters.PortRegisters}
-use Rattle.pm_registers.specs.Port.{bit_n, bit_x, controlled, det, inserted, is_open, met, opened, opening_port, passes, port_written, removed}
-use Rattle.pm_registers.specs.RegisterMap.{RegisterMap, after_write, control_port, control_written, forwards, register_at, settled, summary}
-use Rattle.pm_registers.specs.RegisterMap.{with_port as with_registers, written}
+use Rattle.pm_registers.specs.{Bits.without, declared.port.PortRegisters.PortRegisters, Port.{bit_n, bit_x, controlled, det, inserted, is_open, met}}
+use Rattle.pm_registers.specs.{Port.{opened, opening_port, passes, port_written, removed}, RegisterMap.{RegisterMap, after_write, control_port}}
+use Rattle.pm_registers.specs.RegisterMap.{control_written, forwards, register_at, settled, summary, with_port as with_registers, written}
 use Rattle.pm_registers.specs.RegisterMap as map
 use Rattle.pm_registers.proofs.Door.{either}
 use Rattle.pm_control.specs.{Answers.registers_after_request, Requests.request_in, declared.request.Request.{Request, TheVariants.Write}}
 use Rattle.multiplier.specs.State.{PmState, passes_to, port_at}
-use Rattle.pm_world.specs.{Attached.Attached, Places.{Places, is_config, new_world}, Rules.{Rule, Run}, declared.{step.Config.Config, step.Step.Step}}
+use Rattle.pm_world.specs.{Attached.Attached, Places.{Places, is_config, new_world}, Rules.{Rule, Run}, declared.step.{Config.Config, Step.Step}}
 use Rattle.pm_world.specs.declared.step.Answer.{Answer}
 use Rattle.pm_world.specs.declared.step.Step.TheVariants as step
 use Rattle.pm_world.specs.declared.step.Answer.TheVariants as answer

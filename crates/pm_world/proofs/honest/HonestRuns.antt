@@ -1,37 +1,35 @@
 -- For `disks_are_honest`. Honest disks on each connection, over whole runs of a world.
 use Rattle.std.proofs.Common.{◌≡◌, ◌==◌, ℕ, ◌<◌, Bool, true, false, List, [], ◌∷◌, ◌++◌, append_assoc, length, refl, sym, ap, subst, ◌∙◌, inl, inr}
-use Rattle.std.proofs.Common.{Option, Some, None, Ok, arith}
+use Rattle.std.proofs.{Common.{Option, Some, None, Ok, arith}, lemmas.{Bool.{eq-eqb, eqb-true, or_parts}, List.Folds.list_any-append}}
+use Rattle.std.proofs.lemmas.{List.append-nil, Option.slice_get_within}
 use Rattle.std.specs.{Prelude.{if◌then◌else◌, slice_get, IsSomeAnd}, List.list_any}
-use Rattle.std.proofs.lemmas.{Bool.{eq-eqb, eqb-true, or_parts}, List.Folds.list_any-append, Option.slice_get_within, List.append-nil}
 use Rattle.fis_view.specs.Frames.{marked}
 use Rattle.host_memory.specs.Memory.{is_memory_size}
 use Rattle.hba_fbs.specs.{declared.report.TakeReport.TakeReport, Taking.port_of}
 use Rattle.disk_model.specs.{declared.{plan.DiskPlan.DiskPlan, unit.Unit.TheVariants.Disk}, Histories.{DiskOf, Happening, Plugged}, Runs.IsDiskRun}
 use Rattle.disk_model.specs.{Fronts.IsFront, Ledger.ledger}
 use Rattle.hba_driver.specs.{declared.mode.Mode.TheVariants.Switching, HostTurns.HostTurn, Drivers.{Entry, entry_at, rephased}, Orders.is_queued}
-use Rattle.hba_driver.specs.{Submits.new_entry, declared.{slot.Phase.TheVariants.Waits, request.Request.Request, request.Ticket.Ticket}}
+use Rattle.hba_driver.specs.{Submits.new_entry, declared.{slot.Phase.TheVariants.Waits, request.{Request.Request, Ticket.Ticket}}}
 use Rattle.disk_simulation.proofs.Door.{run_to}
 use Rattle.multiplier.specs.State.{port_at}
 use Rattle.pm_registers.specs.RegisterMap.{forwards}
-use Rattle.pm_world.specs.Attached.{Attached, Modelled, StandsFor, plan_of}
-use Rattle.pm_world.specs.Disks.{Before, DiskRun, EndedSince, FlushedSince, HasDisk, HonestDisks, Since, WasSubmitted, disk_history, host_turns}
-use Rattle.pm_world.specs.{Places.{Place, Places, is_config, new_world}, Rules.{Rule, Run}, Runs.{IsStepOf, over}, HostTouches.AreTouched}
-use Rattle.pm_world.specs.{Turns.turn_of, Units.{LivesOn, happens}, Ends.{EndsMeet, HaveMet, IsDiskWith}, PathEnds.{IsThere, injects}}
-use Rattle.pm_world.specs.{declared.{step.Answer.Answer, step.Config.Config, step.Step.Step}, ReadBack.IsPart}
+use Rattle.pm_world.specs.{Attached.{Attached, Modelled, StandsFor, plan_of}, Disks.{Before, DiskRun, EndedSince, FlushedSince, HasDisk, HonestDisks}}
+use Rattle.pm_world.specs.{Disks.{Since, WasSubmitted, disk_history, host_turns}, Places.{Place, Places, is_config, new_world}, Rules.{Rule, Run}}
+use Rattle.pm_world.specs.{Runs.{IsStepOf, over}, HostTouches.AreTouched, Turns.turn_of, Units.{LivesOn, happens}, Ends.{EndsMeet, HaveMet}}
+use Rattle.pm_world.specs.{Ends.IsDiskWith, PathEnds.{IsThere, injects}, declared.step.{Answer.Answer, Config.Config, Step.Step}, ReadBack.IsPart}
 use Rattle.pm_world.specs.declared.step.Answer.TheVariants as answer
 use Rattle.pm_world.specs.declared.step.Step.TheVariants as step
 use Rattle.pm_world.proofs.{honest.AnewLemmas.{OrderedNow, now_at, order_run, ordered_after, ordered_on}, turns.Delivery.sized}
 use Rattle.pm_world.proofs.honest.DisksLemmas.{ends_honestly, ends_later, flush_of_device, flush_taken, lived_run, of_device, part_front}
-use Rattle.pm_world.proofs.honest.{EarlyLemmas.{ComesShut, comes_shut}, EndsRuns.its_port, EndsSteps.running}
-use Rattle.pm_world.proofs.honest.{StageRuns.{Hears, Stage, Waiting, hears, serves_open, stage_rises, stage_run}, TakenLemmas.took_since}
-use Rattle.pm_world.proofs.{ports.FirmLemmas.firm_at, honest.FineLemmas.further, upward.Law.run_append, paths.RunLemmas.if_some}
-use Rattle.pm_world.proofs.{units.Units.units_lived_on, honest.WaitingLemmas.{IsWaiting, came_waiting}}
-use Rattle.pm_world.proofs.reported.ReportedLemmas.{StoodIn, SubmittedIn, later_of, renamed, step_stood, submitted_over}
-use Rattle.pm_world.proofs.control_port.LineLemmas.{IsNow}
+use Rattle.pm_world.proofs.honest.{EarlyLemmas.{ComesShut, comes_shut}, EndsRuns.its_port, EndsSteps.running, StageRuns.{Hears, Stage, Waiting}}
+use Rattle.pm_world.proofs.{honest.{StageRuns.{hears, serves_open, stage_rises, stage_run}, TakenLemmas.took_since}, ports.FirmLemmas.firm_at}
+use Rattle.pm_world.proofs.{honest.FineLemmas.further, upward.Law.run_append, paths.RunLemmas.if_some, units.Units.units_lived_on}
+use Rattle.pm_world.proofs.{honest.WaitingLemmas.{IsWaiting, came_waiting}, reported.ReportedLemmas.{StoodIn, SubmittedIn, later_of, renamed}}
+use Rattle.pm_world.proofs.{reported.ReportedLemmas.{step_stood, submitted_over}, control_port.LineLemmas.IsNow}
 use Rattle.slots.specs.Slots.{has_bit}
 use Rattle.hba_laws.specs.{Client.own, History.filled}
-use Rattle.disk_recovery.specs.Ends.{AreEnds, IsRunning}
-use Rattle.disk_recovery.specs.Flushes.{AreFloorsOf, Floor, IsFloor, bare_floor, bare_floors, floor_for, floor_of, flushes_taken, write_floors}
+use Rattle.disk_recovery.specs.{Ends.{AreEnds, IsRunning}, Flushes.{AreFloorsOf, Floor, IsFloor, bare_floor, bare_floors, floor_for, floor_of}}
+use Rattle.disk_recovery.specs.Flushes.{flushes_taken, write_floors}
 use Rattle.disk_recovery.proofs.Door.{floor_stays}
 use Rattle.hba_driver.proofs.Door as accept
 

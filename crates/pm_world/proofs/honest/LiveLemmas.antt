@@ -1,25 +1,24 @@
 -- For `disks_are_honest`. A port that passed a FIS of its device stays open to the device until it is unplugged.
 -- Meanwhile the host does not flush the device.
 use Rattle.std.proofs.Common.{◌≡◌, ◌≢◌, ◌==◌, ℕ, ◌+◌, ◌%◌, ◌<◌, min, Bool, true, false, List, [], ◌∷◌, ◌++◌, length, refl, sym, ap, subst, ◌∙◌, inl}
-use Rattle.std.proofs.Common.{inr, get_or, set, bit_and, Option, Some, None, Ok, arith}
+use Rattle.std.proofs.{Common.{inr, get_or, set, bit_and, Option, Some, None, Ok, arith}, lemmas.Bool.{cases_eq, eqb-true, eq-eqb, true≢false}}
+use Rattle.std.proofs.lemmas.{Nat.Bits.{bit_at-lt, bit_at_and, bit_at_xor}, Option.same_Some}
 use Rattle.std.specs.{Int.bit_at, Prelude.{◌⊎◌, if◌then◌else◌, is_none, slice_get, MatchBool, MatchOption}}
-use Rattle.std.proofs.lemmas.{Bool.{cases_eq, eqb-true, eq-eqb, true≢false}, Nat.Bits.{bit_at-lt, bit_at_and, bit_at_xor}, Option.same_Some}
 use Rattle.fis_view.specs.Frames.{Stamped}
-use Rattle.pm_registers.specs.{Bits.without, declared.port.PortRegisters.PortRegisters}
-use Rattle.pm_registers.specs.{Port.{controlled, inserted, is_open, opened, opening_port, port_written, removed}, RegisterMap.RegisterMap}
+use Rattle.pm_registers.specs.{Bits.without, declared.port.PortRegisters.PortRegisters, Port.{controlled, inserted, is_open, opened, opening_port}}
+use Rattle.pm_registers.specs.{Port.{port_written, removed}, RegisterMap.RegisterMap}
 use Rattle.pm_registers.specs.RegisterMap as map
 use Rattle.pm_control.specs.{Answers.registers_after_request, Requests.request_in, declared.request.Request.{Request, TheVariants.Write}}
 use Rattle.pm_ports.specs.Port.{came_refusal, gone_refusal}
-use Rattle.multiplier.specs.Arbiter.{control_port}
-use Rattle.multiplier.specs.Rules.{FromHostRule, ToControl, ToDevice, ToNobody, ToPort, with_device as connected, without_device}
-use Rattle.multiplier.specs.{State.{PmState, passes_to, pm_port, port_at}, declared.multiplier.Passed.Passed}
+use Rattle.multiplier.specs.{Arbiter.control_port, Rules.{FromHostRule, ToControl, ToDevice, ToNobody, ToPort, with_device as connected}}
+use Rattle.multiplier.specs.{Rules.without_device, State.{PmState, passes_to, pm_port, port_at}, declared.multiplier.Passed.Passed}
 use Rattle.multiplier.specs.Between.{Answer as Answers, FromPort, Gives, Notice}
 use Rattle.multiplier.specs.declared.multiplier.Passed.TheVariants as passed
 use Rattle.multiplier.proofs.Door.{gives}
 use Rattle.pm_world.specs.{Downward.times, Resting.IsAtRest, Links.{changed_by, is_recorded, on_presence}, Places.{IsOrderly, Place, Places, Queue}}
 use Rattle.pm_world.specs.Rules.{CameRule, DiskSendRule, DiskTakeRule, GoneRule, InjectRule, OnDevice, Outcome, PmDownRule, PmFromDeviceRule}
 use Rattle.pm_world.specs.{Rules.{PmFromHostRule, PmPresenceRule, PmUpRule, Rule, recorded}, PathEnds.{AreBefore, IsUnremoved, unplugs}}
-use Rattle.pm_world.specs.declared.{link.Change.Change, step.Step.Step, step.Answer.Answer}
+use Rattle.pm_world.specs.declared.{link.Change.Change, step.{Step.Step, Answer.Answer}}
 use Rattle.pm_world.specs.declared.link.Change.TheVariants as change
 use Rattle.pm_world.specs.declared.step.Step.TheVariants as step
 use Rattle.pm_world.specs.declared.step.Answer.TheVariants as answer

@@ -1,27 +1,25 @@
 -- For `ports_rest_at_a_flush`. From the plugging of a unit on, while nothing of its connection passes its port: what
 -- the unit sends waits there, and the unit takes nothing.
 use Rattle.std.proofs.Common.{◌≡◌, ◌≢◌, ◌==◌, ◌&&◌, ℕ, ◌<◌, Bool, true, false, List, [], ◌∷◌, ◌++◌, map, refl, sym, ap, subst, ◌∙◌, inl, inr, Option}
-use Rattle.std.proofs.Common.{Some, None, Ok, arith}
+use Rattle.std.proofs.{Common.{Some, None, Ok, arith}, lemmas.{Bool.{cases_eq, eq-eqb, eqb-true, ne_eqb, true≢false}, Option.same_Some}}
 use Rattle.std.specs.Prelude.{slice_get, take, MatchOption, if◌then◌else◌}
-use Rattle.std.proofs.lemmas.{Bool.{cases_eq, eq-eqb, eqb-true, ne_eqb, true≢false}, Option.same_Some}
 use Rattle.fis_view.specs.Frames.{Stamped}
 use Rattle.hba_fbs.specs.declared.report.TakeReport.{TakeReport}
 use Rattle.disk_model.specs.Histories.{Happening, Plugged, Received, Sent}
 use Rattle.pm_registers.specs.RegisterMap.{forwards}
 use Rattle.multiplier.specs.{Arbiter.control_port, State.{falling, port_at}}
 use Rattle.pm_world.specs.{Cleared.is_cleared, Downward.{falling_to, on_down_link}, Units.happens, Places.{IsOrderly, Place, Places}, Rules.Rule}
-use Rattle.pm_world.specs.{Traffic.{all_marked, is_removed, sent_by, taken_by, transit}, declared.{step.Step.Step, step.Answer.Answer}}
-use Rattle.pm_world.specs.{PathEnds.{IsOnly, IsThere, IsUnremoved, befalls, injects, unplugs}, DevicePaths.StaysOn}
+use Rattle.pm_world.specs.{Traffic.{all_marked, is_removed, sent_by, taken_by, transit}, declared.step.{Step.Step, Answer.Answer}, PathEnds.IsOnly}
+use Rattle.pm_world.specs.{PathEnds.{IsThere, IsUnremoved, befalls, injects, unplugs}, DevicePaths.StaysOn}
 use Rattle.pm_world.specs.declared.step.Answer.TheVariants as answer
 use Rattle.pm_world.proofs.cleared.Cleared as cleared
 use Rattle.pm_world.proofs.{cleared.Cleared.{PortGoes, forwards_none, rule_goes}, downward.DownMoves.{Lands, rule_moves_down}}
-use Rattle.pm_world.proofs.{steps.Lists.all_marked-append, upward.FrameMoves.rule_moves, steps.Orderly.orderly_after}
-use Rattle.pm_world.proofs.{upward.PortMarks.AllHavePortMarks, ports.DownLemmas.{DownChange, Gone, Put, Quiet, down_change, falls_keep}}
-use Rattle.pm_world.proofs.ports.{EachLemmas.{Each, each_more}, KeepingLemmas.{IsTrue, passes_open, true_after}}
-use Rattle.pm_world.proofs.{ports.UpLemmas.{Left, Rose, Same, UpChange, up_change}, serving.FirstLemmas.comes_risen}
-use Rattle.pm_world.proofs.paths.{KeptLemmas.{stays_unremoved, unremoved}, PlaceLemmas.takes_own}
-use Rattle.pm_world.proofs.paths.RunLemmas.{IsPlugged, TellsOf, if_none, if_some, tells_of, there_after}
-use Rattle.pm_world.proofs.paths.PathLemmas.{and_both, and_false, if_false, if_true, one_step, still_above}
+use Rattle.pm_world.proofs.{steps.Lists.all_marked-append, upward.{FrameMoves.rule_moves, PortMarks.AllHavePortMarks}, steps.Orderly.orderly_after}
+use Rattle.pm_world.proofs.ports.{DownLemmas.{DownChange, Gone, Put, Quiet, down_change, falls_keep}, EachLemmas.{Each, each_more}}
+use Rattle.pm_world.proofs.ports.{KeepingLemmas.{IsTrue, passes_open, true_after}, UpLemmas.{Left, Rose, Same, UpChange, up_change}}
+use Rattle.pm_world.proofs.{serving.FirstLemmas.comes_risen, paths.{KeptLemmas.{stays_unremoved, unremoved}, PlaceLemmas.takes_own}}
+use Rattle.pm_world.proofs.paths.{RunLemmas.{IsPlugged, TellsOf, if_none, if_some, tells_of, there_after}, PathLemmas.{and_both, and_false, if_false}}
+use Rattle.pm_world.proofs.paths.PathLemmas.{if_true, one_step, still_above}
 
 -- ## What is kept
 

@@ -1,9 +1,8 @@
 -- For `disks_are_honest`. A disk and the host of a world, from the step that plugs the disk in, through its unplugging, up
 -- to the last FIS of that connection.
 use Rattle.std.proofs.Common.{◌≡◌, ℕ, ◌<◌, ◌≤◌, ◌==◌, true, false, List, [], ◌∷◌, ◌++◌, append_assoc, length, refl, sym, ap, subst, ◌∙◌, inl, inr, Ok}
-use Rattle.std.proofs.Common.{Some, arith}
+use Rattle.std.proofs.{Common.{Some, arith}, lemmas.{Bool.{and_parts, cases_Bool, leb-true, or_parts, true≢false}, List.append-nil}}
 use Rattle.std.specs.{List.list_any, Prelude.{nat_le, nat_lt}}
-use Rattle.std.proofs.lemmas.{Bool.{and_parts, cases_Bool, leb-true, or_parts, true≢false}, List.append-nil}
 use Rattle.fis_view.specs.Frames.{marked}
 use Rattle.host_memory.specs.Memory.{is_memory_size}
 use Rattle.hba_fbs.specs.declared.report.TakeReport.{TakeReport}
@@ -15,18 +14,18 @@ use Rattle.multiplier.specs.State.{passes_to, port_at}
 use Rattle.pm_registers.specs.RegisterMap as registers
 use Rattle.pm_world.specs.{Attached.Attached, Cleared.is_cleared, PathEnds.{IsThere, injects, unplugs}, Places.{Places, is_config, new_world}}
 use Rattle.pm_world.specs.{Rules.{Rule, Run}, Runs.over, Stale.{is_from, orders_clear}, Traffic.{is_removed, on_host_link, sent_by}, Turns.turn_of}
-use Rattle.pm_world.specs.{Units.happens, declared.{step.Answer.Answer, step.Config.Config, step.Step.Step}}
+use Rattle.pm_world.specs.{Units.happens, declared.step.{Answer.Answer, Config.Config, Step.Step}}
 use Rattle.pm_world.specs.declared.step.Answer.TheVariants as answer
 use Rattle.pm_world.specs.declared.step.Step.TheVariants as step
-use Rattle.pm_world.proofs.{cleared.Cleared.forwards_none, honest.AnewLemmas.{IsAnew, cleared_anew, now_at, ordered_on}}
-use Rattle.pm_world.proofs.honest.ComingLemmas.{ComesOn, IsComing, IsNext, IsOver, IsUnheard, comes_next, comes_on, coming_open, coming_over, over_on}
+use Rattle.pm_world.proofs.{cleared.Cleared.forwards_none, honest.{AnewLemmas.{IsAnew, cleared_anew, now_at, ordered_on}, ComingLemmas.ComesOn}}
+use Rattle.pm_world.proofs.honest.ComingLemmas.{IsComing, IsNext, IsOver, IsUnheard, comes_next, comes_on, coming_open, coming_over, over_on}
 use Rattle.pm_world.proofs.honest.ComingLemmas.{over_takes_none, passes_no_later, unflushed_by, unheard_comes, unheard_on, unheard_over}
 use Rattle.pm_world.proofs.honest.EndsRuns.{IsServing, Orders, begins_serving, begun_ends, disk_front, ends_rise, its_port, serving_step}
-use Rattle.pm_world.proofs.honest.{EndsSteps.HasEnds, FineLemmas.further, FlushLemmas.x_set, LiveLemmas.open_or_waits}
-use Rattle.pm_world.proofs.honest.PulledLemmas.{Goes, IsPulled, Stuck, Unplugs, pulled_after, pulled_away, pulled_now, pulled_unsent, unplugs_or_not}
+use Rattle.pm_world.proofs.honest.{EndsSteps.HasEnds, FineLemmas.further, FlushLemmas.x_set, LiveLemmas.open_or_waits, PulledLemmas.{Goes, IsPulled}}
+use Rattle.pm_world.proofs.honest.PulledLemmas.{Stuck, Unplugs, pulled_after, pulled_away, pulled_now, pulled_unsent, unplugs_or_not}
 use Rattle.pm_world.proofs.{honest.{ShutLemmas.{WaitsFor, waits_after}, WaitingLemmas.{IsWaiting, all_sent, waits_on}}, meant.OrderTurns.order_step}
-use Rattle.pm_world.proofs.{paths.KeptLemmas.unremoved, ports.{EachLemmas.none_of, FirmLemmas.{IsFirm, firm_at}}}
-use Rattle.pm_world.proofs.{ports.KeepingLemmas.{is_there, keeps_one, passes_open}, reported.ReportedLemmas.IsFreeSlot}
+use Rattle.pm_world.proofs.{paths.KeptLemmas.unremoved, ports.{EachLemmas.none_of, FirmLemmas.{IsFirm, firm_at}, KeepingLemmas.{is_there, keeps_one}}}
+use Rattle.pm_world.proofs.{ports.KeepingLemmas.passes_open, reported.ReportedLemmas.IsFreeSlot}
 
 module _ (config : Config) (units : List Attached) (fits : is_config config (length units) ≡ true) (n : ℕ) (below : n < 15) (plan : DiskPlan)
     (sectors : ℕ) (size : IsSize plan sectors) (earlier : List Happening) (first : IsDiskRun plan sectors (earlier ++ Plugged ∷ [])) (within : n < length units)

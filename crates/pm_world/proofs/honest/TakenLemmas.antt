@@ -1,7 +1,6 @@
 -- For `disks_are_honest`. Where a history has more FLUSHes than its first part, the disk took one since then.
-use Rattle.std.proofs.Common.{◌≡◌, ℕ, ◌+◌, ◌<◌, Bool, true, false, List, [], ◌∷◌, ◌++◌, refl, ap, ◌∙◌, arith, Ok, Result}
-use Rattle.std.proofs.lemmas.Bool.{false≢true}
-use Rattle.fis_view.specs.{Seen.seen, declared.{view.Fis.Fis, view.FisFault.FisFault}}
+use Rattle.std.proofs.{Common.{◌≡◌, ℕ, ◌+◌, ◌<◌, Bool, true, false, List, [], ◌∷◌, ◌++◌, refl, ap, ◌∙◌, arith, Ok, Result}, lemmas.Bool.{false≢true}}
+use Rattle.fis_view.specs.{Seen.seen, declared.view.{Fis.Fis, FisFault.FisFault}}
 use Rattle.fis_view.specs.declared.view.Fis.TheVariants as view
 use Rattle.disk_model.specs.{declared.request.Request.Request, Anew.IsRequest, Histories.{Happening, Received}, Requests.request_of}
 use Rattle.disk_model.specs.declared.request.Request.TheVariants as asked

@@ -1,9 +1,8 @@
 -- For `disks_are_honest`. A unit that was plugged in, while nothing of it passes its port: it only sends, and takes
 -- nothing.
-use Rattle.std.proofs.Common.{◌≡◌, ℕ, ◌<◌, false, List, [], ◌∷◌, ◌++◌, map, refl, sym, ap, ◌∙◌, Ok}
-use Rattle.std.proofs.lemmas.List.{append-nil, map-append}
+use Rattle.std.proofs.{Common.{◌≡◌, ℕ, ◌<◌, false, List, [], ◌∷◌, ◌++◌, map, refl, sym, ap, ◌∙◌, Ok}, lemmas.List.{append-nil, map-append}}
 use Rattle.disk_model.specs.Histories.{Happening, Plugged, Sent}
-use Rattle.pm_world.specs.{Places.Places, Rules.Rule, Units.happens, PathEnds.{injects, unplugs}, declared.{step.Answer.Answer, step.Step.Step}}
+use Rattle.pm_world.specs.{Places.Places, Rules.Rule, Units.happens, PathEnds.{injects, unplugs}, declared.step.{Answer.Answer, Step.Step}}
 use Rattle.pm_world.proofs.honest.ShutLemmas.{Adds, IsShutOff, Silent, WaitsFor, WaitsOn, off_after}
 
 -- what a unit did that sent these

@@ -1,17 +1,16 @@
 -- For the field `links` of `laws`. In each step, and so in each run, the links of a world go on as links.
-use Rattle.std.proofs.Common.{◌≡◌, ℕ, zero, suc, List, [], ◌∷◌, ◌++◌, Option, Some, None, true, refl, map, arith}
+use Rattle.std.proofs.{Common.{◌≡◌, ℕ, zero, suc, List, [], ◌∷◌, ◌++◌, Option, Some, None, true, refl, map, arith}, lemmas.{List.map-append}}
+use Rattle.std.proofs.lemmas.{List.Elements.filter-append}
 use Rattle.std.specs.Prelude.{slice_get, ◌==◌, MatchOption, Ok}
-use Rattle.std.proofs.lemmas.{List.map-append, List.Elements.filter-append}
 use Rattle.fis_view.specs.Frames.{Stamped}
 use Rattle.multiplier.specs.State.{port_at, rising}
 use Rattle.hba_driver.specs.declared.mode.Mode.{Mode}
-use Rattle.pm_world.specs.{Attached.Attached as Device, Downward.on_down_link}
-use Rattle.pm_world.specs.Links.{HasRoom, HaveRoom, KeepsLinks, LinksPass, held_down, on_presence}
-use Rattle.pm_world.specs.{Places.{IsOrderly, Place, Places, new_world_in, opening}, Rules.{Rule, Run}, Traffic.{held, is_removed, on_link}}
-use Rattle.pm_world.specs.declared.{step.Config.Config, step.Step.Step, step.Answer.Answer}
-use Rattle.pm_world.proofs.{links.LinkLemmas.{nothing_left, option_fits, still}, upward.Law.run_stays}
-use Rattle.pm_world.proofs.links.LinksDown.{GoesDown, HasRoomDown, HaveRoomDown, down_fits, host_down-append, port_down-append, rule_goes_down}
-use Rattle.pm_world.proofs.links.LinksUp.{GoesUp, HasRoomUp, HaveRoomUp, host_up-append, link_fits, port_up-append, presence_fits, rule_goes_up}
+use Rattle.pm_world.specs.{Attached.Attached as Device, Downward.on_down_link, Links.{HasRoom, HaveRoom, KeepsLinks, LinksPass, held_down}}
+use Rattle.pm_world.specs.{Links.on_presence, Places.{IsOrderly, Place, Places, new_world_in, opening}, Rules.{Rule, Run}, Traffic.{held, is_removed}}
+use Rattle.pm_world.specs.{Traffic.on_link, declared.step.{Config.Config, Step.Step, Answer.Answer}}
+use Rattle.pm_world.proofs.{links.{LinkLemmas.{nothing_left, option_fits, still}, LinksDown.{GoesDown, HasRoomDown}}, upward.Law.run_stays}
+use Rattle.pm_world.proofs.links.{LinksDown.{HaveRoomDown, down_fits, host_down-append, port_down-append, rule_goes_down}, LinksUp.GoesUp}
+use Rattle.pm_world.proofs.links.LinksUp.{HasRoomUp, HaveRoomUp, host_up-append, link_fits, port_up-append, presence_fits, rule_goes_up}
 use Rattle.pm_world.proofs.steps.Orderly.{opening_orderly, orderly_after}
 
 -- ---- room on both ways

@@ -1,9 +1,10 @@
 -- For the field `links` of `laws`. In each step what goes up goes over links: over the link from each device, through
 -- the place of its port, and over the link to the host. Each connection that comes or goes does so over a presence
 -- link.
-use Rattle.std.proofs.Common.{◌≡◌, ◌≢◌, ℕ, ◌<◌, ◌≤◌, ◌+◌, ◌==◌, List, [], ◌∷◌, ◌++◌, Option, Some, None, Bool, true, false, cond, if◌then◌else◌, refl, sym, ap, subst, ◌∙◌, inl, inr, map, length, filter, suc, arith, length-append}
+use Rattle.std.proofs.Common.{◌≡◌, ◌≢◌, ℕ, ◌<◌, ◌≤◌, ◌+◌, ◌==◌, List, [], ◌∷◌, ◌++◌, Option, Some, None, Bool, true, false, cond, if◌then◌else◌, refl}
+use Rattle.std.proofs.{Common.{sym, ap, subst, ◌∙◌, inl, inr, map, length, filter, suc, arith, length-append}, lemmas.Bool.{cases_eq, eq-eqb, ne_eqb}}
+use Rattle.std.proofs.lemmas.{Grind.flat_map-append, List.{append-nil, map-append}, Option.slice_get_within}
 use Rattle.std.specs.{Prelude.{slice_get, slice_set, option_to_list, MatchOption, Ok}, List.flat_map}
-use Rattle.std.proofs.lemmas.{Bool.{cases_eq, eq-eqb, ne_eqb}, Grind.flat_map-append, List.{append-nil, map-append}, Option.slice_get_within}
 use Rattle.fis_view.specs.Frames.{Stamped}
 use Rattle.ruled_links.specs.Links.{IsLink}
 use Rattle.pm_ports.specs.Port.{PortState, with_down, with_up}
@@ -12,21 +13,19 @@ use Rattle.multiplier.specs.Between.{Answer as Answers, FromPort, Gives, Notice,
 use Rattle.multiplier.specs.declared.multiplier.Passed.TheVariants as passed
 use Rattle.multiplier.proofs.Door.{gives, gives_held, has_up, kept_part, other_port, this_port}
 use Rattle.hba_driver.specs.{HostTurns.Host, declared.request.Request.Request}
-use Rattle.pm_world.specs.{Attached.Attached as Device, Downward.times}
-use Rattle.pm_world.specs.Links.{told_frame, told_of, changed_by, dropped_by, entered_by, is_offered, is_recorded, rose_by, took_by, on_presence}
-use Rattle.pm_world.specs.Links.{from_port, without, PortPasses, HostPasses}
-use Rattle.pm_world.specs.Places.{AreFull, Changes, IsFull, IsOrderly, IsTold, Place, Places, Queue, after_sending, frame_of, posted, pushed}
-use Rattle.pm_world.specs.Places.{with_device, with_host, with_multiplier, with_upward}
-use Rattle.pm_world.specs.Rules.{CameActs, CameRule, DiskSendActs, DiskSendRule, DiskTakeActs, DiskTakeRule, GoneActs, GoneRule, HostPushRule}
-use Rattle.pm_world.specs.Rules.{HostTakeRule, InjectActs, InjectRule, PmDownRule, PmFromDeviceRule, PmFromHostRule, PmPresenceRule, PmUpRule}
-use Rattle.pm_world.specs.{Rules.{PollRule, PutRule, Rule, SubmitRule, TickRule}, Traffic.{held, on_link}, declared.link.Change.Change}
-use Rattle.pm_world.specs.declared.{step.Step.Step, step.Answer.Answer}
+use Rattle.pm_world.specs.{Attached.Attached as Device, Downward.times, Links.{told_frame, told_of, changed_by, dropped_by, entered_by, is_offered}}
+use Rattle.pm_world.specs.{Links.{is_recorded, rose_by, took_by, on_presence, from_port, without, PortPasses, HostPasses}, Places.{AreFull, Changes}}
+use Rattle.pm_world.specs.Places.{IsFull, IsOrderly, IsTold, Place, Places, Queue, after_sending, frame_of, posted, pushed, with_device, with_host}
+use Rattle.pm_world.specs.{Places.{with_multiplier, with_upward}, Rules.{CameActs, CameRule, DiskSendActs, DiskSendRule, DiskTakeActs, DiskTakeRule}}
+use Rattle.pm_world.specs.Rules.{GoneActs, GoneRule, HostPushRule, HostTakeRule, InjectActs, InjectRule, PmDownRule, PmFromDeviceRule, PmFromHostRule}
+use Rattle.pm_world.specs.{Rules.{PmPresenceRule, PmUpRule, PollRule, PutRule, Rule, SubmitRule, TickRule}, Traffic.{held, on_link}}
+use Rattle.pm_world.specs.declared.{link.Change.Change, step.{Step.Step, Answer.Answer}}
 use Rattle.pm_world.specs.declared.link.Change.TheVariants as change
 use Rattle.pm_world.specs.declared.step.Step.TheVariants as step
 use Rattle.pm_world.specs.declared.step.Answer.TheVariants as answer
 use Rattle.pm_world.proofs.links.LinkLemmas.{RecordedAt, StillGone, chained, goes_on-append, nothing_left, one_goes_on, option_fits, recorded_at}
-use Rattle.pm_world.proofs.links.{LinkLemmas.{still, without-append}, LinksDown.{Went, times-append, went}}
-use Rattle.pm_world.proofs.steps.{Lists.{slice_get-set_same, slice_get-set_other}, Steps.{at_both, at_device}}
+use Rattle.pm_world.proofs.{links.{LinkLemmas.{still, without-append}, LinksDown.{Went, times-append, went}}, steps.Lists.{slice_get-set_same}}
+use Rattle.pm_world.proofs.steps.{Lists.{slice_get-set_other}, Steps.{at_both, at_device}}
 
 -- ---- room
 

@@ -1,8 +1,8 @@
 -- For `none_is_stale`. What a step does to the host, to its two links, to the registers of the multiplier and to what
 -- the control port says. It is one of a few changes.
-use Rattle.std.proofs.Common.{◌≡◌, ◌≢◌, ◌⊎◌, ℕ, ◌==◌, Bool, true, false, List, [], ◌∷◌, ◌++◌, Option, Some, None, Ok, set, refl, sym, ap, subst, ◌∙◌, inl, inr}
+use Rattle.std.proofs.Common.{◌≡◌, ◌≢◌, ◌⊎◌, ℕ, ◌==◌, Bool, true, false, List, [], ◌∷◌, ◌++◌, Option, Some, None, Ok, set, refl, sym, ap, subst, ◌∙◌}
+use Rattle.std.proofs.{Common.{inl, inr}, lemmas.Bool.{eqb-false, eqb-true}}
 use Rattle.std.specs.Prelude.{if◌then◌else◌, is_none, MatchBool, MatchOption}
-use Rattle.std.proofs.lemmas.Bool.{eqb-false, eqb-true}
 use Rattle.fis_view.specs.Frames.{Stamped}
 use Rattle.hba_fbs.specs.declared.report.TakeReport.{TakeReport}
 use Rattle.hba_driver.specs.{HostTurns.{Does, HostTurn, Polled, Pushed, Put, Submitted, Ticked, Took}, Slot31.IsNotice31}
@@ -11,23 +11,20 @@ use Rattle.pm_control.specs.{Answers.{IsAnswer, answer_to_request, registers_aft
 use Rattle.pm_ports.specs.Port.{came_refusal, gone_refusal}
 use Rattle.pm_registers.specs.{Port.{inserted, removed}, RegisterMap.RegisterMap}
 use Rattle.pm_registers.specs.RegisterMap as map
-use Rattle.multiplier.specs.Arbiter.{control_port}
-use Rattle.multiplier.specs.Rules.{FromHostRule, ToControl, ToDevice, ToNobody, ToPort, with_device as connected, without_device}
-use Rattle.multiplier.specs.{State.{PmState, control_stamp, passes_to, pm_port, port_at}, declared.multiplier.Passed.Passed}
+use Rattle.multiplier.specs.{Arbiter.control_port, Rules.{FromHostRule, ToControl, ToDevice, ToNobody, ToPort, with_device as connected}}
+use Rattle.multiplier.specs.{Rules.without_device, State.{PmState, control_stamp, passes_to, pm_port, port_at}, declared.multiplier.Passed.Passed}
 use Rattle.multiplier.specs.Between.{Answer as Answers, FromPort, Gives, Notice}
 use Rattle.multiplier.specs.declared.multiplier.Passed.TheVariants as passed
 use Rattle.multiplier.proofs.Door.{gives}
-use Rattle.pm_world.specs.{Cleared.is_up_from, Places.{Place, Places, Queue}}
-use Rattle.pm_world.specs.Rules.{CameRule, DiskSendRule, DiskTakeRule, GoneRule, HostPushRule, HostTakeRule, InjectRule, OnDevice}
-use Rattle.pm_world.specs.Rules.{OnDeviceAndMultiplier, Outcome, PmDownRule, PmFromDeviceRule, PmFromHostRule, PmPresenceRule, PmUpRule, PollRule}
-use Rattle.pm_world.specs.{Rules.{PutRule, Rule, SubmitRule, TickRule, recorded}, declared.{link.Change.Change as Presence, step.Step.Step}}
-use Rattle.pm_world.specs.{declared.step.Answer.Answer, Line.is_reply}
+use Rattle.pm_world.specs.{Cleared.is_up_from, Places.{Place, Places, Queue}, Rules.{CameRule, DiskSendRule, DiskTakeRule, GoneRule, HostPushRule}}
+use Rattle.pm_world.specs.Rules.{HostTakeRule, InjectRule, OnDevice, OnDeviceAndMultiplier, Outcome, PmDownRule, PmFromDeviceRule, PmFromHostRule}
+use Rattle.pm_world.specs.Rules.{PmPresenceRule, PmUpRule, PollRule, PutRule, Rule, SubmitRule, TickRule, recorded}
+use Rattle.pm_world.specs.{declared.{link.Change.Change as Presence, step.{Step.Step, Answer.Answer}}, Line.is_reply}
 use Rattle.pm_world.specs.declared.link.Change.TheVariants as change
 use Rattle.pm_world.specs.declared.step.Step.TheVariants as step
 use Rattle.pm_world.specs.declared.step.Answer.TheVariants as answer
-use Rattle.pm_world.proofs.steps.Steps.{at_both, at_device}
-use Rattle.pm_world.proofs.control_port.LineLemmas.{by_conn, down_waits, from_device_waits, not_reply, notice_no_reply, presence_waits}
-use Rattle.pm_world.proofs.control_port.SaidLemmas.{notice_is}
+use Rattle.pm_world.proofs.{steps.Steps.{at_both, at_device}, control_port.LineLemmas.{by_conn, down_waits, from_device_waits, not_reply}}
+use Rattle.pm_world.proofs.control_port.{LineLemmas.{notice_no_reply, presence_waits}, SaidLemmas.notice_is}
 
 -- ## The registers
 

@@ -1,20 +1,19 @@
 -- For `ordered_is_not_stale`. Commands of requests go out only if IDENTIFY data were accepted since the last order to
 -- clear their port. This holds over a run of a world.
 use Rattle.std.proofs.Common.{◌≡◌, ℕ, ◌<◌, ◌==◌, ◌&&◌, ◌||◌, Bool, true, false, List, [], ◌∷◌, length, drop, map, Some, Ok, refl, sym, ap, subst, ◌∙◌}
-use Rattle.std.specs.{Prelude.{if◌then◌else◌, ◌%◌, slice_index}, List.list_any}
 use Rattle.std.proofs.lemmas.Bool.{and_parts, eqb-true, false≢true}
+use Rattle.std.specs.{Prelude.{if◌then◌else◌, ◌%◌, slice_index}, List.list_any}
 use Rattle.fis_view.specs.Frames.{Stamped}
 use Rattle.host_memory.specs.Memory.{zeroed}
 use Rattle.hba_fbs.specs.declared.report.TakeReport.{TakeReport}
-use Rattle.hba_driver.specs.declared.{mode.Mode.TheVariants.Switching, request.Request.Request}
-use Rattle.hba_driver.specs.{HostTurns.{DoesAll, Host, HostTurn, Pushed, Ticked, Took, sight_in}, Known.{is_identity, is_request}, Laws.flushes}
-use Rattle.hba_driver.specs.{Ticks.effects, Between.IsAsking}
+use Rattle.hba_driver.specs.{declared.{mode.Mode.TheVariants.Switching, request.Request.Request}, HostTurns.{DoesAll, Host, HostTurn, Pushed, Ticked}}
+use Rattle.hba_driver.specs.{HostTurns.{Took, sight_in}, Known.{is_identity, is_request}, Laws.flushes, Ticks.effects, Between.IsAsking}
 use Rattle.hba_driver.specs.Known as host
 use Rattle.hba_driver.proofs.Door.{asking_known, asking_opens, asking_turn, zeroed_right}
 use Rattle.multiplier.specs.State.{pm_port}
-use Rattle.pm_world.specs.{Attached.Attached, Downward.pushed_by, Places.{IsOrderly, Places, is_config, new_world}}
-use Rattle.pm_world.specs.Rules.{CameRule, DiskSendRule, DiskTakeRule, GoneRule, InjectRule, PmDownRule, PmFromDeviceRule, PmPresenceRule, Rule, Run}
-use Rattle.pm_world.specs.{Turns.turn_of, declared.{step.Config.Config, step.Step.Step, step.Answer.Answer}, Stale.{identified_by, orders_clear}}
+use Rattle.pm_world.specs.{Attached.Attached, Downward.pushed_by, Places.{IsOrderly, Places, is_config, new_world}, Rules.{CameRule, DiskSendRule}}
+use Rattle.pm_world.specs.{Rules.{DiskTakeRule, GoneRule, InjectRule, PmDownRule, PmFromDeviceRule, PmPresenceRule, Rule, Run}, Turns.turn_of}
+use Rattle.pm_world.specs.{declared.step.{Config.Config, Step.Step, Answer.Answer}, Stale.{identified_by, orders_clear}}
 use Rattle.pm_world.specs.declared.step.Step.TheVariants as step
 use Rattle.pm_world.specs.declared.step.Answer.TheVariants as answer
 use Rattle.pm_world.proofs.{turns.{Delivery.sized, HostFold.rule_does}, steps.Orderly.{opening_orderly, orderly_after}}

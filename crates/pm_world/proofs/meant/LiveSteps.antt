@@ -4,14 +4,13 @@ use Rattle.std.proofs.Common.{◌≡◌, ℕ, ◌<◌, ◌==◌, Bool, true, fal
 use Rattle.std.proofs.lemmas.Bool.{and_parts, eqb-true, false≢true}
 use Rattle.std.specs.Prelude.{◌||◌}
 use Rattle.fis_view.specs.Frames.{Stamped}
-use Rattle.hba_driver.specs.declared.{plan.Device.TheVariants.Ready, request.Request.Request, request.Ticket.Ticket}
-use Rattle.hba_driver.specs.{declared.slot.Phase.{Phase, TheVariants.{Issued, Waits}}, Drivers.{Entry, device_at, is_issued_in, rephased, waits_in}}
-use Rattle.hba_driver.specs.{HostTurns.{DoesAll, Host, HostTurn, Pushed, Submitted, Ticked}, Known.is_request}
-use Rattle.hba_driver.specs.{Queued.{IsQueuedBy, IsSomeCommand, Stood, Taken}, Submits.new_entry, Tended.IsLiveAt, Between.IsAsking}
+use Rattle.hba_driver.specs.declared.{plan.Device.TheVariants.Ready, request.{Request.Request, Ticket.Ticket}, slot.Phase.{Phase, TheVariants.Issued}}
+use Rattle.hba_driver.specs.{declared.slot.Phase.TheVariants.Waits, Drivers.{Entry, device_at, is_issued_in, rephased, waits_in}, HostTurns.DoesAll}
+use Rattle.hba_driver.specs.{HostTurns.{Host, HostTurn, Pushed, Submitted, Ticked}, Known.is_request, Queued.{IsQueuedBy, IsSomeCommand, Stood}}
+use Rattle.hba_driver.specs.{Queued.Taken, Submits.new_entry, Tended.IsLiveAt, Between.IsAsking}
 use Rattle.hba_driver.proofs.Door.{queued_by, request_of_slot, turn_addressed}
 use Rattle.multiplier.specs.State.{pm_port}
-use Rattle.pm_world.specs.{Downward.pushed_by, Places.Places, Rules.Rule, Stale.orders_clear, Turns.turn_of, declared.step.Step.Step}
-use Rattle.pm_world.specs.declared.step.Answer.{Answer}
+use Rattle.pm_world.specs.{Downward.pushed_by, Places.Places, Rules.Rule, Stale.orders_clear, Turns.turn_of, declared.step.{Step.Step, Answer.Answer}}
 use Rattle.pm_world.specs.declared.step.Step.TheVariants as step
 use Rattle.pm_world.specs.declared.step.Answer.TheVariants as answer
 use Rattle.pm_world.proofs.{turns.HostFold.rule_does, meant.IdentifiedLemmas.is_request_to}

@@ -6,17 +6,15 @@ use Rattle.fis_view.specs.Frames.{Stamped}
 use Rattle.hba_driver.specs.{declared.{plan.Device.TheVariants.Ready, slot.Phase.TheVariants.Waits}, Drivers.{Entry, device_at, rephased}}
 use Rattle.hba_driver.specs.{Known.is_request, Tended.IsLiveAt, Between.{IsAsking, is_trusted}}
 use Rattle.multiplier.specs.State.{falling, pm_port}
-use Rattle.pm_world.specs.{Cleared.is_up_from, Downward.{falling_to, fell_to, pushed_by}, Places.Places, Rules.Rule}
-use Rattle.pm_world.specs.{Stale.{identified_by, is_clear, latest, orders_clear}, declared.{step.Step.Step, step.Answer.Answer}}
+use Rattle.pm_world.specs.{Cleared.is_up_from, Downward.{falling_to, fell_to, pushed_by}, Places.Places, Rules.Rule, Stale.{identified_by, is_clear}}
+use Rattle.pm_world.specs.{Stale.{latest, orders_clear}, declared.step.{Step.Step, Answer.Answer}}
 use Rattle.pm_world.specs.declared.step.Step.TheVariants as step
 use Rattle.pm_world.specs.declared.step.Answer.TheVariants as answer
-use Rattle.pm_world.proofs.ports.DownLemmas.{DownChange, Gone, IsFallen, Put, Quiet, down_change, falls_keep}
-use Rattle.pm_world.proofs.ports.EachLemmas.{Each, Nothing, each_map, each_more, some_or_none}
-use Rattle.pm_world.proofs.meant.IdentifiedLemmas.{is_request_to, known_after, known_with, push_step}
-use Rattle.pm_world.proofs.ports.KeepingLemmas.{IsPassed, keeps_one, passes_open}
-use Rattle.pm_world.proofs.meant.LiveSteps.{Before, IsOwn, LiveFrom, New, TakesAt, live_step, own_pushed}
-use Rattle.pm_world.proofs.meant.StaleLemmas.{Holds, IsComing, IsRisen, IsServed, known_cleared, known_is, request_known, same_request}
-use Rattle.pm_world.proofs.ports.UpLemmas.{Left, Rose, Same, UpChange, up_change}
+use Rattle.pm_world.proofs.ports.{DownLemmas.{DownChange, Gone, IsFallen, Put, Quiet, down_change, falls_keep}, EachLemmas.{Each, Nothing, each_map}}
+use Rattle.pm_world.proofs.{ports.EachLemmas.{each_more, some_or_none}, meant.IdentifiedLemmas.{is_request_to, known_after, known_with, push_step}}
+use Rattle.pm_world.proofs.{ports.KeepingLemmas.{IsPassed, keeps_one, passes_open}, meant.LiveSteps.{Before, IsOwn, LiveFrom, New, TakesAt}}
+use Rattle.pm_world.proofs.meant.{LiveSteps.{live_step, own_pushed}, StaleLemmas.{Holds, IsComing, IsRisen, IsServed, known_cleared, known_is}}
+use Rattle.pm_world.proofs.{meant.StaleLemmas.{request_known, same_request}, ports.UpLemmas.{Left, Rose, Same, UpChange, up_change}}
 
 -- ## What is known
 

@@ -1,32 +1,29 @@
 -- For `commands_are_meant`. For whom the commands are meant that a device takes: over a run of a world, and from a new
 -- one.
 use Rattle.std.proofs.Common.{◌≡◌, ◌⊎◌, ℕ, ◌<◌, ◌==◌, ◌&&◌, Bool, true, false, List, [], ◌∷◌, ◌++◌, length, take, Option, Some, None, Ok, refl, sym}
-use Rattle.std.proofs.Common.{ap, subst, ◌∙◌, inl, inr}
+use Rattle.std.proofs.{Common.{ap, subst, ◌∙◌, inl, inr}, lemmas.Bool.{and_parts, cases_Bool, eqb-true, false≢true, not-false}}
 use Rattle.std.specs.Prelude.{option_to_list, slice_get}
-use Rattle.std.proofs.lemmas.Bool.{and_parts, cases_Bool, eqb-true, false≢true, not-false}
 use Rattle.fis_view.specs.Frames.{Stamped}
 use Rattle.host_memory.specs.Memory.{zeroed}
 use Rattle.hba_fbs.specs.declared.report.TakeReport.{TakeReport}
-use Rattle.hba_driver.specs.declared.{mode.Mode.TheVariants.Switching, request.Request.Request, request.Ticket.Ticket}
-use Rattle.hba_driver.specs.{declared.slot.Phase.{Phase, TheVariants.{Issued, Waits}}, Drivers.{Entry, is_issued_in, rephased}, Known.is_request}
+use Rattle.hba_driver.specs.declared.{mode.Mode.TheVariants.Switching, request.{Request.Request, Ticket.Ticket}, slot.Phase.Phase}
+use Rattle.hba_driver.specs.{declared.slot.Phase.TheVariants.{Issued, Waits}, Drivers.{Entry, is_issued_in, rephased}, Known.is_request}
 use Rattle.hba_driver.specs.{Queued.IsCommandOf, Submits.new_entry, Tended.IsLiveAt, Between.IsAsking}
 use Rattle.hba_driver.proofs.Door as accept
 use Rattle.hba_driver.proofs.Door.{asking_opens, zeroed_right}
 use Rattle.multiplier.specs.State.{falling, port_at}
 use Rattle.pm_world.specs.{Attached.Attached, Cleared.{PassesNone, is_up_from}, Downward.{falling_to, fell_to, on_down_link, pushed_by}}
 use Rattle.pm_world.specs.{Meant.{AnswersAreMeant, CommandsAreMeant, IsMeant, WasSubmittedFor}, Places.{Places, is_config, new_world}}
-use Rattle.pm_world.specs.{Rules.{DiskTakeRule, Rule, Run}, Runs.{IsStepOf, over}}
-use Rattle.pm_world.specs.{Stale.{InOrder, connection, identified_by, latest, orders_clear, unsent_after}, declared.step.Config.Config}
-use Rattle.pm_world.specs.declared.{step.Step.Step, step.Answer.Answer}
+use Rattle.pm_world.specs.{Rules.{DiskTakeRule, Rule, Run}, Runs.{IsStepOf, over}, Stale.{InOrder, connection, identified_by, latest, orders_clear}}
+use Rattle.pm_world.specs.{Stale.unsent_after, declared.step.{Config.Config, Step.Step, Answer.Answer}}
 use Rattle.pm_world.specs.declared.step.Step.TheVariants as step
 use Rattle.pm_world.specs.declared.step.Answer.TheVariants as answer
-use Rattle.pm_world.proofs.{turns.Delivery.sized, ports.EachLemmas.{Each, each_map}}
-use Rattle.pm_world.proofs.meant.IdentifiedLemmas.{AllIdentified, all_identified, asking_step, is_request_to, known_after}
-use Rattle.pm_world.proofs.{meant.{LiveSteps.{IsOwn, TakesAt}, MeantLemmas.{Fell, IsOf, Means, latest_then, means_now}}, upward.FrameMoves.rule_moves}
-use Rattle.pm_world.proofs.{steps.Openings.nothing_falls, meant.OrderTurns.orders_in_order, reported.ReportedLemmas.{first_of, later_of}}
-use Rattle.pm_world.proofs.upward.PortMarks.{AllHavePortMarks, opening_marks, rule_marks}
-use Rattle.pm_world.proofs.meant.StaleLemmas.{Holds, IsComing, IsServed, holds_now, none_coming, opening_holds, still, waits_then}
-use Rattle.pm_world.proofs.{steps.Steps.at_device, ports.UpLemmas.took_step}
+use Rattle.pm_world.proofs.{turns.Delivery.sized, ports.EachLemmas.{Each, each_map}, meant.IdentifiedLemmas.{AllIdentified, all_identified}}
+use Rattle.pm_world.proofs.meant.{IdentifiedLemmas.{asking_step, is_request_to, known_after}, LiveSteps.{IsOwn, TakesAt}, MeantLemmas.{Fell, IsOf}}
+use Rattle.pm_world.proofs.{meant.MeantLemmas.{Means, latest_then, means_now}, upward.FrameMoves.rule_moves, steps.Openings.nothing_falls}
+use Rattle.pm_world.proofs.{meant.OrderTurns.orders_in_order, reported.ReportedLemmas.{first_of, later_of}, upward.PortMarks.AllHavePortMarks}
+use Rattle.pm_world.proofs.{upward.PortMarks.{opening_marks, rule_marks}, meant.StaleLemmas.{Holds, IsComing, IsServed, holds_now, none_coming}}
+use Rattle.pm_world.proofs.{meant.StaleLemmas.{opening_holds, still, waits_then}, steps.Steps.at_device, ports.UpLemmas.took_step}
 
 -- ## Submitted in a run
 

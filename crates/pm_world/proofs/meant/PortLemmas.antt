@@ -1,12 +1,11 @@
 -- For `none_is_stale`. What the registers of a port hold in a world. An error that is not 0 has bit X whenever the port
 -- is open to a device, because N and X are set together and cleared together.
-use Rattle.std.proofs.Common.{◌≡◌, ◌≢◌, ℕ, zero, suc, ◌<◌, ◌≤◌, ◌==◌, Bool, true, false, List, [], ◌∷◌, Option, Some, None, get_or, set, refl, sym, ap, subst, ◌∙◌, bit_and, bit_or, arith}
+use Rattle.std.proofs.Common.{◌≡◌, ◌≢◌, ℕ, zero, suc, ◌<◌, ◌≤◌, ◌==◌, Bool, true, false, List, [], ◌∷◌, Option, Some, None, get_or, set, refl, sym}
+use Rattle.std.proofs.{Common.{ap, subst, ◌∙◌, bit_and, bit_or, arith}, lemmas.{Bool.{eqb-true, true≢false, ne_eqb}, Nat.Bits.bit_at-zero}}
 use Rattle.std.specs.{Prelude.{if◌then◌else◌, is_some, replicate, unwrap_or, nat_lt}, Int.bit_at}
-use Rattle.std.proofs.lemmas.{Bool.{eqb-true, true≢false, ne_eqb}, Nat.Bits.bit_at-zero}
-use Rattle.pm_registers.specs.{Bits.without, Calls.{HasBit, value_at}, declared.port.PortRegisters.PortRegisters}
-use Rattle.pm_registers.specs.Port.{bit_n, bit_x, controlled, det, inserted, is_open, met, opened, opening_port, port_written, pscr, removed}
-use Rattle.pm_registers.specs.RegisterMap.{RegisterMap, after_write, control_written, register_at, settled, summary, with_port as with_registers}
-use Rattle.pm_registers.specs.RegisterMap.{written}
+use Rattle.pm_registers.specs.{Bits.without, Calls.{HasBit, value_at}, declared.port.PortRegisters.PortRegisters, Port.{bit_n, bit_x, controlled}}
+use Rattle.pm_registers.specs.{Port.{det, inserted, is_open, met, opened, opening_port, port_written, pscr, removed}, RegisterMap.RegisterMap}
+use Rattle.pm_registers.specs.RegisterMap.{after_write, control_written, register_at, settled, summary, with_port as with_registers, written}
 use Rattle.pm_registers.specs.RegisterMap as map
 use Rattle.pm_registers.proofs.Door.{either, summary_agrees}
 use Rattle.pm_control.specs.{Answers.registers_after_request, declared.request.Request.{Request, TheVariants.Write}}

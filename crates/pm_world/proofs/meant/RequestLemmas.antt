@@ -1,17 +1,16 @@
 -- For `none_is_stale`. What the commands of the driver's orders ask of the control port, and what it answers to the
 -- read of GSCR[32].
-use Rattle.std.proofs.Common.{◌≡◌, ℕ, ◌+◌, ◌*◌, ◌<◌, ◌≤◌, ◌==◌, ◌&&◌, Bool, true, false, bit_and, List, Option, Some, None, refl, sym, ap, subst, ◌∙◌, inl, inr, arith}
+use Rattle.std.proofs.Common.{◌≡◌, ℕ, ◌+◌, ◌*◌, ◌<◌, ◌≤◌, ◌==◌, ◌&&◌, Bool, true, false, bit_and, List, Option, Some, None, refl, sym, ap, subst, ◌∙◌}
+use Rattle.std.proofs.{Common.{inl, inr, arith}, lemmas.{Bool.{cases_eq, eq-eqb, eqb-true, false≢true}, Nat.pow_below, Option.same_Some}}
 use Rattle.std.specs.{Prelude.{◌/◌, ◌%◌, ◌^◌, if◌then◌else◌}, Int.{bit_at, from_bool}}
-use Rattle.std.proofs.lemmas.{Bool.{cases_eq, eq-eqb, eqb-true, false≢true}, Nat.pow_below, Option.same_Some}
-use Rattle.fis_view.specs.{Built.{IsBuilt, cut, d2h_given, h2d_given}, Frames.Stamped, Seen.seen}
-use Rattle.fis_view.specs.{Table.{C, Command, Control, Count, D2h, Device, Features, H2d, Lba, field, places}, declared.build.H2dFields.H2dFields}
-use Rattle.fis_view.specs.declared.frame.Stamp.{Stamp}
+use Rattle.fis_view.specs.{Built.{IsBuilt, cut, d2h_given, h2d_given}, Frames.Stamped, Seen.seen, Table.{C, Command, Control, Count, D2h, Device}}
+use Rattle.fis_view.specs.{Table.{Features, H2d, Lba, field, places}, declared.{build.H2dFields.H2dFields, frame.Stamp.Stamp}}
 use Rattle.hba_driver.specs.declared.order.Order.{Order, TheVariants.{ResetOn, ResetOff, CountPorts, SetMask, Enable, Open, Scan, Clear, Detect}}
 use Rattle.hba_driver.specs.Orders.{changes, control_port, error_mask, error_ports, features_on, order_fields, port_count, reads, scontrol, serror}
 use Rattle.hba_driver.specs.{Orders.{sstatus, writes}, Sights.answer_in, Slot31.IsLow}
 use Rattle.slots.specs.Slots.{has_bit}
 use Rattle.pm_control.specs.{Answers.{IsAnswer, answer_to_request, value_answer}, Requests.{address_in, request_in, request_under, value_in}}
-use Rattle.pm_control.specs.declared.{request.Address.Address, request.Request.{Request, TheVariants.{Read, Write, Unknown, Reset, EndReset}}}
+use Rattle.pm_control.specs.declared.request.{Address.Address, Request.{Request, TheVariants.{Read, Write, Unknown, Reset, EndReset}}}
 use Rattle.pm_registers.specs.{Bits.shares, Port.bit_x, RegisterMap.{RegisterMap, asks, summary}}
 use Rattle.pm_registers.proofs.Door.{bits_where_fits}
 use Rattle.pm_world.specs.Cleared.{clears_x}

@@ -1,10 +1,10 @@
 -- For `ordered_is_not_stale`. No stale command: what is known of a port, of its connections and of what is on its way
 -- to it, in each step and so over a run.
 use Rattle.std.proofs.Common.{◌≡◌, ◌⊎◌, ℕ, ◌<◌, ◌≤◌, ◌==◌, ◌&&◌, Bool, true, false, not, List, [], ◌∷◌, ◌++◌, length, take, Option, Some, None, Ok}
-use Rattle.std.proofs.Common.{refl, sym, ap, subst, ◌∙◌, inl, inr, arith}
+use Rattle.std.proofs.{Common.{refl, sym, ap, subst, ◌∙◌, inl, inr, arith}, lemmas.Bool.{cases_Bool, cases_eq, false≢true, eq-eqb, eqb-true}}
+use Rattle.std.proofs.lemmas.{Bool.{and_parts, and_from, not-false, true≢false, false_from_ne_true, true_from_ne_false}, Option.same_Some}
+use Rattle.std.proofs.lemmas.Nat.Bits.{and_pow, bit_at-lt}
 use Rattle.std.specs.{Prelude.{if◌then◌else◌, option_to_list, slice_get, bit_and, ◌*◌, ◌^◌}, List.list_any, Int.bit_at}
-use Rattle.std.proofs.lemmas.Bool.{cases_Bool, cases_eq, false≢true, eq-eqb, eqb-true, and_parts, and_from, not-false, true≢false, false_from_ne_true}
-use Rattle.std.proofs.lemmas.{Bool.true_from_ne_false, Option.same_Some, Nat.Bits.{and_pow, bit_at-lt}}
 use Rattle.fis_view.specs.{Frames.{Stamped, marked}, Table.{C, Command, Count, Features, H2d, field}}
 use Rattle.fis_view.proofs.Door.{is_marked_from}
 use Rattle.slots.specs.{Slots.match_some, declared.work.Kind.{Kind, TheVariants.Control}}
@@ -14,18 +14,16 @@ use Rattle.multiplier.specs.State.{falling, pm_port, port_at}
 use Rattle.pm_registers.specs.{Bits.shares, Port.bit_x}
 use Rattle.pm_world.specs.{Attached.Attached, Cleared.{PassesNone, is_cleared, is_up_from}, Downward.{falling_to, fell_to, on_down_link, pushed_by}}
 use Rattle.pm_world.specs.{Places.{IsOrderly, Place, Places, is_config, new_world}, Rules.{DiskTakeRule, Rule, Run}, declared.step.Config.Config}
-use Rattle.pm_world.specs.declared.{step.Step.Step, step.Answer.Answer}
-use Rattle.pm_world.specs.Stale.{AreOn, InOrder, IsInOrder, NoneStale, Waits, OrderedIsNotStale, commanded_by, connection, identified_by, is_clear}
-use Rattle.pm_world.specs.Stale.{is_from, latest, orders_clear, unsent_after}
-use Rattle.pm_world.proofs.{cleared.Cleared.{HasX, rule_goes, run_waits}, steps.Openings.{nothing_falls, port_opening}}
-use Rattle.pm_world.proofs.steps.Orderly.{opening_orderly, orderly_after}
-use Rattle.pm_world.proofs.{upward.Recorded.{IsLed, led_last, opening_led, records_last, rule_records}, steps.Steps.at_device}
-use Rattle.pm_world.proofs.ports.EachLemmas.{Anything, Each, Nothing, any_one, each_front, each_last, each_map, each_more, none_of, not_both}
-use Rattle.pm_world.proofs.ports.EachLemmas.{some_more, some_or_none}
-use Rattle.pm_world.proofs.ports.KeepingLemmas.{IsPassed, IsTrue, KeepsTo, keeps_after, keeps_from, keeps_one, opening_true, passes_open, true_after}
-use Rattle.pm_world.proofs.ports.DownLemmas.{DownChange, Gone, IsFallen, Put, Quiet, any_first, down_change, falls_keep}
-use Rattle.pm_world.proofs.meant.IdentifiedLemmas.{AllIdentified, all_identified, is_request_to, known_after, known_with}
-use Rattle.pm_world.proofs.ports.UpLemmas.{Left, Rose, Same, UpChange, took_step, up_change}
+use Rattle.pm_world.specs.{declared.step.{Step.Step, Answer.Answer}, Stale.{AreOn, InOrder, IsInOrder, NoneStale, Waits, OrderedIsNotStale}}
+use Rattle.pm_world.specs.Stale.{commanded_by, connection, identified_by, is_clear, is_from, latest, orders_clear, unsent_after}
+use Rattle.pm_world.proofs.{cleared.Cleared.{HasX, rule_goes, run_waits}, steps.{Openings.{nothing_falls, port_opening}, Orderly.opening_orderly}}
+use Rattle.pm_world.proofs.{steps.Orderly.orderly_after, upward.Recorded.{IsLed, led_last, opening_led, records_last, rule_records}}
+use Rattle.pm_world.proofs.{steps.Steps.at_device, ports.EachLemmas.{Anything, Each, Nothing, any_one, each_front, each_last, each_map, each_more}}
+use Rattle.pm_world.proofs.ports.{EachLemmas.{none_of, not_both, some_more, some_or_none}, KeepingLemmas.{IsPassed, IsTrue, KeepsTo, keeps_after}}
+use Rattle.pm_world.proofs.ports.{KeepingLemmas.{keeps_from, keeps_one, opening_true, passes_open, true_after}, DownLemmas.{DownChange, Gone}}
+use Rattle.pm_world.proofs.{ports.DownLemmas.{IsFallen, Put, Quiet, any_first, down_change, falls_keep}, meant.IdentifiedLemmas.AllIdentified}
+use Rattle.pm_world.proofs.{meant.IdentifiedLemmas.{all_identified, is_request_to, known_after, known_with}, ports.UpLemmas.{Left, Rose, Same}}
+use Rattle.pm_world.proofs.ports.UpLemmas.{UpChange, took_step, up_change}
 use Rattle.pm_world.specs.declared.step.Answer.TheVariants as answer
 use Rattle.pm_world.proofs.steps.Orderly as world_orderly
 

@@ -1,25 +1,23 @@
 -- For `paths_go_on`. A connection that is not unplugged is not removed, whatever a world does.
 use Rattle.std.proofs.Common.{◌≡◌, ◌≢◌, ℕ, suc, ◌+◌, ◌<◌, ◌≤◌, Bool, true, false, List, [], ◌∷◌, ◌++◌, map, refl, sym, ap, subst, ◌∙◌, inl, inr}
-use Rattle.std.proofs.Common.{Option, Some, Ok, zero, arith}
+use Rattle.std.proofs.{Common.{Option, Some, Ok, zero, arith}, lemmas.{Bool.{cases_eq, eq-eqb, true≢false}, Option.same_Some}}
 use Rattle.std.specs.Prelude.{if◌then◌else◌, is_none, slice_get, slice_set}
-use Rattle.std.proofs.lemmas.{Bool.{cases_eq, eq-eqb, true≢false}, Option.same_Some}
 use Rattle.multiplier.proofs.Door as ports
 use Rattle.multiplier.proofs.Door.{not_up_to}
 use Rattle.multiplier.specs.{Rules.{with_device as connected, without_device}, State.{PmState, port_at}}
 use Rattle.pm_ports.specs.Port.{PortState, came_refusal as port_came_refusal, gone_refusal as port_gone_refusal, with_connection, with_removal}
 use Rattle.hba_driver.specs.declared.mode.Mode.{Mode}
-use Rattle.pm_world.specs.{Attached.Attached, Links.on_presence}
-use Rattle.pm_world.specs.Places.{IsOrderly, Place, Places, new_world_in, opening, with_device, with_multiplier}
-use Rattle.pm_world.specs.Rules.{CameActs, CameRule, DiskSendActs, DiskSendRule, DiskTakeActs, DiskTakeRule, GoneActs, GoneRule, InjectActs}
-use Rattle.pm_world.specs.{Rules.{InjectRule, PmDownRule, PmFromDeviceRule, PmPresenceRule, Rule, Run, recorded}, Runs.AfterEveryRun}
-use Rattle.pm_world.specs.{Traffic.is_removed, declared.{link.Change.Change, step.Config.Config, step.Step.Step, step.Answer.Answer}}
+use Rattle.pm_world.specs.{Attached.Attached, Links.on_presence, Places.{IsOrderly, Place, Places, new_world_in, opening, with_device}}
+use Rattle.pm_world.specs.{Places.with_multiplier, Rules.{CameActs, CameRule, DiskSendActs, DiskSendRule, DiskTakeActs, DiskTakeRule, GoneActs}}
+use Rattle.pm_world.specs.Rules.{GoneRule, InjectActs, InjectRule, PmDownRule, PmFromDeviceRule, PmPresenceRule, Rule, Run, recorded}
+use Rattle.pm_world.specs.{Runs.AfterEveryRun, Traffic.is_removed, declared.{link.Change.Change, step.{Config.Config, Step.Step, Answer.Answer}}}
 use Rattle.pm_world.specs.{PathEnds.{AreBefore, IsBefore, IsUnremoved}, DevicePaths.StaysOn}
 use Rattle.pm_world.specs.declared.link.Change.TheVariants as change
 use Rattle.pm_world.specs.declared.step.Step.TheVariants as step
 use Rattle.pm_world.specs.declared.step.Answer.TheVariants as answer
-use Rattle.pm_world.proofs.steps.{Lists.{slice_get-set_other, slice_get-set_same}, Openings.port_opening}
-use Rattle.pm_world.proofs.steps.Orderly.{device_roomy, down_roomy, heard_roomy, known, opening_orderly, orderly_after, roomy, up_roomy}
-use Rattle.pm_world.proofs.steps.Steps.{AtBoth, AtDevice, at_both, at_device}
+use Rattle.pm_world.proofs.steps.{Lists.{slice_get-set_other, slice_get-set_same}, Openings.port_opening, Orderly.{device_roomy, down_roomy}}
+use Rattle.pm_world.proofs.steps.{Orderly.{heard_roomy, known, opening_orderly, orderly_after, roomy, up_roomy}, Steps.{AtBoth, AtDevice, at_both}}
+use Rattle.pm_world.proofs.steps.Steps.{at_device}
 
 -- if no removal is recorded, the connection is not removed
 pub unremoved : (n c : ℕ) (now : Places) → IsUnremoved n c now → is_removed n c now ≡ false

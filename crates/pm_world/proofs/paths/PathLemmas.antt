@@ -1,26 +1,24 @@
 -- For `paths_go_on`. What each step of a world does on the path of one device.
 use Rattle.std.proofs.Common.{◌≡◌, ◌≢◌, ◌==◌, ◌&&◌, ◌⊎◌, eqb, ℕ, Bool, true, false, List, [], ◌∷◌, ◌++◌, append_assoc, drop, length, map, refl, sym}
-use Rattle.std.proofs.Common.{ap, subst, ◌∙◌, inl, inr, Option, Some, None, Ok}
+use Rattle.std.proofs.{Common.{ap, subst, ◌∙◌, inl, inr, Option, Some, None, Ok}, lemmas.Bool.{cases_Bool, cases_eq, eq-eqb, eqb-true, ne_eqb}}
+use Rattle.std.proofs.lemmas.{Bool.{true≢false}, List.{append-nil, map-append, Elements.{filter-append}}}
 use Rattle.std.specs.{Prelude.{if◌then◌else◌, option_to_list, slice_get, take, MatchBool, MatchOption}, List.flat_map}
-use Rattle.std.proofs.lemmas.{Bool.{cases_Bool, cases_eq, eq-eqb, eqb-true, ne_eqb, true≢false}, List.{append-nil, map-append}}
-use Rattle.std.proofs.lemmas.List.Elements.{filter-append}
 use Rattle.fis_view.specs.Frames.{Stamped, marked}
 use Rattle.hba_fbs.specs.declared.report.TakeReport.{TakeReport}
-use Rattle.multiplier.specs.{Arbiter.control_port, Rules.{ToControl, ToDevice, ToNobody, ToPort}, Passing.lost_from}
-use Rattle.multiplier.specs.State.{PmState, falling, passes_to, pm_port, port_at}
+use Rattle.multiplier.specs.{Arbiter.control_port, Rules.{ToControl, ToDevice, ToNobody, ToPort}, Passing.lost_from, State.{PmState, falling}}
+use Rattle.multiplier.specs.State.{passes_to, pm_port, port_at}
 use Rattle.multiplier.specs.declared.multiplier.Passed.TheVariants as passed
 use Rattle.disk_model.specs.Histories.{Happening, Plugged, Received, Sent}
-use Rattle.pm_world.specs.{Downward.{falling_to, of_connection, on_down_link}, Places.{IsOrderly, Places}}
-use Rattle.pm_world.specs.Rules.{Rule, CameRule, DiskSendRule, DiskTakeRule, GoneRule, InjectRule, PmDownRule, PmFromDeviceRule, PmPresenceRule}
-use Rattle.pm_world.specs.{Traffic.{NothingLost, all_marked, is_removed, on_host_link, sent_by, taken_by, transit}, declared.step.Step.Step}
-use Rattle.pm_world.specs.declared.step.Answer.{Answer}
-use Rattle.pm_world.specs.PathEnds.{AreAmong, IsAtHost, IsAway, IsUnremoved, befalls, descending, descending_on, for_port}
-use Rattle.pm_world.specs.DevicePaths.{Comes, DroppedNeverComes, Gives, GoesOnPath, IsOnPath, Sends, StaysOn, Still, Takes, PathsGoOn}
+use Rattle.pm_world.specs.{Downward.{falling_to, of_connection, on_down_link}, Places.{IsOrderly, Places}, Rules.{Rule, CameRule, DiskSendRule}}
+use Rattle.pm_world.specs.{Rules.{DiskTakeRule, GoneRule, InjectRule, PmDownRule, PmFromDeviceRule, PmPresenceRule}, Traffic.NothingLost}
+use Rattle.pm_world.specs.{Traffic.{all_marked, is_removed, on_host_link, sent_by, taken_by, transit}, declared.step.{Step.Step, Answer.Answer}}
+use Rattle.pm_world.specs.{PathEnds.{AreAmong, IsAtHost, IsAway, IsUnremoved, befalls, descending, descending_on, for_port}, DevicePaths.Comes}
+use Rattle.pm_world.specs.DevicePaths.{DroppedNeverComes, Gives, GoesOnPath, IsOnPath, Sends, StaysOn, Still, Takes, PathsGoOn}
 use Rattle.pm_world.specs.declared.step.Step.TheVariants as step
 use Rattle.pm_world.specs.declared.step.Answer.TheVariants as answer
 use Rattle.pm_world.proofs.{downward.DownMoves.{Ends, Goes, Lands, Loses, Rests, Starts, rule_moves_down}, upward.Law.nothing_lost}
-use Rattle.pm_world.proofs.steps.{Orderly.removed_after, Lists.all_marked-append, Steps.{at_both, at_device}}
-use Rattle.pm_world.proofs.paths.{KeptLemmas.{stays_unremoved, unremoved}, PlaceLemmas.{only_after, takes_own}}
+use Rattle.pm_world.proofs.{steps.{Orderly.removed_after, Lists.all_marked-append, Steps.{at_both, at_device}}, paths.KeptLemmas.stays_unremoved}
+use Rattle.pm_world.proofs.paths.{KeptLemmas.unremoved, PlaceLemmas.{only_after, takes_own}}
 
 -- ## Some of a list
 

@@ -1,26 +1,25 @@
 -- For `polled_is_honest`. A request that began is not issued again: what was issued for it and is not issued any more
 -- stays so.
-use Rattle.std.proofs.Common.{◌≡◌, ◌==◌, ℕ, ◌<◌, Bool, true, false, List, [], ◌∷◌, ◌++◌, drop, refl, sym, ap, ◌∙◌, inl, inr, arith, Option, Some, None}
+use Rattle.std.proofs.Common.{◌≡◌, ◌==◌, ℕ, ◌<◌, Bool, true, false, List, [], ◌∷◌, ◌++◌, drop, refl, sym, ap, ◌∙◌, inl, inr, arith, Option, Some}
+use Rattle.std.proofs.{Common.None, lemmas.Bool.{cases_Bool, true≢false}}
 use Rattle.std.specs.Prelude.{◌⊎◌, if◌then◌else◌, map}
-use Rattle.std.proofs.lemmas.Bool.{cases_Bool, true≢false}
 use Rattle.fis_view.specs.Seen.{seen}
-use Rattle.hba_fbs.specs.{declared.{hearing.Happening.Happening, status.Block.Block}, Sending.{Outgoing, outgoing}}
-use Rattle.hba_fbs.specs.Taking.{admitted, heard_now, ignores, port_of}
+use Rattle.hba_fbs.specs.{declared.{hearing.Happening.Happening, status.Block.Block}, Sending.{Outgoing, outgoing}, Taking.{admitted, heard_now}}
+use Rattle.hba_fbs.specs.Taking.{ignores, port_of}
 use Rattle.hba_fbs.specs.declared.hearing.Happening.TheVariants as happening
 use Rattle.hba_fbs.specs.Sending as out
 use Rattle.slots.specs.{declared.answer.Answered.Answered, Slots.{Issue, holds, issue_at, match_some}, Work.{is_dma, is_read}}
 use Rattle.slots.specs.declared.answer.Answered.TheVariants as answered
 use Rattle.disk_simulation.specs.Same.{SlotCommand}
 use Rattle.disk_model.specs.Ledger.{empty}
-use Rattle.hba_laws.specs.Client.{By, Touches, own}
-use Rattle.hba_laws.specs.Delivering.{begun_by, by_device, event_heard, event_of, event_of_answer, event_of_block, event_sent, event_taken}
-use Rattle.hba_laws.specs.Delivering.{is_control_issue, touched_by_out, touches_after}
-use Rattle.hba_laws.specs.History.{Event, History, Transfer, completes, issued, unless}
+use Rattle.hba_laws.specs.{Client.{By, Touches, own}, Delivering.{begun_by, by_device, event_heard, event_of, event_of_answer, event_of_block}}
+use Rattle.hba_laws.specs.{Delivering.{event_sent, event_taken, is_control_issue, touched_by_out, touches_after}, History.{Event, History, Transfer}}
+use Rattle.hba_laws.specs.History.{completes, issued, unless}
 use Rattle.hba_laws.specs.History as event
 use Rattle.hba_laws.specs.Hosts as host_event
-use Rattle.hba_driver.specs.{Drivers.{Entry, entry_at, is_issued, waits_in}, Events.{IsSoundHost, events_over, shared_by}}
-use Rattle.hba_driver.specs.{HostTurns.{Does, Host, HostTurn, Pushed, Ticked, Took}, Laws.GoesOn}
-use Rattle.hba_driver.specs.{Served.{IsOrdered, IsRequest, IsServed, IsStep, RunServes}, Steady.slot_in}
+use Rattle.hba_driver.specs.{Drivers.{Entry, entry_at, is_issued, waits_in}, Events.{IsSoundHost, events_over, shared_by}, HostTurns.{Does, Host}}
+use Rattle.hba_driver.specs.{HostTurns.{HostTurn, Pushed, Ticked, Took}, Laws.GoesOn, Served.{IsOrdered, IsRequest, IsServed, IsStep, RunServes}}
+use Rattle.hba_driver.specs.Steady.{slot_in}
 use Rattle.disk_recovery.specs.Between.{CalmEnds}
 use Rattle.hba_driver.proofs.Door.{begun_calm, begun_slot, tick_beside}
 use Rattle.disk_recovery.proofs.Door.{beside_away, calm_ends}

@@ -1,26 +1,25 @@
 -- For `polled_is_honest`. The bytes of a request stay in client memory over a turn in which no read is issued in its
 -- slot. So the bytes of a read that began, and of which nothing is issued any more, stay until it is polled.
 use Rattle.std.proofs.Common.{◌≡◌, ◌&&◌, ◌||◌, nat_lt, ℕ, ◌+◌, ◌-◌, ◌<◌, ◌≤◌, Bool, true, false, List, [], ◌∷◌, ◌++◌, length, refl, sym, ap, subst}
-use Rattle.std.proofs.Common.{◌∙◌, inl, inr, arith, Option, Some, None}
+use Rattle.std.proofs.{Common.{◌∙◌, inl, inr, arith, Option, Some, None}, lemmas.Bool.{cases_eq, cases_lt, false≢true, or_parts, true≢false}}
+use Rattle.std.proofs.lemmas.Bool.Decides.{nat_tests}
 use Rattle.std.specs.{Prelude.{◌⊎◌, slice_index}, List.list_any}
-use Rattle.std.proofs.lemmas.{Bool.{cases_eq, cases_lt, false≢true, or_parts, true≢false}, Bool.Decides.nat_tests}
-use Rattle.host_memory.specs.{Memory.{Memory, client_start, is_memory_size}, Place.{LiesInClient, place, total_of, written}}
-use Rattle.host_memory.specs.{Reading.{LieApart, share_with}, declared.table.Prd.Prd}
+use Rattle.host_memory.specs.{Memory.{Memory, client_start, is_memory_size}, Place.{LiesInClient, place, total_of, written}, Reading.LieApart}
+use Rattle.host_memory.specs.{Reading.share_with, declared.table.Prd.Prd}
 use Rattle.host_memory.proofs.Door.{list_any-true, overwritten_beside, place_has, share_with-true, written_elsewhere}
 use Rattle.hba_fbs.specs.{declared.report.TakeReport.TakeReport, Taking.port_of}
-use Rattle.hba_laws.specs.Client.{AreWithin, By, Filling, FillsWithin, IsWithin, Touches, client, filling, own}
-use Rattle.hba_laws.specs.{Delivering.{by_device, event_taken, touches_after}, History.{Event, Transfer, issued}}
+use Rattle.hba_laws.specs.{Client.{AreWithin, By, Filling, FillsWithin, IsWithin, Touches, client, filling, own}, Delivering.{by_device, event_taken}}
+use Rattle.hba_laws.specs.{Delivering.touches_after, History.{Event, Transfer, issued}}
 use Rattle.hba_laws.specs.History as event
 use Rattle.hba_laws.proofs.Door.{filling_is, if_there}
 use Rattle.slots.specs.{Slots.match_some, Work.is_read as is_reading}
-use Rattle.hba_driver.specs.{Drivers.{Entry, entry_at, is_read, waits_in}, Effects.{buffer_prd, prds_with}}
-use Rattle.hba_driver.specs.{Events.{IsSoundHost, events_over, shared_by}, HostTurns.{Does, DoesAll, Host, HostTurn, Put, Submitted, Ticked, Took}}
-use Rattle.hba_driver.specs.{Laws.gives, Paths.reads_page, Requests.{in_use, is_used_by, share_bytes}}
-use Rattle.hba_driver.specs.Served.{IsIssueOf, IsOrdered, IsRequest, IsServed, IsStep, RunServes}
+use Rattle.hba_driver.specs.{Drivers.{Entry, entry_at, is_read, waits_in}, Effects.{buffer_prd, prds_with}, Events.{IsSoundHost, events_over}}
+use Rattle.hba_driver.specs.{Events.shared_by, HostTurns.{Does, DoesAll, Host, HostTurn, Put, Submitted, Ticked, Took}, Laws.gives, Paths.reads_page}
+use Rattle.hba_driver.specs.{Requests.{in_use, is_used_by, share_bytes}, Served.{IsIssueOf, IsOrdered, IsRequest, IsServed, IsStep, RunServes}}
 use Rattle.hba_driver.proofs.Door.{as_long, begun_later, in_slots, lives_turn, none_conflict, none_gives, tick_client, turns_serve}
 use Rattle.pm_world.specs.HostTouches.{AreTouched, goes}
-use Rattle.pm_world.proofs.polls.CalmLemmas.{IsFreed, turn_freed}
-use Rattle.pm_world.proofs.serving.TouchedLemmas.{AreKept, touched_kept, touched_served, touched_sound, zero_at}
+use Rattle.pm_world.proofs.{polls.CalmLemmas.{IsFreed, turn_freed}, serving.TouchedLemmas.{AreKept, touched_kept, touched_served, touched_sound}}
+use Rattle.pm_world.proofs.serving.TouchedLemmas.{zero_at}
 
 -- ## Places of other tables
 

@@ -1,28 +1,26 @@
 -- For `polled_is_honest`. From the submit of a request to its report, all that the host takes of its device is of one
 -- connection: the device is not flushed in between, so its port is not cleared.
 use Rattle.std.proofs.Common.{◌≡◌, ◌⊎◌, ℕ, ◌<◌, ◌==◌, Bool, true, false, List, [], ◌∷◌, ◌++◌, length, refl, sym, ap, subst, ◌∙◌, inl, inr, Option}
-use Rattle.std.proofs.Common.{Some, None, Ok}
-use Rattle.std.specs.Prelude.{if◌then◌else◌, All}
-use Rattle.std.proofs.{Math.Path.{path_j, subst_refl}, lemmas.List.Elements.{All-append, All-cons, All-nil}}
+use Rattle.std.proofs.{Common.{Some, None, Ok}, Math.Path.{path_j, subst_refl}, lemmas.List.Elements.{All-append, All-cons, All-nil}}
 use Rattle.std.proofs.lemmas.Bool.{cases_Bool, eq-eqb, eqb-true, false_from_ne_true, true≢false}
+use Rattle.std.specs.Prelude.{if◌then◌else◌, All}
 use Rattle.fis_view.specs.Frames.{Stamped}
 use Rattle.hba_fbs.specs.declared.report.TakeReport.{TakeReport}
-use Rattle.hba_driver.specs.declared.{mode.Mode.TheVariants.Switching, slot.Phase.TheVariants.Waits}
-use Rattle.hba_driver.specs.{Drivers.{Driver, Entry, entry_at, has_ended_in, rephased}, HostTurns.{Host, Ticks, sight_in}, Sights.file_shown}
+use Rattle.hba_driver.specs.{declared.{mode.Mode.TheVariants.Switching, slot.Phase.TheVariants.Waits}, Drivers.{Driver, Entry, entry_at}}
+use Rattle.hba_driver.specs.{Drivers.{has_ended_in, rephased}, HostTurns.{Host, Ticks, sight_in}, Sights.file_shown}
 use Rattle.hba_driver.proofs.Door.{ticks_serve}
-use Rattle.pm_world.specs.{Attached.Attached, Cleared.{PassesNone, is_cleared, is_up_from}, Downward.fell_to}
-use Rattle.pm_world.specs.{Places.{IsOrderly, Places, is_config, new_world}, Polled.connection_by, Rules.{Rule, Run}, Runs.over}
-use Rattle.pm_world.specs.{Stale.{InOrder, latest, orders_clear, unsent_after, identified_by}, declared.{step.Config.Config, step.Step.Step}}
-use Rattle.pm_world.specs.declared.step.Answer.{Answer}
+use Rattle.pm_world.specs.{Attached.Attached, Cleared.{PassesNone, is_cleared, is_up_from}, Downward.fell_to, Places.{IsOrderly, Places, is_config}}
+use Rattle.pm_world.specs.{Places.new_world, Polled.connection_by, Rules.{Rule, Run}, Runs.over, Stale.{InOrder, latest, orders_clear, unsent_after}}
+use Rattle.pm_world.specs.{Stale.identified_by, declared.step.{Config.Config, Step.Step, Answer.Answer}}
 use Rattle.pm_world.specs.declared.step.Step.TheVariants as step
 use Rattle.pm_world.specs.declared.step.Answer.TheVariants as answer
-use Rattle.pm_world.proofs.{ports.EachLemmas.{Each, each_map, each_more}, turns.HostFold.rule_does}
-use Rattle.pm_world.proofs.meant.IdentifiedLemmas.{AllIdentified, all_identified, known_after}
-use Rattle.pm_world.proofs.{ports.KeepingLemmas.{KeepsTo, keeps_after, keeps_one}, upward.{Law.run_append, FrameMoves.rule_moves}}
-use Rattle.pm_world.proofs.{steps.Orderly.{opening_orderly, run_orderly}, meant.OrderTurns.orders_in_order}
-use Rattle.pm_world.proofs.reported.ReportedLemmas.{StoodIn, SubmitsAt, SubmittedIn, step_stood, submitted_first, submitted_later}
-use Rattle.pm_world.proofs.meant.StaleLemmas.{Holds, IsComing, IsRisen, IsServed, cleared_coming, holds_now, none_coming, opening_holds, still}
-use Rattle.pm_world.proofs.{meant.StaleLemmas.waits_then, ports.UpLemmas.{Left, Rose, Same, UpChange, up_change}}
+use Rattle.pm_world.proofs.{ports.EachLemmas.{Each, each_map, each_more}, turns.HostFold.rule_does, meant.IdentifiedLemmas.AllIdentified}
+use Rattle.pm_world.proofs.{meant.IdentifiedLemmas.{all_identified, known_after}, ports.KeepingLemmas.{KeepsTo, keeps_after, keeps_one}}
+use Rattle.pm_world.proofs.{upward.{Law.run_append, FrameMoves.rule_moves}, steps.Orderly.{opening_orderly, run_orderly}}
+use Rattle.pm_world.proofs.{meant.OrderTurns.orders_in_order, reported.ReportedLemmas.{StoodIn, SubmitsAt, SubmittedIn, step_stood, submitted_first}}
+use Rattle.pm_world.proofs.{reported.ReportedLemmas.submitted_later, meant.StaleLemmas.{Holds, IsComing, IsRisen, IsServed, cleared_coming}}
+use Rattle.pm_world.proofs.{meant.StaleLemmas.{holds_now, none_coming, opening_holds, still, waits_then}, ports.UpLemmas.{Left, Rose, Same, UpChange}}
+use Rattle.pm_world.proofs.ports.UpLemmas.{up_change}
 
 -- ## Nothing is flushed while a request is unended
 

@@ -1,8 +1,8 @@
 -- For `polled_is_honest`. A request that is polled as Done ended honestly.
 use Rattle.std.proofs.Common.{◌≡◌, ◌==◌, ◌&&◌, ◌||◌, ℕ, ◌*◌, ◌-◌, ◌<◌, Bool, true, false, not, List, [], ◌∷◌, ◌++◌, length, refl, sym, ap, subst, ◌∙◌}
-use Rattle.std.proofs.Common.{inl, inr, arith, Option, Some, None, Ok}
+use Rattle.std.proofs.{Common.{inl, inr, arith, Option, Some, None, Ok}, lemmas.Bool.{cases_Bool, eq-eqb, false≢true, or_parts, true≢false}}
+use Rattle.std.proofs.lemmas.Bool.Decides.{nat_tests}
 use Rattle.std.specs.{Prelude.{◌⊎◌, if◌then◌else◌, nat_lt, slice_index}, List.list_any}
-use Rattle.std.proofs.lemmas.{Bool.{cases_Bool, eq-eqb, false≢true, or_parts, true≢false}, Bool.Decides.nat_tests}
 use Rattle.host_memory.specs.{Memory.{client_start, is_memory_size, zeroed}, Place.{LiesInClient, place, total_of}, declared.table.Prd.Prd}
 use Rattle.slots.specs.Slots.{match_some}
 use Rattle.hba_fbs.specs.Taking.{port_of}
@@ -11,29 +11,28 @@ use Rattle.hba_laws.specs.{Client.{Touches, own}, Delivering.{by_device, complet
 use Rattle.hba_laws.specs.History.{Event, History, Transfer, completes, filled, issued, unless}
 use Rattle.hba_laws.specs.Hosts as host_event
 use Rattle.hba_laws.specs.History as event
-use Rattle.hba_driver.specs.declared.{request.Completion.Completion, request.Outcome.TheVariants.Done, request.Request.Request, request.Ticket.Ticket}
-use Rattle.hba_driver.specs.declared.{request.Work.TheVariants.{Read, Write}, slot.Phase.{Phase, TheVariants.{Waits, Issued, Ended}}}
-use Rattle.hba_driver.specs.{Delivered.{IsAtItsPlace, TookDelivers}, Drivers.{Driver, Entry, entry_at, is_read, rephased}}
-use Rattle.hba_driver.specs.{Events.{IsSoundHost, shared_by}, HostTurns.{DoesAll, HostTurn, Polled, Submitted, Took, Tooks, polled_in}}
-use Rattle.hba_driver.specs.{Laws.{AreOnce, ends_as, gives}, Orders.{is_queued, request_fields}, Served.IsServed, Requests.is_mismatch}
-use Rattle.hba_driver.specs.{Submits.new_entry, Between.{AllStand, IsOnWay, PollFacts, Stands}}
+use Rattle.hba_driver.specs.declared.request.{Completion.Completion, Outcome.TheVariants.Done, Request.Request, Ticket.Ticket, Work.TheVariants.Read}
+use Rattle.hba_driver.specs.declared.{request.Work.TheVariants.Write, slot.Phase.{Phase, TheVariants.{Waits, Issued, Ended}}}
+use Rattle.hba_driver.specs.{Delivered.{IsAtItsPlace, TookDelivers}, Drivers.{Driver, Entry, entry_at, is_read, rephased}, Events.IsSoundHost}
+use Rattle.hba_driver.specs.{Events.shared_by, HostTurns.{DoesAll, HostTurn, Polled, Submitted, Took, Tooks, polled_in}, Laws.{AreOnce, ends_as}}
+use Rattle.hba_driver.specs.{Laws.gives, Orders.{is_queued, request_fields}, Served.IsServed, Requests.is_mismatch, Submits.new_entry}
+use Rattle.hba_driver.specs.Between.{AllStand, IsOnWay, PollFacts, Stands}
 use Rattle.hba_commands.specs.Requests.{request_of, work_of}
 use Rattle.hba_driver.proofs.Door as accept
 use Rattle.hba_driver.proofs.Door.{as_long, each_run_keeps, in_slots, is_taken, poll_facts, way_opens, zeroed_right}
 use Rattle.pm_world.specs.{Attached.Attached, Places.{Places, is_config, new_world}, Rules.{Rule, Run}, Runs.{IsStepOf, over}, Turns.turn_of}
-use Rattle.pm_world.specs.declared.{step.Config.Config, step.Step.Step, step.Answer.Answer}
-use Rattle.pm_world.specs.Disks.{Before, DiskRun, EndedSince, FlushedSince, HasDisk, Since, TookHonestly, WasSubmitted, disk_history, host_turns}
-use Rattle.pm_world.specs.HonestEnds.{EndsHonestly, ReadsSectors, StandsAt, WritesSectors}
-use Rattle.pm_world.specs.{Polled.{HonestPolls, IsFilledAt, IsPolledHonestly, IsReportedIn}, HostTouches.{AreTouched, opens}}
+use Rattle.pm_world.specs.{declared.step.{Config.Config, Step.Step, Answer.Answer}, Disks.{Before, DiskRun, EndedSince, FlushedSince, HasDisk, Since}}
+use Rattle.pm_world.specs.{Disks.{TookHonestly, WasSubmitted, disk_history, host_turns}, HonestEnds.{EndsHonestly, ReadsSectors, StandsAt}}
+use Rattle.pm_world.specs.{HonestEnds.WritesSectors, Polled.{HonestPolls, IsFilledAt, IsPolledHonestly, IsReportedIn}, HostTouches.AreTouched}
+use Rattle.pm_world.specs.HostTouches.{opens}
 use Rattle.pm_world.specs.declared.step.Step.TheVariants as step
 use Rattle.pm_world.specs.declared.step.Answer.TheVariants as answer
-use Rattle.pm_world.proofs.turns.Delivery.{sized}
-use Rattle.pm_world.proofs.honest.DisksLemmas.{IsIssued, IsRequestAt, MovesAll, has_command, issued_of_done, read_moves, request_at}
-use Rattle.pm_world.proofs.{turns.HostFold.{does-append, run_does}, upward.PortMarks.{AllHavePortMarks, opening_marks, run_marks}}
-use Rattle.pm_world.proofs.{serving.BroughtLemmas.leaves_filled, polls.{CalmLemmas.IsFreed, ClientLemmas.{bytes_stay, came_next}}}
-use Rattle.pm_world.proofs.{serving.FirstLemmas.{ComesRisen, comes_risen}, honest.HonestRuns.disks_are_honest, upward.Law.run_append}
-use Rattle.pm_world.proofs.polls.OneLemmas.{KeptIn, NoneOrders, kept_over, taken_of_one}
-use Rattle.pm_world.proofs.{reported.ReportedLemmas.{SubmittedIn, TookIn, is_take, renamed, stand_over, way_over}, serving.TookLemmas.host_takes}
+use Rattle.pm_world.proofs.{turns.Delivery.sized, honest.DisksLemmas.{IsIssued, IsRequestAt, MovesAll, has_command, issued_of_done, read_moves}}
+use Rattle.pm_world.proofs.{honest.DisksLemmas.request_at, turns.HostFold.{does-append, run_does}, upward.PortMarks.{AllHavePortMarks, opening_marks}}
+use Rattle.pm_world.proofs.{upward.PortMarks.run_marks, serving.BroughtLemmas.leaves_filled, polls.{CalmLemmas.IsFreed, ClientLemmas.bytes_stay}}
+use Rattle.pm_world.proofs.{polls.ClientLemmas.came_next, serving.FirstLemmas.{ComesRisen, comes_risen}, honest.HonestRuns.disks_are_honest}
+use Rattle.pm_world.proofs.{upward.Law.run_append, polls.OneLemmas.{KeptIn, NoneOrders, kept_over, taken_of_one}, reported.ReportedLemmas.SubmittedIn}
+use Rattle.pm_world.proofs.{reported.ReportedLemmas.{TookIn, is_take, renamed, stand_over, way_over}, serving.TookLemmas.host_takes}
 use Rattle.pm_world.proofs.serving.TouchedLemmas.{GoesTouched, touched_delivers, touched_over, touched_served, touched_sound}
 
 -- ## A ticket is polled once

@@ -1,17 +1,15 @@
 -- For `connections_follow`. What a step does to the link of the host to the multiplier, and to what is on its way to a
 -- device.
 use Rattle.std.proofs.Common.{◌≡◌, ◌⊎◌, ℕ, ◌==◌, Bool, true, false, List, [], ◌∷◌, ◌++◌, length, drop, take, flat_map, Option, Some, None, Ok, refl}
-use Rattle.std.proofs.Common.{sym, ap, subst, ◌∙◌, inl, inr}
+use Rattle.std.proofs.{Common.{sym, ap, subst, ◌∙◌, inl, inr}, lemmas.{Bool.{cases_eq, eq-eqb, and_from}, List.append-nil}}
 use Rattle.std.specs.{Prelude.{if◌then◌else◌, MatchBool, MatchOption}, List.list_any}
-use Rattle.std.proofs.lemmas.{Bool.{cases_eq, eq-eqb, and_from}, List.append-nil}
 use Rattle.fis_view.specs.Frames.{Stamped}
 use Rattle.pm_control.specs.Requests.{request_in}
-use Rattle.multiplier.specs.{Arbiter.control_port, Passing.falls, Rules.{FromHostRule, ToControl, ToDevice, ToNobody, ToPort}}
-use Rattle.multiplier.specs.{State.{PmState, falling, passes_to, pm_port}, declared.multiplier.Passed.Passed}
+use Rattle.multiplier.specs.{Arbiter.control_port, Passing.falls, Rules.{FromHostRule, ToControl, ToDevice, ToNobody, ToPort}, State.PmState}
+use Rattle.multiplier.specs.{State.{falling, passes_to, pm_port}, declared.multiplier.Passed.Passed}
 use Rattle.multiplier.specs.declared.multiplier.Passed.TheVariants as passed
 use Rattle.pm_world.specs.{Cleared.{clears_x, is_cleared}, Downward.{falling_to, fell_to, pushed_by}, Places.{IsOrderly, Places}, Rules.Rule}
-use Rattle.pm_world.specs.{Runs.Telling, PathEnds.for_port, declared.{step.Step.Step, step.Answer.Answer}}
-use Rattle.pm_world.specs.Stale.{identified_by, is_clear, orders_clear}
+use Rattle.pm_world.specs.{Runs.Telling, PathEnds.for_port, declared.step.{Step.Step, Answer.Answer}, Stale.{identified_by, is_clear, orders_clear}}
 use Rattle.pm_world.specs.declared.step.Step.TheVariants as step
 use Rattle.pm_world.specs.declared.step.Answer.TheVariants as answer
 use Rattle.pm_world.proofs.{downward.DownMoves.{Goes, Lands, Loses, Rests, rule_moves_down}, ports.EachLemmas.{Each, any_one, each_back, each_front}}

@@ -1,7 +1,6 @@
 -- For `connections_follow`. What holds for each element of a list, and tests that no element passes.
-use Rattle.std.proofs.Common.{◌≡◌, ◌⊎◌, Bool, true, false, List, [], ◌∷◌, ◌++◌, refl, sym, ◌∙◌, inl, inr}
+use Rattle.std.proofs.{Common.{◌≡◌, ◌⊎◌, Bool, true, false, List, [], ◌∷◌, ◌++◌, refl, sym, ◌∙◌, inl, inr}, lemmas.Bool.or_parts}
 use Rattle.std.specs.{Prelude.◌||◌, List.list_any}
-use Rattle.std.proofs.lemmas.Bool.{or_parts}
 
 abbrev pub Each : {X : Type 0} → (X → Type 0) → List X → Type 0
 Each P [] = Prim.Unit {0}

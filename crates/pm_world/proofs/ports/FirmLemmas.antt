@@ -1,23 +1,21 @@
 -- For `connections_follow`. What is true of a port in each world. Connections come one after another, each removal
 -- before the next coming. What is on its way to a device is not of a connection that is still to come.
 use Rattle.std.proofs.Common.{◌≡◌, ◌==◌, ℕ, ◌+◌, ◌<◌, ◌≤◌, Bool, true, false, List, [], ◌∷◌, ◌++◌, length, map, zero, suc, refl, sym, ap, subst, ◌∙◌}
-use Rattle.std.proofs.Common.{inl, inr, Option, Some, None, Ok, arith}
+use Rattle.std.proofs.{Common.{inl, inr, Option, Some, None, Ok, arith}, lemmas.{Bool.{and_from, eqb-true, le-leb, lt-ltb}, Option.same_Some}}
 use Rattle.std.specs.Prelude.{if◌then◌else◌, slice_get, nat_le, nat_lt}
-use Rattle.std.proofs.lemmas.{Bool.{and_from, eqb-true, le-leb, lt-ltb}, Option.same_Some}
 use Rattle.fis_view.specs.Frames.{Stamped}
 use Rattle.multiplier.specs.State.{falling, port_at}
 use Rattle.hba_driver.specs.declared.mode.Mode.TheVariants.{Switching}
-use Rattle.pm_world.specs.{Attached.Attached, Downward.falling_to, Links.{changed_by, on_presence}}
-use Rattle.pm_world.specs.Places.{IsOrderly, Place, Places, is_config, new_world, opening}
-use Rattle.pm_world.specs.Rules.{CameActs, CameRule, DiskSendRule, DiskTakeRule, GoneRule, InjectRule, PmDownRule, PmFromDeviceRule, PmPresenceRule}
-use Rattle.pm_world.specs.{Rules.{Rule, Run}, Traffic.is_removed, declared.{link.Change.Change, step.Config.Config, step.Step.Step}}
-use Rattle.pm_world.specs.declared.step.Answer.{Answer}
+use Rattle.pm_world.specs.{Attached.Attached, Downward.falling_to, Links.{changed_by, on_presence}, Places.{IsOrderly, Place, Places, is_config}}
+use Rattle.pm_world.specs.{Places.{new_world, opening}, Rules.{CameActs, CameRule, DiskSendRule, DiskTakeRule, GoneRule, InjectRule, PmDownRule}}
+use Rattle.pm_world.specs.{Rules.{PmFromDeviceRule, PmPresenceRule, Rule, Run}, Traffic.is_removed, declared.{link.Change.Change, step.Config.Config}}
+use Rattle.pm_world.specs.declared.step.{Step.Step, Answer.Answer}
 use Rattle.pm_world.specs.declared.link.Change.TheVariants as change
 use Rattle.pm_world.specs.declared.step.Step.TheVariants as step
 use Rattle.pm_world.specs.declared.step.Answer.TheVariants as answer
-use Rattle.pm_world.proofs.steps.{Openings.{nothing_falls, port_opening}, Orderly.{opening_orderly, orderly_after}}
-use Rattle.pm_world.proofs.upward.Recorded.{AreLetIn, IsLed, Known, Records, all, one, opening_led, records_last, rule_records}
-use Rattle.pm_world.proofs.{steps.Steps.{AtDevice, at_both, at_device}, ports.DownLemmas.{DownChange, Gone, Put, Quiet, down_change, falls_keep}}
+use Rattle.pm_world.proofs.{steps.{Openings.{nothing_falls, port_opening}, Orderly.{opening_orderly, orderly_after}}, upward.Recorded.AreLetIn}
+use Rattle.pm_world.proofs.{upward.Recorded.{IsLed, Known, Records, all, one, opening_led, records_last, rule_records}, steps.Steps.AtDevice}
+use Rattle.pm_world.proofs.{steps.Steps.{at_both, at_device}, ports.DownLemmas.{DownChange, Gone, Put, Quiet, down_change, falls_keep}}
 use Rattle.pm_world.proofs.ports.{EachLemmas.{Each, each_map, each_more}, KeepingLemmas.{IsTrue, opening_true, passes_open, true_after}}
 use Rattle.pm_world.proofs.steps.Orderly as world_orderly
 

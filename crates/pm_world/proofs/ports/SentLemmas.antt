@@ -1,20 +1,19 @@
 -- For `connections_follow`. What a unit sends is of its connection. So nothing is on its way of a connection that is
 -- still to come.
 use Rattle.std.proofs.Common.{◌≡◌, ◌≢◌, ◌==◌, ◌&&◌, ℕ, ◌<◌, ◌≤◌, Bool, true, false, List, [], ◌∷◌, ◌++◌, length, refl, sym, ap, subst, ◌∙◌, inl, inr}
-use Rattle.std.proofs.Common.{Option, Some, None, Ok, arith}
+use Rattle.std.proofs.{Common.{Option, Some, None, Ok, arith}, lemmas.Bool.{and_parts, eqb-true}}
 use Rattle.std.specs.{Prelude.{if◌then◌else◌, slice_get}, List.flat_map}
-use Rattle.std.proofs.lemmas.Bool.{and_parts, eqb-true}
 use Rattle.multiplier.specs.Arbiter.{control_port}
 use Rattle.hba_driver.specs.declared.mode.Mode.TheVariants.{Switching}
-use Rattle.pm_world.specs.{Attached.Attached, Links.on_presence, Places.{Place, Places, is_config, new_world}}
-use Rattle.pm_world.specs.Rules.{CameRule, DiskSendActs, DiskSendRule, DiskTakeRule, GoneRule, InjectActs, InjectRule, PmDownRule, PmFromDeviceRule}
-use Rattle.pm_world.specs.{Rules.{PmPresenceRule, Rule, Run}, Traffic.{NothingLost, all_marked, is_removed, sent_by, taken_by, transit}}
-use Rattle.pm_world.specs.{declared.{step.Config.Config, step.Step.Step, step.Answer.Answer}, Connections.IsUnused}
+use Rattle.pm_world.specs.{Attached.Attached, Links.on_presence, Places.{Place, Places, is_config, new_world}, Rules.{CameRule, DiskSendActs}}
+use Rattle.pm_world.specs.Rules.{DiskSendRule, DiskTakeRule, GoneRule, InjectActs, InjectRule, PmDownRule, PmFromDeviceRule, PmPresenceRule, Rule}
+use Rattle.pm_world.specs.{Rules.Run, Traffic.{NothingLost, all_marked, is_removed, sent_by, taken_by, transit}, declared.step.Config.Config}
+use Rattle.pm_world.specs.{declared.step.{Step.Step, Answer.Answer}, Connections.IsUnused}
 use Rattle.pm_world.specs.declared.step.Step.TheVariants as step
 use Rattle.pm_world.specs.declared.step.Answer.TheVariants as answer
-use Rattle.pm_world.proofs.{upward.Law.nothing_lost, steps.Openings.nothing_stands, upward.Recorded.{IsLed, all}}
-use Rattle.pm_world.proofs.{steps.Steps.{AtDevice, at_both, at_device}, paths.{KeptLemmas.{Was, was}, PathLemmas.none_both}}
-use Rattle.pm_world.proofs.ports.FirmLemmas.{IsFirm, firm_after, opening_firm, seen_at, whole_closed}
+use Rattle.pm_world.proofs.{upward.{Law.nothing_lost, Recorded.{IsLed, all}}, steps.{Openings.nothing_stands, Steps.{AtDevice, at_both, at_device}}}
+use Rattle.pm_world.proofs.{paths.{KeptLemmas.{Was, was}, PathLemmas.none_both}, ports.FirmLemmas.{IsFirm, firm_after, opening_firm, seen_at}}
+use Rattle.pm_world.proofs.ports.FirmLemmas.{whole_closed}
 
 -- ## Who sends
 

@@ -3,9 +3,8 @@
 use Rattle.std.proofs.Common.{◌≡◌, ◌⊎◌, ℕ, true, false, List, [], ◌∷◌, drop, length, map, refl, sym, ap, subst, ◌∙◌, inl, inr, Some}
 use Rattle.fis_view.specs.Frames.{Stamped}
 use Rattle.hba_driver.specs.declared.{request.Outcome.{Outcome, TheVariants.DeviceError}, slot.Phase.{Phase, TheVariants.{Waits, Ended}}}
-use Rattle.hba_driver.specs.Drivers.{Driver, Entry, entry_at, has_ended_in}
-use Rattle.hba_driver.specs.{HostTurns.{DoesAll, Host, HostTurn, Pushed, Submitted, Ticked, Took, sight_in}, Laws.Goes, Sights.file_shown}
-use Rattle.hba_driver.specs.Between.{Fresh, PollFacts, Stood, ticks}
+use Rattle.hba_driver.specs.{Drivers.{Driver, Entry, entry_at, has_ended_in}, HostTurns.{DoesAll, Host, HostTurn, Pushed, Submitted, Ticked, Took}}
+use Rattle.hba_driver.specs.{HostTurns.sight_in, Laws.Goes, Sights.file_shown, Between.{Fresh, PollFacts, Stood, ticks}}
 use Rattle.hba_driver.proofs.Door as accept
 use Rattle.hba_driver.proofs.Door.{comes_from, errors_are_named, poll_facts}
 use Rattle.pm_world.specs.{Named.{IsNamedIn, PolledErrorsAreNamed}, Places.{Places, new_world}, Rules.Run, Turns.turn_of, declared.step.Step.Step}

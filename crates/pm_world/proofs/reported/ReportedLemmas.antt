@@ -1,20 +1,18 @@
 -- For `polled_errors_are_named`. Where in a run of a world a request was submitted, and where it was reported to be
 -- done.
 use Rattle.std.proofs.Common.{◌≡◌, ◌==◌, ℕ, true, false, List, [], ◌∷◌, ◌++◌, drop, length, map, refl, sym, ap, subst, ◌∙◌, inl, inr, append_assoc}
-use Rattle.std.proofs.Common.{Some, Ok}
+use Rattle.std.proofs.{Common.{Some, Ok}, lemmas.Bool.{and_parts, eqb-true, false≢true}}
 use Rattle.std.specs.Prelude.{◌⊎◌}
-use Rattle.std.proofs.lemmas.Bool.{and_parts, eqb-true, false≢true}
 use Rattle.fis_view.specs.Frames.{Stamped}
 use Rattle.slots.specs.Slots.{has_bit}
 use Rattle.hba_fbs.specs.{declared.report.TakeReport.TakeReport, Taking.port_of}
-use Rattle.hba_driver.specs.declared.{request.Request.Request, request.Ticket.Ticket, slot.Phase.{Phase, TheVariants.{Waits, Issued, Ended}}}
-use Rattle.hba_driver.specs.{Drivers.{Entry, entry_at, has_ended_in, rephased}, Laws.Goes}
-use Rattle.hba_driver.specs.{HostTurns.{DoesAll, Host, HostTurn, Pushed, Submitted, Took}, Submits.new_entry}
-use Rattle.hba_driver.specs.Between.{AllStand, Fresh, IsOnWay, Reports}
+use Rattle.hba_driver.specs.declared.{request.{Request.Request, Ticket.Ticket}, slot.Phase.{Phase, TheVariants.{Waits, Issued, Ended}}}
+use Rattle.hba_driver.specs.{Drivers.{Entry, entry_at, has_ended_in, rephased}, Laws.Goes, HostTurns.{DoesAll, Host, HostTurn, Pushed, Submitted}}
+use Rattle.hba_driver.specs.{HostTurns.Took, Submits.new_entry, Between.{AllStand, Fresh, IsOnWay, Reports}}
 use Rattle.hba_driver.proofs.Door.{all_wider, comes_from, free_other, turn_stands, way_turn}
-use Rattle.pm_world.specs.Places.{Places}
-use Rattle.pm_world.specs.Rules.{CameRule, DiskSendRule, DiskTakeRule, GoneRule, InjectRule, PmDownRule, PmFromDeviceRule, PmPresenceRule, Rule, Run}
-use Rattle.pm_world.specs.{Turns.turn_of, declared.{step.Step.Step, step.Answer.Answer}, Runs.{IsStepOf, Telling, over}, Units.happens}
+use Rattle.pm_world.specs.{Places.Places, Rules.{CameRule, DiskSendRule, DiskTakeRule, GoneRule, InjectRule, PmDownRule, PmFromDeviceRule}}
+use Rattle.pm_world.specs.{Rules.{PmPresenceRule, Rule, Run}, Turns.turn_of, declared.step.{Step.Step, Answer.Answer}, Runs.{IsStepOf, Telling, over}}
+use Rattle.pm_world.specs.Units.{happens}
 use Rattle.pm_world.specs.declared.step.Step.TheVariants as step
 use Rattle.pm_world.specs.declared.step.Answer.TheVariants as answer
 use Rattle.pm_world.proofs.{turns.HostFold.rule_does, steps.Steps.{at_both, at_device}}

@@ -1,9 +1,8 @@
 -- For `ports_rest_at_a_flush`. Up to the first FIS of a disk, the host serves the disk and gives it nothing.
 use Rattle.std.proofs.Common.{◌≡◌, ◌≢◌, eqb, ◌==◌, ◌⊎◌, ℕ, ◌<◌, Bool, true, false, List, [], ◌∷◌, ◌++◌, drop, length, map, refl, sym, ap, subst, ◌∙◌}
-use Rattle.std.proofs.Common.{inl, inr, Ok}
+use Rattle.std.proofs.{Common.{inl, inr, Ok}, lemmas.{Bool.{eq-eqb, true≢false}, List.append-nil, List.Elements.All-head}}
 use Rattle.std.specs.{Prelude.Result, List.flat_map}
-use Rattle.std.proofs.lemmas.{Bool.{eq-eqb, true≢false}, List.append-nil, List.Elements.All-head}
-use Rattle.fis_view.specs.{Frames.Stamped, Seen.seen, declared.{view.Fis.Fis, view.FisFault.FisFault}}
+use Rattle.fis_view.specs.{Frames.Stamped, Seen.seen, declared.view.{Fis.Fis, FisFault.FisFault}}
 use Rattle.fis_view.specs.declared.view.Fis.TheVariants as view
 use Rattle.host_memory.specs.Memory.{is_memory_size}
 use Rattle.hba_fbs.specs.Taking.{port_of}
@@ -14,11 +13,10 @@ use Rattle.hba_laws.specs.Client.{own}
 use Rattle.hba_driver.specs.{Events.shared_by, HostTurns.HostTurn, Steady.{IsCalmTick, IsFlushTick}}
 use Rattle.disk_simulation.specs.Hosted.{IsKept}
 use Rattle.disk_simulation.proofs.Door.{hosted_is_kept}
-use Rattle.pm_world.specs.{Places.Places, Rules.Rule, Turns.{IsOfItsPort, turn_of}, declared.{step.Step.Step, step.Answer.Answer}, PathEnds.for_port}
+use Rattle.pm_world.specs.{Places.Places, Rules.Rule, Turns.{IsOfItsPort, turn_of}, declared.step.{Step.Step, Answer.Answer}, PathEnds.for_port}
 use Rattle.pm_world.specs.declared.step.Answer.TheVariants as answer
-use Rattle.pm_world.proofs.upward.PortMarks.{AllHavePortMarks, run_marks}
-use Rattle.pm_world.proofs.{serving.HostLemmas.{DriversServe, HasPushed, HostOn, step_flushes, step_keeps, step_pushes}, ports.DownLemmas.given_for}
-use Rattle.pm_world.proofs.paths.PathLemmas.{drop_front}
+use Rattle.pm_world.proofs.{upward.PortMarks.{AllHavePortMarks, run_marks}, serving.HostLemmas.{DriversServe, HasPushed, HostOn, step_flushes}}
+use Rattle.pm_world.proofs.{serving.HostLemmas.{step_keeps, step_pushes}, ports.DownLemmas.given_for, paths.PathLemmas.drop_front}
 
 -- the host took a FIS of port n
 abbrev pub is_taken_of : ℕ → Answer → Bool

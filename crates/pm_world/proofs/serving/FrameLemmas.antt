@@ -1,20 +1,18 @@
 -- For `ports_rest_at_a_flush`. What a host gives is a frame.
 use Rattle.std.proofs.Common.{◌≡◌, ◌==◌, ◌&&◌, ℕ, suc, ◌+◌, ◌-◌, ◌*◌, ◌%◌, ◌≤◌, Bool, true, false, List, [], ◌∷◌, drop, length, refl, sym, ap, subst}
-use Rattle.std.proofs.Common.{◌∙◌, inl, inr, Option, Some, None, arith, replicate}
+use Rattle.std.proofs.{Common.{◌∙◌, inl, inr, Option, Some, None, arith, replicate}, lemmas.Bool.{cases_Bool, cases_lt, Decides.nat_tests}}
+use Rattle.std.proofs.lemmas.List.{get_or-replicate, get_or_past, length-drop, length-replicate, length-take-le, FromFn.{get_or-map-range_with_len}}
+use Rattle.std.proofs.lemmas.List.FromFn.{length-map-range_with_len}
 use Rattle.std.specs.{Prelude.{if◌then◌else◌, nat_le, IsTrue, MatchOption}, Option.option_or}
-use Rattle.std.proofs.lemmas.{Bool.{cases_Bool, cases_lt}, Bool.Decides.nat_tests}
-use Rattle.std.proofs.lemmas.List.{get_or-replicate, get_or_past, length-drop, length-replicate, length-take-le}
-use Rattle.std.proofs.lemmas.List.FromFn.{get_or-map-range_with_len, length-map-range_with_len}
 use Rattle.fis_view.specs.Frames.{IsFrame, Stamped}
 use Rattle.host_memory.specs.Memory.{Memory, is_memory_size}
-use Rattle.hba_commands.specs.declared.command.Command.{Command}
-use Rattle.hba_commands.specs.{Commands.{cfis_at, command_at, command_in, command_under, has_table, is_proper, total_at}, Headers.header_at}
-use Rattle.hba_commands.specs.Requests.{request_at, work_of}
+use Rattle.hba_commands.specs.{declared.command.Command.Command, Commands.{cfis_at, command_at, command_in, command_under, has_table, is_proper}}
+use Rattle.hba_commands.specs.{Commands.total_at, Headers.header_at, Requests.{request_at, work_of}}
 use Rattle.slots.specs.{Data.{payload, payload_len}, Slots.{Issue, Slots, context_of, has_bit, issue_at}, Table.{IsContext, IsContextOf}}
 use Rattle.slots.specs.declared.table.Context.{Context}
 use Rattle.hba_fbs.specs.{declared.{register.Register.{Register, TheVariants.Ci}, report.TakeReport.TakeReport}, Issuing.{asked, commands_with}}
-use Rattle.hba_fbs.specs.{Sending.{Data, Gives, Order, Outgoing, data_fis, gathered, outgoing}, Tables.prds_of, Taking.{ignores, port_of}}
-use Rattle.hba_fbs.specs.{Views.{Port, last_command}, Writing.{Accepts, commands_after}}
+use Rattle.hba_fbs.specs.{Sending.{Data, Gives, Order, Outgoing, data_fis, gathered, outgoing}, Tables.prds_of, Taking.{ignores, port_of}, Views.Port}
+use Rattle.hba_fbs.specs.{Views.last_command, Writing.{Accepts, commands_after}}
 use Rattle.hba_laws.specs.{Client.Touches, Hosts.{Does, Flushed, Gave, HostEvent, Runs, TakesFrame, Took, Wrote}, Sound.{AreHosts, IsHost}}
 use Rattle.hba_laws.specs.Hosts as event
 use Rattle.hba_laws.proofs.Door as outgoing_lemmas

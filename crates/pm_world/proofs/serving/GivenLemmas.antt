@@ -2,9 +2,8 @@
 use Rattle.std.proofs.Common.{◌≡◌, Some, Ok}
 use Rattle.fis_view.specs.Frames.{Stamped}
 use Rattle.hba_driver.specs.HostTurns.{Pushes}
-use Rattle.pm_world.specs.Places.{Places, pushed}
-use Rattle.pm_world.specs.Rules.{CameRule, DiskSendRule, DiskTakeRule, GoneRule, InjectRule, PmDownRule, PmFromDeviceRule, PmPresenceRule, Rule}
-use Rattle.pm_world.specs.declared.step.Step.{Step}
+use Rattle.pm_world.specs.{Places.{Places, pushed}, Rules.{CameRule, DiskSendRule, DiskTakeRule, GoneRule, InjectRule, PmDownRule, PmFromDeviceRule}}
+use Rattle.pm_world.specs.{Rules.{PmPresenceRule, Rule}, declared.step.Step.Step}
 use Rattle.pm_world.specs.declared.step.Step.TheVariants as step
 use Rattle.pm_world.specs.declared.step.Answer.TheVariants as answer
 use Rattle.pm_world.proofs.steps.Steps.{at_both, at_device}

@@ -1,27 +1,26 @@
 -- For `ports_rest_at_a_flush`. A host that serves a disk honestly goes on to do so at each step of a world.
 use Rattle.std.proofs.Common.{◌≡◌, ◌≢◌, ◌==◌, ℕ, ◌<◌, Bool, true, false, List, [], ◌∷◌, ◌++◌, drop, length, map, refl, sym, ap, subst, ◌∙◌, inl, inr}
-use Rattle.std.proofs.Common.{Option, Some, None, Ok}
+use Rattle.std.proofs.{Common.{Option, Some, None, Ok}, lemmas.List.{append-nil}}
 use Rattle.std.specs.Prelude.{◌⊎◌, if◌then◌else◌}
-use Rattle.std.proofs.lemmas.List.{append-nil}
 use Rattle.fis_view.specs.{Frames.{IsFrame, Stamped, marked}, Seen.seen}
 use Rattle.host_memory.specs.Memory.{is_memory_size}
 use Rattle.hba_fbs.specs.{declared.report.TakeReport.TakeReport, Taking.port_of}
 use Rattle.disk_model.specs.{Ends.IsRight, Histories.{Happening, Plugged, Received, Sent}, Ledger.ledger}
 use Rattle.multiplier.specs.State.{pm_port}
 use Rattle.hba_laws.specs.{Client.Touches, Delivering.touches_after}
-use Rattle.hba_driver.specs.{declared.{request.Request.Request, request.Ticket.Ticket}, Events.{events_over, shared_by}}
-use Rattle.hba_driver.specs.{HostTurns.{DoesAll, Host, HostTurn, Polled, Pushed, Put, Submitted, Ticked, Took}, Steady.{IsCalmTick, IsFlushTick}}
+use Rattle.hba_driver.specs.{declared.request.{Request.Request, Ticket.Ticket}, Events.{events_over, shared_by}, HostTurns.{DoesAll, Host, HostTurn}}
+use Rattle.hba_driver.specs.{HostTurns.{Polled, Pushed, Put, Submitted, Ticked, Took}, Steady.{IsCalmTick, IsFlushTick}}
 use Rattle.disk_simulation.specs.{Heard.IsTakenWell, Joined.IsShort, Same.SlotCommand}
 use Rattle.disk_recovery.specs.Kept.{CalmTurnsKeep, FlushOpens, IsCalmTurn, IsServedHonestly, OpensHonestly, PushesKeep, ServesOn, TakesKeep}
 use Rattle.disk_recovery.specs.Kept.{given_to}
 use Rattle.disk_recovery.proofs.Door.{calm_turns_keep, flush_opens, opens_honestly, pushes_keep, takes_keep}
-use Rattle.pm_world.specs.Places.{Places, Queue}
-use Rattle.pm_world.specs.Rules.{CameRule, DiskSendRule, DiskTakeRule, GoneRule, InjectRule, PmDownRule, PmFromDeviceRule, PmPresenceRule, Rule}
-use Rattle.pm_world.specs.{Turns.turn_of, declared.{step.Step.Step, step.Answer.Answer}, HostTouches.{AreTouched, goes}, PathEnds.for_port}
+use Rattle.pm_world.specs.{Places.{Places, Queue}, Rules.{CameRule, DiskSendRule, DiskTakeRule, GoneRule, InjectRule, PmDownRule, PmFromDeviceRule}}
+use Rattle.pm_world.specs.{Rules.{PmPresenceRule, Rule}, Turns.turn_of, declared.step.{Step.Step, Answer.Answer}, HostTouches.{AreTouched, goes}}
+use Rattle.pm_world.specs.PathEnds.{for_port}
 use Rattle.pm_world.specs.declared.step.Step.TheVariants as step
 use Rattle.pm_world.specs.declared.step.Answer.TheVariants as answer
-use Rattle.pm_world.proofs.{turns.HostFold.rule_does, steps.Steps.{at_both, at_device}, serving.FrameLemmas.pushes_frame}
-use Rattle.pm_world.proofs.{serving.GivenLemmas.{HasGiven, host_gives}, paths.PathLemmas.drop_front}
+use Rattle.pm_world.proofs.{turns.HostFold.rule_does, steps.Steps.{at_both, at_device}, serving.{FrameLemmas.pushes_frame, GivenLemmas.HasGiven}}
+use Rattle.pm_world.proofs.{serving.GivenLemmas.host_gives, paths.PathLemmas.drop_front}
 
 -- ## The host
 

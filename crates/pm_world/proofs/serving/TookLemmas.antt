@@ -1,13 +1,11 @@
 -- For `disks_are_honest`. What a host takes of a disk brought what it says.
-use Rattle.std.proofs.Common.{◌==◌, ◌&&◌, ℕ, ◌+◌, ◌*◌, ◌%◌, List, subst, Ok}
+use Rattle.std.proofs.{Common.{◌==◌, ◌&&◌, ℕ, ◌+◌, ◌*◌, ◌%◌, List, subst, Ok}, lemmas.List.{length-set}}
 use Rattle.std.specs.Prelude.{◌/◌, IsTrue, nat_le, slice_index}
-use Rattle.std.proofs.lemmas.List.{length-set}
 use Rattle.fis_view.specs.Frames.{IsFrame, marked}
 use Rattle.hba_fbs.specs.declared.report.TakeReport.{TakeReport}
 use Rattle.hba_driver.specs.HostTurns.{Tooks}
-use Rattle.pm_world.specs.Places.{Places}
-use Rattle.pm_world.specs.Rules.{CameRule, DiskSendRule, DiskTakeRule, GoneRule, InjectRule, PmDownRule, PmFromDeviceRule, PmPresenceRule, Rule}
-use Rattle.pm_world.specs.declared.step.Step.{Step}
+use Rattle.pm_world.specs.{Places.Places, Rules.{CameRule, DiskSendRule, DiskTakeRule, GoneRule, InjectRule, PmDownRule, PmFromDeviceRule}}
+use Rattle.pm_world.specs.{Rules.{PmPresenceRule, Rule}, declared.step.Step.Step}
 use Rattle.pm_world.specs.declared.step.Step.TheVariants as step
 use Rattle.pm_world.specs.declared.step.Answer.TheVariants as answer
 use Rattle.pm_world.proofs.steps.Steps.{at_both, at_device}

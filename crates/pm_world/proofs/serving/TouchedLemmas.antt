@@ -1,21 +1,20 @@
 -- For `ports_rest_at_a_flush`. What was touched at a host that came from its opening over turns: the host is sound and
 -- serves, and what it delivers at a frame.
 use Rattle.std.proofs.Common.{rules, ◌≡◌, ℕ, ◌+◌, ◌-◌, ◌<◌, ◌≤◌, List, [], ◌∷◌, ◌++◌, append_assoc, refl, sym, subst, length, arith}
-use Rattle.std.specs.Prelude.{true, slice_index}
 use Rattle.std.proofs.lemmas.List.{append-nil, get_or-replicate, length-replicate}
+use Rattle.std.specs.Prelude.{true, slice_index}
 use Rattle.host_memory.specs.{Memory.{client_start, is_memory_size, zeroed, zeros}, Place.{LiesInClient, place}}
 use Rattle.host_memory.proofs.Door.{place_inside}
 use Rattle.slots.specs.Slots.{has_bit}
 use Rattle.hba_fbs.specs.{declared.report.TakeReport.TakeReport, Taking.port_of}
-use Rattle.hba_laws.specs.Client.{AreWithin, IsKept, IsReading, Touches, own}
-use Rattle.hba_laws.specs.{Delivering.{AreReadAsIssued, HaveTables, IsClient, IsDelivered, ReportsDone, touched, touches_after}, History.Transfer}
-use Rattle.hba_laws.specs.Hosts.{TakesFrame}
+use Rattle.hba_laws.specs.{Client.{AreWithin, IsKept, IsReading, Touches, own}, Delivering.{AreReadAsIssued, HaveTables, IsClient, IsDelivered}}
+use Rattle.hba_laws.specs.{Delivering.{ReportsDone, touched, touches_after}, History.Transfer, Hosts.TakesFrame}
 use Rattle.hba_laws.specs.Hosts as event
 use Rattle.hba_laws.specs.Sound as sound
 use Rattle.hba_laws.proofs.Door.{client_is_touched, data_is_within, done_is_completed, done_reads_stand, spared_tables_read}
-use Rattle.hba_driver.specs.{declared.mode.Mode.TheVariants.Switching, Delivered.{IsAtItsPlace, TookDelivers}}
-use Rattle.hba_driver.specs.{Events.{IsSoundHost, events_over, opening_host, shared_by}, HostTurns.{Does, DoesAll, Host, HostTurn, Took}}
-use Rattle.hba_driver.specs.{Served.{IsIssueOf, IsServed, RunServes}, Submits.end_of, Between.HaveGoodPrds}
+use Rattle.hba_driver.specs.{declared.mode.Mode.TheVariants.Switching, Delivered.{IsAtItsPlace, TookDelivers}, Events.{IsSoundHost, events_over}}
+use Rattle.hba_driver.specs.{Events.{opening_host, shared_by}, HostTurns.{Does, DoesAll, Host, HostTurn, Took}, Served.{IsIssueOf, IsServed}}
+use Rattle.hba_driver.specs.{Served.RunServes, Submits.end_of, Between.HaveGoodPrds}
 use Rattle.hba_driver.proofs.Door.{as_long, good_since, hosts_stay_sound, issue_inside, turns_serve, zeroed_right}
 use Rattle.pm_world.proofs.turns.HostFold.{does-append}
 use Rattle.pm_world.specs.HostTouches.{AreTouched, goes, opens}

@@ -1,13 +1,12 @@
 -- For the steps at a port, such as `Machine::pm_down`. What a step at a port does if the port is there, and a unit that
 -- has no room for a frame.
-use Rattle.std.proofs.Common.{◌≡◌, ℕ, ◌<◌, ◌∷◌, List, length, Some, refl, sym, ap, ◌∙◌, subst}
+use Rattle.std.proofs.{Common.{◌≡◌, ℕ, ◌<◌, ◌∷◌, List, length, Some, refl, sym, ap, ◌∙◌, subst}, lemmas.Option.slice_get_read}
 use Rattle.std.specs.Prelude.{IsTrue, slice_get, slice_index_or}
-use Rattle.std.proofs.lemmas.Option.{slice_get_read}
 use Rattle.fis_view.specs.Frames.{Stamped}
 use Rattle.disk_model.specs.Histories.{Received}
 use Rattle.multiplier.specs.State.{PmState}
-use Rattle.pm_world.specs.{Attached.{Attached, WantsRoom}, Places.{Places, Place, Queue, FirstLeaves, with_device, with_multiplier}}
-use Rattle.pm_world.specs.{Rules.{Outcome, OnDeviceAndMultiplier, TakeWants, is_for}, declared.step.StepError.TheVariants.OutOfMemory}
+use Rattle.pm_world.specs.{Attached.{Attached, WantsRoom}, Places.{Places, Place, Queue, FirstLeaves, with_device, with_multiplier}, Rules.Outcome}
+use Rattle.pm_world.specs.{Rules.{OnDeviceAndMultiplier, TakeWants, is_for}, declared.step.StepError.TheVariants.OutOfMemory}
 
 -- its rule holds of the device's place and the multiplier
 pub on_both : (now old : Places) (n : ℕ) (place after : Place) (outcome : Outcome) (left : PmState) (R : Place → PmState → Outcome → Place → PmState → Type 0)

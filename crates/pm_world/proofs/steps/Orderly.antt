@@ -1,28 +1,27 @@
 -- For `paths_go_on`, clause `orderly`. Every world is orderly: a new one is, and no step makes it otherwise.
-use Rattle.std.proofs.Common.{◌≡◌, ℕ, ◌<◌, ◌≤◌, ◌==◌, Bool, true, false, List, [], ◌∷◌, length, map, Option, Some, None, refl, sym, ap, ◌∙◌, subst, arith}
+use Rattle.std.proofs.Common.{◌≡◌, ℕ, ◌<◌, ◌≤◌, ◌==◌, Bool, true, false, List, [], ◌∷◌, length, map, Option, Some, None, refl, sym, ap, ◌∙◌, subst}
+use Rattle.std.proofs.{Common.arith, lemmas.{Bool.{and_parts, eqb-true, leb-false, leb-true}, Option.same_Some, List.{length-set, length-map}}}
+use Rattle.std.proofs.lemmas.List.{length-replicate}
 use Rattle.std.specs.Prelude.{slice_set, is_none, is_some, nat_le, if◌then◌else◌, Ok, MatchOption, MatchBool, ◌&&◌, ◌%◌}
-use Rattle.std.proofs.lemmas.{Bool.{and_parts, eqb-true, leb-false, leb-true}, Option.same_Some, List.{length-set, length-map, length-replicate}}
 use Rattle.fis_view.specs.{Frames.Stamped, declared.{frame.Stamp.Stamp, build.D2hFields.D2hFields}}
 use Rattle.pm_ports.specs.Port.{PortState, empty_port, is_present, with_connection, with_removal, with_up, came_refusal as port_came_refusal}
-use Rattle.pm_ports.specs.{Port.gone_refusal as port_gone_refusal, declared.port.GoneError.TheVariants.NotThere}
-use Rattle.pm_ports.specs.declared.port.PortError.TheVariants.{AlreadyThere, OldConnection}
+use Rattle.pm_ports.specs.{Port.gone_refusal as port_gone_refusal, declared.port.{GoneError.TheVariants.NotThere, PortError.TheVariants.AlreadyThere}}
+use Rattle.pm_ports.specs.declared.port.PortError.TheVariants.{OldConnection}
 use Rattle.pm_control.specs.Answers.{IsAnswer, IsNotice, answer_to}
 use Rattle.pm_registers.specs.RegisterMap.{after_notice}
-use Rattle.multiplier.specs.Arbiter.{control_port}
-use Rattle.multiplier.specs.State.{PmState, control_stamp, counted, held, passes_to, pm_port, port_at, next_place, rising, with_port}
-use Rattle.multiplier.specs.Rules.{FromHostRule, PlaceGives, PortGives, ControlGives, ToControl, ToDevice, ToNobody, held_source, may_go_back}
-use Rattle.multiplier.specs.{Rules.{with_device as connected, without_device}, declared.multiplier.Passed.Passed, Between.at as state_at}
+use Rattle.multiplier.specs.{Arbiter.control_port, State.{PmState, control_stamp, counted, held, passes_to, pm_port, port_at, next_place, rising}}
+use Rattle.multiplier.specs.{State.with_port, Rules.{FromHostRule, PlaceGives, PortGives, ControlGives, ToControl, ToDevice, ToNobody, held_source}}
+use Rattle.multiplier.specs.{Rules.{may_go_back, with_device as connected, without_device}, declared.multiplier.Passed.Passed, Between.at as state_at}
 use Rattle.multiplier.specs.declared.given.Source.TheVariants as source
 use Rattle.multiplier.specs.declared.multiplier.Passed.TheVariants as passed
 use Rattle.multiplier.proofs.Door as ports
 use Rattle.multiplier.proofs.Door.{still_up_to}
 use Rattle.hba_driver.specs.declared.mode.Mode.{Mode}
-use Rattle.pm_world.specs.{Attached.Attached, DevicePaths.ReachedAreOrderly}
-use Rattle.pm_world.specs.Places.{KnowsItsConnections, Places, Place, Queue, IsOrderly, is_config, new_world_in, opening, with_device}
-use Rattle.pm_world.specs.Places.{with_multiplier, with_upward, with_downward, with_host}
-use Rattle.pm_world.specs.Rules.{OnDevice, OnDeviceAndMultiplier, PmPresenceRule, PmFromDeviceRule, PmDownRule, PmFromHostRule, PmUpRule, CameRule}
+use Rattle.pm_world.specs.{Attached.Attached, DevicePaths.ReachedAreOrderly, Places.{KnowsItsConnections, Places, Place, Queue, IsOrderly, is_config}}
+use Rattle.pm_world.specs.{Places.{new_world_in, opening, with_device, with_multiplier, with_upward, with_downward, with_host}, Rules.OnDevice}
+use Rattle.pm_world.specs.Rules.{OnDeviceAndMultiplier, PmPresenceRule, PmFromDeviceRule, PmDownRule, PmFromHostRule, PmUpRule, CameRule}
 use Rattle.pm_world.specs.{Rules.{DiskSendRule, GoneRule, InjectRule, DiskTakeRule, Rule, Run, Outcome, recorded}, Traffic.is_removed}
-use Rattle.pm_world.specs.declared.{link.Change.Change, step.Config.Config, step.Step.Step, step.Answer.Answer}
+use Rattle.pm_world.specs.declared.{link.Change.Change, step.{Config.Config, Step.Step, Answer.Answer}}
 use Rattle.pm_world.specs.declared.link.Change.TheVariants as change
 use Rattle.pm_world.specs.declared.step.Step.TheVariants as step
 use Rattle.pm_world.specs.declared.step.Answer.TheVariants as answer

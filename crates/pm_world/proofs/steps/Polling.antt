@@ -3,9 +3,8 @@ use Rattle.std.proofs.Common.{◌≡◌, ℕ, true, List, Option, Some, None, re
 use Rattle.std.specs.Prelude.{slice_set}
 use Rattle.slots.specs.Slots.{match_some}
 use Rattle.slots.proofs.Door.{lowest_is}
-use Rattle.hba_driver.specs.Drivers.{Driver, Entry, entry_at, has_ended, has_ended_in, holds}
-use Rattle.hba_driver.specs.{Submits.{after_poll, completed, completion_at, completion_of, lowest_ended}, declared.slot.Head.Head}
-use Rattle.hba_driver.specs.declared.slot.Phase.{Phase, TheVariants.Waits}
+use Rattle.hba_driver.specs.{Drivers.{Driver, Entry, entry_at, has_ended, has_ended_in, holds}, Submits.{after_poll, completed, completion_at}}
+use Rattle.hba_driver.specs.{Submits.{completion_of, lowest_ended}, declared.slot.{Head.Head, Phase.{Phase, TheVariants.Waits}}}
 
 ended : (entries : List (Option Entry)) (n : ℕ) → lowest_ended entries ≡ Some n → holds has_ended (entry_at entries n) ≡ true
 unfolding lowest_ended

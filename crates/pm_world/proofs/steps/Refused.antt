@@ -1,16 +1,14 @@
 -- For `World::run`. The first refusal of a step is never lack of memory, and it is the refusal that the step gives.
-use Rattle.std.proofs.Common.{◌≡◌, ℕ, ◌+◌, List, Bool, true, false, Option, Some, None, refl, sym, subst}
+use Rattle.std.proofs.{Common.{◌≡◌, ℕ, ◌+◌, List, Bool, true, false, Option, Some, None, refl, sym, subst}, lemmas.Option.same_Some}
 use Rattle.std.specs.{Prelude.{slice_get, Ok, Err, MatchOption, unwrap_or, if◌then◌else◌, not, ◌==◌, ◌||◌, nat_lt, length}, Option.option_map_or}
-use Rattle.std.proofs.lemmas.Option.{same_Some}
 use Rattle.fis_view.specs.Frames.{is_frame}
 use Rattle.host_memory.specs.Memory.{client_start}
 use Rattle.multiplier.specs.State.{PmState}
 use Rattle.hba_driver.specs.{HostTurns.Host, Requests.in_use, Submits.end_of}
-use Rattle.pm_world.specs.Places.{Places, Place, Queue, with_device, with_multiplier}
-use Rattle.pm_world.specs.Rules.{Outcome, Refuses, came_refusal, gone_refusal, send_refusal, inject_refusal, no_refusal, port_refusal, put_refusal}
-use Rattle.pm_world.specs.Rules.{refusal, largest, CameRule, GoneRule, DiskSendRule, InjectRule, DiskTakeRule, TakeWants, PmPresenceRule}
-use Rattle.pm_world.specs.Rules.{PmFromDeviceRule, PmDownRule, PmFromHostRule, PmUpRule, HostPushRule, OnDevice, OnDeviceAndMultiplier, Rule}
-use Rattle.pm_world.specs.declared.{step.Step.Step, step.StepError.StepError}
+use Rattle.pm_world.specs.{Places.{Places, Place, Queue, with_device, with_multiplier}, Rules.{Outcome, Refuses, came_refusal, gone_refusal}}
+use Rattle.pm_world.specs.Rules.{send_refusal, inject_refusal, no_refusal, port_refusal, put_refusal, refusal, largest, CameRule, GoneRule}
+use Rattle.pm_world.specs.Rules.{DiskSendRule, InjectRule, DiskTakeRule, TakeWants, PmPresenceRule, PmFromDeviceRule, PmDownRule, PmFromHostRule}
+use Rattle.pm_world.specs.{Rules.{PmUpRule, HostPushRule, OnDevice, OnDeviceAndMultiplier, Rule}, declared.step.{Step.Step, StepError.StepError}}
 use Rattle.pm_world.specs.declared.step.Step.TheVariants as step
 use Rattle.pm_world.specs.declared.step.StepError.TheVariants as error
 

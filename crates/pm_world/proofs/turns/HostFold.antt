@@ -1,15 +1,14 @@
 -- For the field `host` of `laws`. The steps of a world are turns of its host.
-use Rattle.std.proofs.Common.{◌≡◌, ℕ, List, [], ◌∷◌, ◌++◌, length, drop, map, Some, refl, sym, ap, subst, ◌∙◌}
+use Rattle.std.proofs.{Common.{◌≡◌, ℕ, List, [], ◌∷◌, ◌++◌, length, drop, map, Some, refl, sym, ap, subst, ◌∙◌}, Math.Seq.{drop-append_seam}}
 use Rattle.std.specs.Prelude.{Ok}
-use Rattle.std.proofs.Math.Seq.{drop-append_seam}
 use Rattle.fis_view.specs.Frames.{Stamped}
 use Rattle.multiplier.specs.State.{PmState}
 use Rattle.hba_driver.specs.{HostTurns.{Host, HostTurn, Pushed, DoesAll}, declared.request.Request.Request}
-use Rattle.pm_world.specs.Places.{Places, Place, Queue, opening_host_in, new_world_in}
-use Rattle.pm_world.specs.Rules.{Outcome, Rule, Run, OnDevice, OnDeviceAndMultiplier, CameActs, GoneActs, DiskSendActs, InjectActs, DiskTakeActs}
-use Rattle.pm_world.specs.Rules.{CameRule, GoneRule, DiskSendRule, InjectRule, DiskTakeRule, PmPresenceRule, PmFromDeviceRule, PmDownRule}
-use Rattle.pm_world.specs.{Rules.{PmFromHostRule, PmUpRule, HostTakeRule, HostPushRule, TickRule, SubmitRule, PollRule, PutRule}, Runs.over}
-use Rattle.pm_world.specs.{Turns.{turn_of, HostIsFold}, declared.{step.Step.Step, step.Answer.Answer}}
+use Rattle.pm_world.specs.{Places.{Places, Place, Queue, opening_host_in, new_world_in}, Rules.{Outcome, Rule, Run, OnDevice, OnDeviceAndMultiplier}}
+use Rattle.pm_world.specs.Rules.{CameActs, GoneActs, DiskSendActs, InjectActs, DiskTakeActs, CameRule, GoneRule, DiskSendRule, InjectRule}
+use Rattle.pm_world.specs.Rules.{DiskTakeRule, PmPresenceRule, PmFromDeviceRule, PmDownRule, PmFromHostRule, PmUpRule, HostTakeRule, HostPushRule}
+use Rattle.pm_world.specs.{Rules.{TickRule, SubmitRule, PollRule, PutRule}, Runs.over, Turns.{turn_of, HostIsFold}, declared.step.Step.Step}
+use Rattle.pm_world.specs.declared.step.Answer.{Answer}
 use Rattle.pm_world.specs.declared.step.Step.TheVariants as step
 use Rattle.pm_world.specs.declared.step.Answer.TheVariants as answer
 use Rattle.pm_world.proofs.steps.Steps.{at_device, at_both}

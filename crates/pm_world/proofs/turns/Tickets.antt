@@ -1,17 +1,16 @@
 -- For the field `tickets` of `laws`. Over every run tickets are kept: what the answers of a run tell of them is what
 -- the host's turns do.
 use Rattle.std.proofs.Common.{◌≡◌, ℕ, List, [], ◌∷◌, ◌++◌, true, length, map, drop, Some, refl, sym, ap, subst, ◌∙◌, append_assoc}
-use Rattle.std.specs.{Prelude.Ok, List.{flat_map, range_with_len}}
 use Rattle.std.proofs.lemmas.Grind.{flat_map-append}
+use Rattle.std.specs.{Prelude.Ok, List.{flat_map, range_with_len}}
 use Rattle.fis_view.specs.Frames.{Stamped}
 use Rattle.host_memory.specs.Memory.{is_memory_size, zeroed}
-use Rattle.hba_driver.specs.declared.{mode.Mode.Mode, request.Ticket.Ticket}
-use Rattle.hba_driver.specs.HostTurns.{DoesAll, Host, HostTurn, Pushed, Submitted, Put, given_in, polled_in, polled_by as turn_polls}
-use Rattle.hba_driver.specs.Laws.{AreOnce, TurnsKeep}
+use Rattle.hba_driver.specs.{declared.{mode.Mode.Mode, request.Ticket.Ticket}, HostTurns.{DoesAll, Host, HostTurn, Pushed, Submitted, Put, given_in}}
+use Rattle.hba_driver.specs.{HostTurns.{polled_in, polled_by as turn_polls}, Laws.{AreOnce, TurnsKeep}}
 use Rattle.hba_driver.proofs.Door.{each_run_keeps, hosts_stay_sound, zeroed_right}
-use Rattle.pm_world.specs.Places.{Places, new_world_in, opening_host_in}
-use Rattle.pm_world.specs.Rules.{CameRule, GoneRule, DiskSendRule, InjectRule, DiskTakeRule, PmPresenceRule, PmFromDeviceRule, PmDownRule, Rule, Run}
-use Rattle.pm_world.specs.{Runs.over, Tickets.{KeepsTickets, given_by, polled_by}, Turns.turn_of, declared.{step.Step.Step, step.Answer.Answer}}
+use Rattle.pm_world.specs.{Places.{Places, new_world_in, opening_host_in}, Rules.{CameRule, GoneRule, DiskSendRule, InjectRule, DiskTakeRule}}
+use Rattle.pm_world.specs.{Rules.{PmPresenceRule, PmFromDeviceRule, PmDownRule, Rule, Run}, Runs.over, Tickets.{KeepsTickets, given_by, polled_by}}
+use Rattle.pm_world.specs.{Turns.turn_of, declared.step.{Step.Step, Answer.Answer}}
 use Rattle.pm_world.specs.declared.step.Step.TheVariants as step
 use Rattle.pm_world.specs.declared.step.Answer.TheVariants as answer
 use Rattle.pm_world.proofs.{turns.{Delivery.sized, HostFold.host_is_fold}, steps.Steps.{at_device, at_both}}

@@ -1,26 +1,25 @@
 -- For the field `nothing_lost` of `laws`. What a step does to the frames on their way up, whatever else it does.
-use Rattle.std.proofs.Common.{◌≡◌, ◌≢◌, ℕ, ◌<◌, Bool, true, false, cond, eqb, not, List, [], ◌∷◌, ◌++◌, Option, Some, None, refl, sym, ap, subst, ◌∙◌, append_assoc, inl, inr, map, length, arith}
+use Rattle.std.proofs.Common.{◌≡◌, ◌≢◌, ℕ, ◌<◌, Bool, true, false, cond, eqb, not, List, [], ◌∷◌, ◌++◌, Option, Some, None, refl, sym, ap, subst, ◌∙◌}
+use Rattle.std.proofs.{Common.{append_assoc, inl, inr, map, length, arith}, lemmas.{Bool.{cases_eq, eqb-true, ne_eqb}, Option.same_Some}}
+use Rattle.std.proofs.lemmas.Option.{slice_get_within}
 use Rattle.std.specs.Prelude.{slice_get, option_to_list, is_none, ◌⊎◌, ◌&&◌, ◌==◌, if◌then◌else◌, Ok, MatchOption, MatchBool, filter}
-use Rattle.std.proofs.lemmas.{Bool.{cases_eq, eqb-true, ne_eqb}, Option.{same_Some, slice_get_within}}
 use Rattle.fis_view.specs.{Frames.Stamped, declared.frame.Stamp.Stamp}
 use Rattle.pm_registers.specs.RegisterMap.{forwards}
 use Rattle.pm_ports.specs.Port.{PortState, came_refusal as port_came_refusal, is_gone, is_of_present, is_up_to, left_in, only_if, rises, with_removal}
 use Rattle.pm_ports.specs.{Port.{with_up, gone_refusal as port_gone_refusal}, declared.port.Offered.TheVariants.Held}
-use Rattle.multiplier.specs.Arbiter.{control_port}
-use Rattle.multiplier.specs.Rules.{ControlGives, FromDeviceRule, FromHostRule, PortGives, ToControl, ToDevice, ToNobody, held_source, may_go_back}
-use Rattle.multiplier.specs.Rules.{with_device as connected, without_device}
-use Rattle.multiplier.specs.State.{PmState, held as goes_next, next_place, passes_to, pm_port, port_at, rising, stamped, with_port}
-use Rattle.multiplier.specs.{declared.multiplier.Passed.Passed, Between.at as state_at}
+use Rattle.multiplier.specs.{Arbiter.control_port, Rules.{ControlGives, FromDeviceRule, FromHostRule, PortGives, ToControl, ToDevice, ToNobody}}
+use Rattle.multiplier.specs.{Rules.{held_source, may_go_back, with_device as connected, without_device}, State.{PmState, held as goes_next}}
+use Rattle.multiplier.specs.{State.{next_place, passes_to, pm_port, port_at, rising, stamped, with_port}, declared.multiplier.Passed.Passed}
+use Rattle.multiplier.specs.Between.{at as state_at}
 use Rattle.multiplier.specs.declared.multiplier.Passed.TheVariants as passed
 use Rattle.multiplier.proofs.Door as ports
 use Rattle.multiplier.proofs.Door.{apart, not_up_to}
 use Rattle.hba_driver.specs.{HostTurns.Host, declared.request.Request.Request}
 use Rattle.pm_world.specs.Places.{KnowsItsConnections, Places, Place, Queue, IsOrderly, IsTold, frame_of, pushed, with_device, with_multiplier}
-use Rattle.pm_world.specs.Places.{with_upward, with_downward, with_host}
-use Rattle.pm_world.specs.Rules.{Outcome, CameActs, GoneActs, GoneRule, DiskSendActs, InjectActs, CameRule, DiskSendRule, InjectRule, DiskTakeRule}
-use Rattle.pm_world.specs.Rules.{PmPresenceRule, PmFromDeviceRule, PmDownRule, PmFromHostRule, PmUpRule, HostTakeRule, HostPushRule, TickRule}
-use Rattle.pm_world.specs.Rules.{SubmitRule, PollRule, PutRule, recorded, OnDevice, OnHost, Rule}
-use Rattle.pm_world.specs.{Traffic.{held, is_removed, of_conn, on_link, waiting}, declared.{link.Change.Change, step.Step.Step, step.Answer.Answer}}
+use Rattle.pm_world.specs.{Places.{with_upward, with_downward, with_host}, Rules.{Outcome, CameActs, GoneActs, GoneRule, DiskSendActs, InjectActs}}
+use Rattle.pm_world.specs.Rules.{CameRule, DiskSendRule, InjectRule, DiskTakeRule, PmPresenceRule, PmFromDeviceRule, PmDownRule, PmFromHostRule}
+use Rattle.pm_world.specs.Rules.{PmUpRule, HostTakeRule, HostPushRule, TickRule, SubmitRule, PollRule, PutRule, recorded, OnDevice, OnHost, Rule}
+use Rattle.pm_world.specs.{Traffic.{held, is_removed, of_conn, on_link, waiting}, declared.{link.Change.Change, step.{Step.Step, Answer.Answer}}}
 use Rattle.pm_world.specs.declared.link.Change.TheVariants as change
 use Rattle.pm_world.specs.declared.step.Step.TheVariants as step
 use Rattle.pm_world.specs.declared.step.Answer.TheVariants as answer

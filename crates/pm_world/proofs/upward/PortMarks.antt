@@ -1,21 +1,21 @@
 -- For the field `own_port` of `laws`. What stands on the host's link has the PM Port of its stamp, so the device of
 -- what is taken is the one at that port. What rises from a port is marked with the port, and what the control port says
 -- has PM Port Fh.
-use Rattle.std.proofs.Common.{◌≡◌, ℕ, suc, ◌+◌, ◌*◌, ◌/◌, ◌<◌, ◌≤◌, ◌==◌, Bool, true, false, List, [], ◌∷◌, ◌++◌, length, All, Option, Some, None, Result, Ok, Err, refl, sym, ap, ◌∙◌, subst, arith}
+use Rattle.std.proofs.Common.{◌≡◌, ℕ, suc, ◌+◌, ◌*◌, ◌/◌, ◌<◌, ◌≤◌, ◌==◌, Bool, true, false, List, [], ◌∷◌, ◌++◌, length, All, Option, Some, None}
+use Rattle.std.proofs.{Common.{Result, Ok, Err, refl, sym, ap, ◌∙◌, subst, arith}, lemmas.{List.length-set, List.Elements.{All-nil, All-cons}}}
+use Rattle.std.proofs.lemmas.{List.Elements.{All-append}, Option.same_Some}
 use Rattle.std.specs.Prelude.{slice_index, is_none, if◌then◌else◌, MatchOption, MatchBool}
-use Rattle.std.proofs.lemmas.{List.length-set, List.Elements.{All-nil, All-cons, All-append}, Option.same_Some}
-use Rattle.fis_view.specs.{Built.{IsBuilt, cut, d2h_given, set_bits_given}, Frames.{Stamped, IsFrame, marked}}
-use Rattle.fis_view.specs.{Table.{Kind, Name, PmPort, D2h, Bits, places}, declared.{build.D2hFields.D2hFields, frame.Stamp.Stamp}}
+use Rattle.fis_view.specs.{Built.{IsBuilt, cut, d2h_given, set_bits_given}, Frames.{Stamped, IsFrame, marked}, Table.{Kind, Name, PmPort, D2h, Bits}}
+use Rattle.fis_view.specs.{Table.places, declared.{build.D2hFields.D2hFields, frame.Stamp.Stamp}}
 use Rattle.fis_view.proofs.Door.{frame_bounds, port_bits, port_field, port_written}
-use Rattle.pm_registers.specs.RegisterMap.{RegisterMap, after_notice}
-use Rattle.pm_registers.specs.declared.words.RegisterError.{RegisterError, TheVariants.{NoPort, NoRegister}}
+use Rattle.pm_registers.specs.{RegisterMap.{RegisterMap, after_notice}, declared.words.RegisterError.{RegisterError, TheVariants.NoPort}}
+use Rattle.pm_registers.specs.declared.words.RegisterError.TheVariants.{NoRegister}
 use Rattle.pm_control.specs.Answers.{IsAnswer, IsNotice, answer_of, answer_to, answer_to_request, notice_fields, read_answer, write_answer}
 use Rattle.pm_control.specs.{Requests.request_in, declared.request.Request.{Request, TheVariants.{Read, Write, Unknown, Reset, EndReset}}}
 use Rattle.pm_ports.specs.Port.{with_up, came_refusal as port_came_refusal, gone_refusal as port_gone_refusal}
-use Rattle.multiplier.specs.Arbiter.{control_port}
-use Rattle.multiplier.specs.Rules.{ControlGives, FromHostRule, NextUpRule, PlaceGives, PortGives, ToControl, ToDevice, ToNobody, ToPort, held_source}
-use Rattle.multiplier.specs.Rules.{may_go_back, with_device as connected, without_device}
-use Rattle.multiplier.specs.State.{PmState, control_stamp, counted, held, next_place, passes_to, pm_port, port_at, ready, rising, with_port}
+use Rattle.multiplier.specs.{Arbiter.control_port, Rules.{ControlGives, FromHostRule, NextUpRule, PlaceGives, PortGives, ToControl, ToDevice}}
+use Rattle.multiplier.specs.{Rules.{ToNobody, ToPort, held_source, may_go_back, with_device as connected, without_device}, State.PmState}
+use Rattle.multiplier.specs.State.{control_stamp, counted, held, next_place, passes_to, pm_port, port_at, ready, rising, with_port}
 use Rattle.multiplier.specs.declared.multiplier.Passed.{Passed}
 use Rattle.multiplier.specs.declared.given.Source.TheVariants as source
 use Rattle.multiplier.specs.declared.multiplier.Passed.TheVariants as passed
@@ -23,12 +23,11 @@ use Rattle.multiplier.proofs.Door.{served_below}
 use Rattle.hba_fbs.specs.{Taking.{Hears, heard_report, ignores, port_of}, Views.Port, declared.report.TakeReport.TakeReport}
 use Rattle.host_memory.specs.Memory.{Memory}
 use Rattle.hba_driver.specs.{HostTurns.{Host, Tooks}, declared.request.Request.Request as Asked}
-use Rattle.pm_world.specs.{Attached.Attached as Device, Places.{Places, Place, Queue, new_world, new_world_in}}
-use Rattle.pm_world.specs.Rules.{Outcome, Rule, Run, OnDevice, OnDeviceAndMultiplier, CameActs, GoneActs, DiskSendActs, InjectActs, DiskTakeActs}
-use Rattle.pm_world.specs.Rules.{CameRule, GoneRule, DiskSendRule, InjectRule, DiskTakeRule, PmPresenceRule, PmFromDeviceRule, PmDownRule}
-use Rattle.pm_world.specs.Rules.{PmFromHostRule, PmUpRule, HostTakeRule, HostPushRule, TickRule, SubmitRule, PollRule, PutRule, recorded}
-use Rattle.pm_world.specs.{Turns.{AreOfTheirPorts, IsOfItsPort}, declared.{link.Change.Change, step.Config.Config, step.Step.Step}}
-use Rattle.pm_world.specs.declared.step.Answer.{Answer}
+use Rattle.pm_world.specs.{Attached.Attached as Device, Places.{Places, Place, Queue, new_world, new_world_in}, Rules.{Outcome, Rule, Run, OnDevice}}
+use Rattle.pm_world.specs.Rules.{OnDeviceAndMultiplier, CameActs, GoneActs, DiskSendActs, InjectActs, DiskTakeActs, CameRule, GoneRule, DiskSendRule}
+use Rattle.pm_world.specs.Rules.{InjectRule, DiskTakeRule, PmPresenceRule, PmFromDeviceRule, PmDownRule, PmFromHostRule, PmUpRule, HostTakeRule}
+use Rattle.pm_world.specs.{Rules.{HostPushRule, TickRule, SubmitRule, PollRule, PutRule, recorded}, Turns.{AreOfTheirPorts, IsOfItsPort}}
+use Rattle.pm_world.specs.declared.{link.Change.Change, step.{Config.Config, Step.Step, Answer.Answer}}
 use Rattle.pm_world.specs.declared.link.Change.TheVariants as change
 use Rattle.pm_world.specs.declared.step.Step.TheVariants as step
 use Rattle.pm_world.specs.declared.step.Answer.TheVariants as answer

@@ -1,30 +1,28 @@
 -- For the field `removals` of `laws`. What the ports of the multiplier record is what answers tell, in the same order.
-use Rattle.std.proofs.Common.{◌≡◌, ◌≢◌, ℕ, zero, suc, ◌+◌, ◌<◌, ◌≤◌, max, Bool, true, false, cond, eqb, List, [], ◌∷◌, ◌++◌, append_assoc, length, take, map, Option, Some, None, refl, sym, ap, ◌∙◌, subst, arith, inl, inr, length-append}
+use Rattle.std.proofs.Common.{◌≡◌, ◌≢◌, ℕ, zero, suc, ◌+◌, ◌<◌, ◌≤◌, max, Bool, true, false, cond, eqb, List, [], ◌∷◌, ◌++◌, append_assoc, length}
+use Rattle.std.proofs.{Common.{take, map, Option, Some, None, refl, sym, ap, ◌∙◌, subst, arith, inl, inr, length-append}, lemmas.Bool.cases_eq}
+use Rattle.std.proofs.lemmas.{Bool.{eq-eqb, leb-true, ne_eqb}, List.append-nil, List.Elements.filter-append, Option.{same_Some, slice_get_within}}
 use Rattle.std.specs.{Prelude.{◌==◌, filter, is_none, is_some, nat_le, if◌then◌else◌, slice_get, Ok}, List.flat_map}
-use Rattle.std.proofs.lemmas.{Bool.{cases_eq, eq-eqb, leb-true, ne_eqb}, List.append-nil, List.Elements.filter-append}
-use Rattle.std.proofs.lemmas.Option.{same_Some, slice_get_within}
 use Rattle.hba_driver.specs.declared.{mode.Mode.Mode, request.Request.Request}
 use Rattle.pm_ports.specs.Port.{is_present, with_connection, with_removal, came_refusal as port_came_refusal, gone_refusal as port_gone_refusal}
-use Rattle.pm_ports.specs.declared.{port.GoneError.TheVariants.NotThere, port.PortError.TheVariants.{AlreadyThere, OldConnection}}
+use Rattle.pm_ports.specs.declared.port.{GoneError.TheVariants.NotThere, PortError.TheVariants.{AlreadyThere, OldConnection}}
 use Rattle.multiplier.specs.{Arbiter.control_port, State.{PmState, port_at, rising}, Rules.{with_device as connected, without_device}}
 use Rattle.multiplier.proofs.Door as ports
 use Rattle.multiplier.proofs.Door.{up_to}
-use Rattle.pm_world.specs.{Attached.Attached, Downward.times, Links.{changed_by, is_recorded, on_presence}}
-use Rattle.pm_world.specs.Places.{Places, Place, IsOrderly, is_config, new_world_in, opening, with_device, with_downward, with_host, with_multiplier}
-use Rattle.pm_world.specs.{Places.with_upward, Removals.{IsSeen, TellsRemovals, highest_gone, is_up, recorded_at}}
-use Rattle.pm_world.specs.Traffic.{is_removed, is_took, taken}
-use Rattle.pm_world.specs.Rules.{CameActs, CameRule, DiskSendActs, DiskSendRule, DiskTakeRule, GoneActs, GoneRule, InjectActs, InjectRule, OnDevice}
-use Rattle.pm_world.specs.Rules.{Outcome, PmDownRule, PmFromDeviceRule, PmFromHostRule, PmPresenceRule, PmUpRule, HostTakeRule, HostPushRule}
-use Rattle.pm_world.specs.Rules.{TickRule, SubmitRule, PollRule, PutRule, Rule, Run, came_refusal, gone_refusal, largest, recorded}
-use Rattle.pm_world.specs.declared.{link.Change.Change, step.Config.Config, step.Step.Step, step.Answer.Answer, step.StepError.StepError}
+use Rattle.pm_world.specs.{Attached.Attached, Downward.times, Links.{changed_by, is_recorded, on_presence}, Places.{Places, Place, IsOrderly}}
+use Rattle.pm_world.specs.Places.{is_config, new_world_in, opening, with_device, with_downward, with_host, with_multiplier, with_upward}
+use Rattle.pm_world.specs.{Removals.{IsSeen, TellsRemovals, highest_gone, is_up, recorded_at}, Traffic.{is_removed, is_took, taken}, Rules.CameActs}
+use Rattle.pm_world.specs.Rules.{CameRule, DiskSendActs, DiskSendRule, DiskTakeRule, GoneActs, GoneRule, InjectActs, InjectRule, OnDevice, Outcome}
+use Rattle.pm_world.specs.Rules.{PmDownRule, PmFromDeviceRule, PmFromHostRule, PmPresenceRule, PmUpRule, HostTakeRule, HostPushRule, TickRule}
+use Rattle.pm_world.specs.Rules.{SubmitRule, PollRule, PutRule, Rule, Run, came_refusal, gone_refusal, largest, recorded}
+use Rattle.pm_world.specs.declared.{link.Change.Change, step.{Config.Config, Step.Step, Answer.Answer, StepError.StepError}}
 use Rattle.pm_world.specs.declared.link.Change.TheVariants as change
 use Rattle.pm_world.specs.declared.step.Step.TheVariants as step
 use Rattle.pm_world.specs.declared.step.Answer.TheVariants as answer
 use Rattle.pm_world.specs.declared.step.StepError.TheVariants as error
-use Rattle.pm_world.proofs.steps.{Lists.{slice_get-set_same, slice_get-set_other}, Openings.port_opening}
-use Rattle.pm_world.proofs.upward.{Law.{in_parts, nothing_after, run_append}, FrameMoves.{Moves, rule_moves}}
-use Rattle.pm_world.proofs.steps.Orderly.{known, roomy, device_roomy, down_roomy, heard_roomy, up_roomy, opening_orderly, orderly_after, run_orderly}
-use Rattle.pm_world.proofs.steps.Steps.{at_device, at_both}
+use Rattle.pm_world.proofs.{steps.{Lists.{slice_get-set_same, slice_get-set_other}, Openings.port_opening}, upward.Law.{in_parts, nothing_after}}
+use Rattle.pm_world.proofs.{upward.{Law.run_append, FrameMoves.{Moves, rule_moves}}, steps.Orderly.{known, roomy, device_roomy, down_roomy}}
+use Rattle.pm_world.proofs.steps.{Orderly.{heard_roomy, up_roomy, opening_orderly, orderly_after, run_orderly}, Steps.{at_device, at_both}}
 
 -- ---- changes, one after another
 

@@ -1,6 +1,5 @@
-use Rattle.std.proofs.Common.{rules, ◌≡◌, ◌<◌, length, get_or, sym, ap, ◌∙◌, subst, arith}
+use Rattle.std.proofs.{Common.{rules, ◌≡◌, ◌<◌, length, get_or, sym, ap, ◌∙◌, subst, arith}, lemmas.List.{length-map}}
 use Rattle.std.specs.Prelude.{map}
-use Rattle.std.proofs.lemmas.List.{length-map}
 use Rattle.disk_thread.specs.declared.worker.DiskEnd.{DiskEnd}
 use Rattle.thread_counts.specs.Rows.{CountsAt}
 use Rattle.thread_counts.proofs.RowLemmas.{UpTo, all_counted, map_at, up_to_more}

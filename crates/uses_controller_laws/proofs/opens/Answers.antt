@@ -1,7 +1,6 @@
 use Rattle.std.proofs.Common.{ap}
 use Rattle.ahci_controller.specs.declared.wants.Writes.{Writes}
-use Rattle.uses_controller_laws.proofs.CallLemmas.{ruled}
-use Rattle.uses_controller_laws.proofs.OpensLemmas.{opens_so}
+use Rattle.uses_controller_laws.proofs.{CallLemmas.ruled, OpensLemmas.opens_so}
 use Rattle.uses_controller_laws.proofs.opens.Goals as goal
 
 pub returns-clause-opens : goal.returns-clause-opens

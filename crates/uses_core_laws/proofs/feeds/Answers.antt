@@ -1,7 +1,5 @@
 use Rattle.std.proofs.Common.{◌≡◌, [], refl, subst}
-use Rattle.hba_fbs.specs.declared.turn.Turn.{Turn}
-use Rattle.hba_fbs.specs.declared.turn.Turn.TheVariants.{Feeds}
-use Rattle.hba_fbs.specs.Choosing.{MayChoose}
+use Rattle.hba_fbs.specs.{declared.turn.Turn.{Turn, TheVariants.Feeds}, Choosing.MayChoose}
 use Rattle.hba_laws.specs.Cores.{IsCore}
 use Rattle.uses_core_laws.proofs.feeds.Goals as goal
 

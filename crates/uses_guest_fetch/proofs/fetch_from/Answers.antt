@@ -1,7 +1,5 @@
 use Rattle.std.proofs.Common.{◌≡◌, ◌+◌, ◌-◌, suc, ◌∙◌, refl, sym, ap, arith}
-use Rattle.guest_fetch.specs.Fetching.{want_of}
-use Rattle.guest_fetch.specs.Headers.{header_place}
-use Rattle.guest_fetch.specs.Reading.{after_parts}
+use Rattle.guest_fetch.specs.{Fetching.want_of, Headers.header_place, Reading.after_parts}
 use Rattle.uses_guest_fetch.specs.Block.{IsPart, guest_of}
 use Rattle.uses_guest_fetch.proofs.BlockLemmas.{Stands, answer_is, begins, ends, more_is}
 use Rattle.uses_guest_fetch.proofs.fetch_from.Goals as goal

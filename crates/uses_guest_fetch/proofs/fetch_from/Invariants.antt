@@ -1,6 +1,5 @@
 use Rattle.std.proofs.Common.{◌≡◌, ◌+◌, ℕ}
-use Rattle.guest_fetch.specs.Headers.{header_place}
-use Rattle.guest_fetch.specs.Reading.{after_parts, command_at}
+use Rattle.guest_fetch.specs.{Headers.header_place, Reading.{after_parts, command_at}}
 use Rattle.uses_guest_fetch.specs.Block.{guest_of}
 use Rattle.uses_guest_fetch.proofs.fetch_from.Given as goal
 

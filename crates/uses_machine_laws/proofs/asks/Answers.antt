@@ -1,5 +1,4 @@
-use Rattle.uses_machine_laws.proofs.Controller.{asks, ruled}
-use Rattle.uses_machine_laws.proofs.Keep.{asks_keep}
+use Rattle.uses_machine_laws.proofs.{Controller.{asks, ruled}, Keep.asks_keep}
 use Rattle.uses_machine_laws.proofs.asks.Goals as goal
 
 pub returns-clause-keeps : goal.returns-clause-keeps

@@ -1,5 +1,4 @@
-use Rattle.uses_machine_laws.proofs.Controller.{lent, line, moved, ruled, writes}
-use Rattle.uses_machine_laws.proofs.Keep.{moves_keep}
+use Rattle.uses_machine_laws.proofs.{Controller.{lent, line, moved, ruled, writes}, Keep.moves_keep}
 use Rattle.uses_machine_laws.proofs.moves.Goals as goal
 
 pub returns-clause-keeps : goal.returns-clause-keeps

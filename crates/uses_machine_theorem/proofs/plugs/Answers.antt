@@ -1,5 +1,4 @@
-use Rattle.uses_machine_theorem.proofs.LedLemmas.{knows}
-use Rattle.uses_machine_theorem.proofs.SlotLemmas.{orders, slots, tags}
+use Rattle.uses_machine_theorem.proofs.{LedLemmas.knows, SlotLemmas.{orders, slots, tags}}
 use Rattle.uses_machine_theorem.proofs.plugs.Goals as goal
 
 pub returns : goal.returns

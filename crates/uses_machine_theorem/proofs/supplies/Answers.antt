@@ -2,10 +2,8 @@ use Rattle.std.proofs.Common.{◌≡◌, true}
 use Rattle.slots.specs.Slots.{has_bit}
 use Rattle.ahci_registers.specs.declared.register.Register.TheVariants.{PxCi}
 use Rattle.ahci_controller.specs.Reading.{shown}
-use Rattle.uses_machine_theorem.proofs.LedLemmas.{ruled}
-use Rattle.uses_machine_theorem.proofs.StandLemmas.{told_issued}
+use Rattle.uses_machine_theorem.proofs.{LedLemmas.ruled, StandLemmas.told_issued, supplies.Goals.{in-Issued, in_default}}
 use Rattle.uses_machine_theorem.proofs.supplies.Goals as goal
-use Rattle.uses_machine_theorem.proofs.supplies.Goals.{in-Issued, in_default}
 
 pub returns-then-matches : goal.returns-then-matches
 returns-then-matches c = λ h led.

@@ -3,8 +3,7 @@ use Rattle.slots.specs.Slots.{has_bit}
 use Rattle.ahci_registers.specs.declared.register.Register.TheVariants.{PxCi}
 use Rattle.ahci_controller.specs.Reading.{shown}
 use Rattle.machine_laws.specs.Deeds.{Moved}
-use Rattle.uses_machine_theorem.proofs.LedLemmas.{ruled}
-use Rattle.uses_machine_theorem.proofs.StandLemmas.{moved}
+use Rattle.uses_machine_theorem.proofs.{LedLemmas.ruled, StandLemmas.moved}
 use Rattle.uses_machine_theorem.proofs.watches.Goals as goal
 
 pub returns : goal.returns

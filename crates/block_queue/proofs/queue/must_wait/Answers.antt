@@ -1,6 +1,5 @@
 use Rattle.std.proofs.Common.{below_more, arith, sym, ◌∙◌}
-use Rattle.block_queue.specs.Line.{waits_for}
-use Rattle.block_queue.specs.Saved.{line_of}
+use Rattle.block_queue.specs.{Line.waits_for, Saved.line_of}
 use Rattle.block_queue.proofs.Kept.{any_found, any_none}
 use Rattle.block_queue.proofs.queue.must_wait.Goals as goal
 

@@ -1,6 +1,5 @@
 use Rattle.std.proofs.Common.{◌≡◌, ℕ, ◌<◌, false}
-use Rattle.block_queue.specs.Line.{waits_for}
-use Rattle.block_queue.specs.Saved.{line_of}
+use Rattle.block_queue.specs.{Line.waits_for, Saved.line_of}
 use Rattle.block_queue.proofs.queue.must_wait.Given as goal
 
 abbrev pub invariant-loop-other : goal.invariant-loop-other

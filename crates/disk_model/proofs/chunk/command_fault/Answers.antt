@@ -1,11 +1,7 @@
-use Rattle.std.proofs.Common.{◌≡◌, ◌+◌, ◌≤◌, ℕ, false, nat_lt, List, Option, Some, None, sym, ap, ◌∙◌, arith, refl}
-use Rattle.std.proofs.lemmas.Bool.{le-ltb}
+use Rattle.std.proofs.{Common.{◌≡◌, ◌+◌, ◌≤◌, ℕ, false, nat_lt, List, Option, Some, None, sym, ap, ◌∙◌, arith, refl}, lemmas.Bool.{le-ltb}}
 use Rattle.std.specs.Prelude.{fold, option_map}
-use Rattle.disk_model.specs.declared.answer.Fault.TheVariants.{Failed}
-use Rattle.disk_model.specs.declared.plan.DiskPlan.{DiskPlan}
-use Rattle.disk_model.specs.declared.request.Command.{Command}
-use Rattle.disk_model.specs.Chunks.{first_bad, fault_of}
-use Rattle.disk_model.specs.Insides.{lower_bad}
+use Rattle.disk_model.specs.{declared.{answer.Fault.TheVariants.Failed, plan.DiskPlan.DiskPlan, request.Command.Command}, Chunks.first_bad}
+use Rattle.disk_model.specs.{Chunks.fault_of, Insides.lower_bad}
 use Rattle.disk_model.proofs.turns.BadLemmas.{lowest_is_first}
 use Rattle.disk_model.proofs.chunk.command_fault.Goals as goal
 

@@ -1,5 +1,4 @@
-use Rattle.std.proofs.Common.{arith, rules}
-use Rattle.std.proofs.lemmas.List.FromFn.{map-range_with_len_more}
+use Rattle.std.proofs.{Common.{arith, rules}, lemmas.List.FromFn.{map-range_with_len_more}}
 use Rattle.disk_model.specs.Disks.{opening_byte}
 use Rattle.disk_model.proofs.disk.new_medium.Goals as goal
 

@@ -1,8 +1,5 @@
-use Rattle.std.proofs.Common.{◌≡◌, filter, not, ◌==◌, rules}
-use Rattle.std.proofs.lemmas.Fn.{filter_same}
-use Rattle.std.proofs.lemmas.List.Elements.{All-filter}
-use Rattle.disk_model.specs.declared.request.Command.{Command}
-use Rattle.disk_model.specs.Requests.{IsCounted}
+use Rattle.std.proofs.{Common.{◌≡◌, filter, not, ◌==◌, rules}, lemmas.{Fn.filter_same, List.Elements.{All-filter}}}
+use Rattle.disk_model.specs.{declared.request.Command.Command, Requests.IsCounted}
 use Rattle.disk_model.proofs.disk.remove_tag.Goals as goal
 
 pub returns-clause-items : goal.returns-clause-items

@@ -1,5 +1,4 @@
-use Rattle.disk_model.proofs.both_ends.AnewLemmas.{ends_agree_anew, linked_since_new}
-use Rattle.disk_model.proofs.both_ends.WrittenLemmas.{writes_stay}
+use Rattle.disk_model.proofs.both_ends.{AnewLemmas.{ends_agree_anew, linked_since_new}, WrittenLemmas.writes_stay}
 use Rattle.disk_model.proofs.laws.ends_tell_the_same_anew.Goals as goal
 
 pub returns-clause-same : goal.returns-clause-same

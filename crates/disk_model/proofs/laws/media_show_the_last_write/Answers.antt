@@ -1,7 +1,5 @@
-use Rattle.disk_model.specs.Ledger.{ledger}
-use Rattle.disk_model.specs.Runs.{moment}
-use Rattle.disk_model.proofs.media.LastLemmas.{lie_on, shows_the_last}
-use Rattle.disk_model.proofs.agreement.LawLemmas.{agrees}
+use Rattle.disk_model.specs.{Ledger.ledger, Runs.moment}
+use Rattle.disk_model.proofs.{media.LastLemmas.{lie_on, shows_the_last}, agreement.LawLemmas.agrees}
 use Rattle.disk_model.proofs.laws.media_show_the_last_write.Goals as goal
 
 pub returns-clause-shows : goal.returns-clause-shows

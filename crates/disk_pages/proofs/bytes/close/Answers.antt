@@ -1,5 +1,4 @@
-use Rattle.std.proofs.Common.{sym, arith}
-use Rattle.std.proofs.lemmas.List.{length-take-le}
+use Rattle.std.proofs.{Common.{sym, arith}, lemmas.List.{length-take-le}}
 use Rattle.disk_pages.proofs.bytes.close.Goals as goal
 
 pub slice_bounds-checksum_of-end-2 : goal.slice_bounds-checksum_of-end-2

@@ -1,6 +1,5 @@
 use Rattle.std.proofs.Common.{◌≡◌, take}
-use Rattle.disk_pages.specs.Bytes.{bytes_of}
-use Rattle.disk_pages.specs.Identity.{identity_word}
+use Rattle.disk_pages.specs.{Bytes.bytes_of, Identity.identity_word}
 use Rattle.disk_pages.proofs.identity.identify.Given as goal
 
 abbrev pub invariant-loop-k : goal.invariant-loop-k

@@ -1,7 +1,6 @@
 use Rattle.std.proofs.Common.{◌≡◌, ◌∙◌}
 use Rattle.gefsunk.proofs.RestoreLemmas.{stays_closed}
-use Rattle.gefsunk.specs.Savings.{state_fault}
-use Rattle.gefsunk.specs.Statuses.{status_of}
+use Rattle.gefsunk.specs.{Savings.state_fault, Statuses.status_of}
 use Rattle.gefsunk.proofs.state.gefsunk_machine_restore.Goals as goal
 
 pub returns-in-Err-clause-made : goal.returns-in-Err-clause-made

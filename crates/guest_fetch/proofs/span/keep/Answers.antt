@@ -1,7 +1,5 @@
 use Rattle.std.proofs.Common.{◌≡◌, ◌+◌, ◌*◌, ◌∙◌, length, refl, sym, ap}
-use Rattle.guest_fetch.specs.declared.span.Span.{Span}
-use Rattle.guest_fetch.specs.Entries.{entry_at}
-use Rattle.guest_fetch.specs.Spans.{begin_in}
+use Rattle.guest_fetch.specs.{declared.span.Span.Span, Entries.entry_at, Spans.begin_in}
 use Rattle.guest_fetch.proofs.SpanLemmas.{keeps_begin, keeps_end, keeps_step}
 use Rattle.guest_fetch.proofs.span.keep.Goals as goal
 

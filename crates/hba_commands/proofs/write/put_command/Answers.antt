@@ -1,11 +1,8 @@
 use Rattle.std.proofs.Common.{◌≡◌, length, List, ℕ, refl, sym, ap, ◌∙◌, arith, inl, inr}
 use Rattle.host_memory.specs.Memory.{overwritten, zeros}
-use Rattle.hba_commands.specs.Headers.{header_place}
-use Rattle.hba_commands.specs.Requests.{request_of}
-use Rattle.hba_commands.specs.Writing.{command_table, header_bytes, header_for}
+use Rattle.hba_commands.specs.{Headers.header_place, Requests.request_of, Writing.{command_table, header_bytes, header_for}}
 use Rattle.hba_commands.specs.declared.request.Request.{Request}
-use Rattle.hba_commands.proofs.PutLemmas.{ArePuts, puts_all, puts_cfis, puts_header, puts_prds}
-use Rattle.hba_commands.proofs.RequestLemmas.{built_long, built_request}
+use Rattle.hba_commands.proofs.{PutLemmas.{ArePuts, puts_all, puts_cfis, puts_header, puts_prds}, RequestLemmas.{built_long, built_request}}
 use Rattle.hba_commands.proofs.BackLemmas.{total_back}
 use Rattle.hba_commands.proofs.write.put_command.Goals as goal
 

@@ -1,5 +1,4 @@
-use Rattle.std.proofs.Common.{◌≡◌, ◌++◌, take, drop, length, ap, arith}
-use Rattle.std.proofs.lemmas.List.{take_at}
+use Rattle.std.proofs.{Common.{◌≡◌, ◌++◌, take, drop, length, ap, arith}, lemmas.List.take_at}
 use Rattle.hba_commands.proofs.BackLemmas.{command_back}
 use Rattle.hba_commands.proofs.write.write_command.Goals as goal
 

@@ -1,5 +1,4 @@
-use Rattle.std.proofs.Common.{◌≡◌, ℕ, ◌+◌, ◌*◌, ◌++◌, List, take, drop, length, replicate, ap, arith, ◌∙◌}
-use Rattle.std.proofs.lemmas.List.{take_at}
+use Rattle.std.proofs.{Common.{◌≡◌, ℕ, ◌+◌, ◌*◌, ◌++◌, List, take, drop, length, replicate, ap, arith, ◌∙◌}, lemmas.List.take_at}
 use Rattle.host_memory.specs.Memory.{Memory, overwritten}
 use Rattle.hba_driver.proofs.effect.empty_row.Goals as goal
 

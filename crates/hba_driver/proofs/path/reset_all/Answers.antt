@@ -1,5 +1,4 @@
-use Rattle.std.proofs.Common.{◌∙◌, sym, arith}
-use Rattle.std.proofs.lemmas.List.{get_or_default, get_or-map, length-map, same_lists}
+use Rattle.std.proofs.{Common.{◌∙◌, sym, arith}, lemmas.List.{get_or_default, get_or-map, length-map, same_lists}}
 use Rattle.hba_driver.specs.{declared.plan.Device.TheVariants.Absent, Paths.reset_if_there}
 use Rattle.hba_driver.proofs.path.reset_all.Goals as goal
 

@@ -1,5 +1,4 @@
-use Rattle.std.proofs.Common.{List, Option, length, ap, ◌∙◌}
-use Rattle.std.proofs.lemmas.List.{length-set}
+use Rattle.std.proofs.{Common.{List, Option, length, ap, ◌∙◌}, lemmas.List.{length-set}}
 use Rattle.hba_driver.specs.Drivers.{Entry}
 use Rattle.hba_driver.proofs.scan.apply.Goals as goal
 

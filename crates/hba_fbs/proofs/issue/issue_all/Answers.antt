@@ -1,11 +1,10 @@
-use Rattle.std.proofs.Common.{◌≡◌, ◌≤◌, ◌<◌, ◌+◌, ℕ, List, length, arith, sym, ap, ◌∙◌, subst, Option, None}
-use Rattle.std.proofs.lemmas.List.{length-map}
+use Rattle.std.proofs.{Common.{◌≡◌, ◌≤◌, ◌<◌, ◌+◌, ℕ, List, length, arith, sym, ap, ◌∙◌, subst, Option, None}, lemmas.List.{length-map}}
 use Rattle.std.specs.Option.{is_some}
 use Rattle.slots.specs.Slots.{DeviceSlots, Issue, owned_by, slots_of}
 use Rattle.hba_commands.specs.declared.command.Command.{Command}
-use Rattle.hba_fbs.specs.Offering.{asked_by}
-use Rattle.hba_fbs.specs.Between.{FilledTo}
-use Rattle.hba_fbs.proofs.IssueLemmas.{asked_free, command_after, commands_all, commands_step, context_step, have_step, issue_after, issues_all, issues_step}
+use Rattle.hba_fbs.specs.{Offering.asked_by, Between.FilledTo}
+use Rattle.hba_fbs.proofs.IssueLemmas.{asked_free, command_after, commands_all, commands_step, context_step, have_step, issue_after, issues_all}
+use Rattle.hba_fbs.proofs.IssueLemmas.{issues_step}
 use Rattle.hba_fbs.proofs.issue.issue_all.Goals as goal
 
 pub issue_one-requires-clause-free : goal.issue_one-requires-clause-free

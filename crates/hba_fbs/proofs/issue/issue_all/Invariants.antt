@@ -1,8 +1,6 @@
 use Rattle.std.proofs.Common.{◌≡◌, None}
 use Rattle.slots.specs.Slots.{LeavesOthers, slots_of}
-use Rattle.hba_fbs.specs.Offering.{asked_by}
-use Rattle.hba_fbs.specs.Views.{HaveCommands}
-use Rattle.hba_fbs.specs.Between.{FilledTo}
+use Rattle.hba_fbs.specs.{Offering.asked_by, Views.HaveCommands, Between.FilledTo}
 use Rattle.hba_fbs.proofs.IssueLemmas.{command_after, issue_after}
 use Rattle.hba_fbs.proofs.issue.issue_all.Given as goal
 

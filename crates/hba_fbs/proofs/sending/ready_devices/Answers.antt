@@ -1,8 +1,7 @@
 use Rattle.std.proofs.Common.{◌≡◌, ◌<◌, Bool, ℕ, arith, sym, ap, ◌∙◌}
 use Rattle.slots.specs.Slots.{mask_below}
 use Rattle.slots.proofs.Door.{mask_fits, mask_none, mask_same, mask_set}
-use Rattle.hba_fbs.specs.Sending.{is_ready}
-use Rattle.hba_fbs.specs.Views.{state_at}
+use Rattle.hba_fbs.specs.{Sending.is_ready, Views.state_at}
 use Rattle.hba_fbs.proofs.sending.ready_devices.Goals.{then-is_ready, else-is_ready}
 use Rattle.hba_fbs.proofs.sending.ready_devices.Goals as goal
 

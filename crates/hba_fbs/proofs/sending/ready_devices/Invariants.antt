@@ -1,7 +1,6 @@
 use Rattle.std.proofs.Common.{◌≡◌}
 use Rattle.slots.specs.Slots.{mask_below}
-use Rattle.hba_fbs.specs.Sending.{is_ready}
-use Rattle.hba_fbs.specs.Views.{state_at}
+use Rattle.hba_fbs.specs.{Sending.is_ready, Views.state_at}
 use Rattle.hba_fbs.proofs.sending.ready_devices.Given as goal
 
 abbrev pub invariant-loop-dev : goal.invariant-loop-dev

@@ -1,5 +1,4 @@
-use Rattle.std.proofs.Common.{◌++◌, ℕ, List, length, ap, arith, refl, sym, ◌∙◌}
-use Rattle.std.proofs.lemmas.List.{append_assoc, append-nil}
+use Rattle.std.proofs.{Common.{◌++◌, ℕ, List, length, ap, arith, refl, sym, ◌∙◌}, lemmas.List.{append_assoc, append-nil}}
 use Rattle.std.specs.List.{concat}
 use Rattle.hba_fbs.specs.Sending.{data_fis}
 use Rattle.hba_fbs.proofs.SendLemmas.{gathered_is}

@@ -1,6 +1,5 @@
 use Rattle.std.proofs.Common.{◌≡◌, ℕ, ◌<◌, ◌≤◌}
-use Rattle.hba_fbs.specs.Stopping.{fallen_state}
-use Rattle.hba_fbs.specs.Views.{state_at}
+use Rattle.hba_fbs.specs.{Stopping.fallen_state, Views.state_at}
 use Rattle.hba_fbs.proofs.stopping.fall_all.Given as goal
 
 -- for those so far ST fell, and the others are as they were

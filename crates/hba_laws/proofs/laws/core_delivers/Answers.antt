@@ -1,8 +1,6 @@
-use Rattle.hba_laws.proofs.histories.CoreEventLemmas.{core_views_are_told}
-use Rattle.hba_laws.proofs.completed.DoneLemmas.{core_done_is_completed, core_opens_untold}
-use Rattle.hba_laws.proofs.completed.OnceLemmas.{completes_once}
-use Rattle.hba_laws.proofs.completed.FreedLemmas.{core_freed_by_own}
-use Rattle.hba_laws.proofs.placed.CoreWithinLemmas.{core_choices_filled, core_data_is_within, core_reports_filled, core_sends_filled}
+use Rattle.hba_laws.proofs.{histories.CoreEventLemmas.core_views_are_told, completed.DoneLemmas.{core_done_is_completed, core_opens_untold}}
+use Rattle.hba_laws.proofs.{completed.{OnceLemmas.completes_once, FreedLemmas.core_freed_by_own}, placed.CoreWithinLemmas.core_choices_filled}
+use Rattle.hba_laws.proofs.placed.CoreWithinLemmas.{core_data_is_within, core_reports_filled, core_sends_filled}
 use Rattle.hba_laws.proofs.laws.core_delivers.Goals as goal
 
 pub returns-clause-agrees : goal.returns-clause-agrees

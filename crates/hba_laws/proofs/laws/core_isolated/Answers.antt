@@ -1,7 +1,5 @@
-use Rattle.hba_laws.proofs.isolation.ChoosingLemmas.{core_goes_by_view}
-use Rattle.hba_laws.proofs.isolation.CoreLemmas.{fold_by_own}
-use Rattle.hba_laws.proofs.isolation.CoreAlikeLemmas.{core_fill_alike, core_histories_by_own}
-use Rattle.hba_laws.proofs.cores.CoreHostLemmas.{hosts_are_cores}
+use Rattle.hba_laws.proofs.isolation.{ChoosingLemmas.core_goes_by_view, CoreLemmas.fold_by_own, CoreAlikeLemmas.core_fill_alike}
+use Rattle.hba_laws.proofs.{isolation.CoreAlikeLemmas.core_histories_by_own, cores.CoreHostLemmas.hosts_are_cores}
 use Rattle.hba_laws.proofs.isolation.CoreFoldLemmas.{hosts_fold_by_core}
 use Rattle.hba_laws.proofs.laws.core_isolated.Goals as goal
 

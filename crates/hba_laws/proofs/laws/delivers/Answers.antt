@@ -1,10 +1,6 @@
-use Rattle.hba_laws.proofs.placed.ClientLemmas.{client_is_touched, data_is_within}
-use Rattle.hba_laws.proofs.completed.DoneLemmas.{done_is_completed, opens_untold}
-use Rattle.hba_laws.proofs.histories.EventLemmas.{histories_are_parts, views_are_told}
-use Rattle.hba_laws.proofs.placed.KeepingLemmas.{kept_tables_stay}
-use Rattle.hba_laws.proofs.completed.OnceLemmas.{completes_once}
-use Rattle.hba_laws.proofs.placed.ReadLemmas.{done_reads_stand}
-use Rattle.hba_laws.proofs.placed.SpareLemmas.{spared_tables_read}
+use Rattle.hba_laws.proofs.{placed.ClientLemmas.{client_is_touched, data_is_within}, completed.DoneLemmas.{done_is_completed, opens_untold}}
+use Rattle.hba_laws.proofs.{histories.EventLemmas.{histories_are_parts, views_are_told}, placed.KeepingLemmas.kept_tables_stay}
+use Rattle.hba_laws.proofs.{completed.OnceLemmas.completes_once, placed.{ReadLemmas.done_reads_stand, SpareLemmas.spared_tables_read}}
 use Rattle.hba_laws.proofs.histories.StandLemmas.{completes_in_place, stands_in_place}
 use Rattle.hba_laws.proofs.laws.delivers.Goals as goal
 

@@ -1,6 +1,5 @@
-use Rattle.hba_laws.proofs.isolation.AlikeLemmas.{histories_by_own, own_fill_alike}
-use Rattle.hba_laws.proofs.isolation.GoingLemmas.{goes_by_own}
-use Rattle.hba_laws.proofs.isolation.IsolationLemmas.{are_alike, fold_of_own}
+use Rattle.hba_laws.proofs.isolation.{AlikeLemmas.{histories_by_own, own_fill_alike}, GoingLemmas.goes_by_own, IsolationLemmas.are_alike}
+use Rattle.hba_laws.proofs.isolation.IsolationLemmas.{fold_of_own}
 use Rattle.hba_laws.proofs.laws.isolated.Goals as goal
 
 pub returns-clause-fold : goal.returns-clause-fold

@@ -1,5 +1,4 @@
-use Rattle.hba_laws.proofs.gathered.GatherLemmas.{data_is_gathered}
-use Rattle.hba_laws.proofs.gathered.SentLemmas.{sent_from_place, sent_stands_in_place}
+use Rattle.hba_laws.proofs.gathered.{GatherLemmas.data_is_gathered, SentLemmas.{sent_from_place, sent_stands_in_place}}
 use Rattle.hba_laws.proofs.laws.writes_are_gathered.Goals as goal
 
 pub returns-clause-gathered : goal.returns-clause-gathered

@@ -1,8 +1,6 @@
 use Rattle.std.proofs.Common.{◌+◌, arith, ap}
-use Rattle.host_memory.specs.declared.table.Prd.{Prd}
-use Rattle.host_memory.specs.Place.{total_of}
-use Rattle.host_memory.proofs.PrdLemmas.{prds_next, total_fits}
-use Rattle.host_memory.proofs.SpotLemmas.{ends_step}
+use Rattle.host_memory.specs.{declared.table.Prd.Prd, Place.total_of}
+use Rattle.host_memory.proofs.{PrdLemmas.{prds_next, total_fits}, SpotLemmas.ends_step}
 use Rattle.host_memory.proofs.table.ends_of.Goals as goal
 
 pub overflow_add-end : goal.overflow_add-end

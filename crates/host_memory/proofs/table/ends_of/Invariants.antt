@@ -1,7 +1,5 @@
 use Rattle.std.proofs.Common.{◌≡◌, ◌+◌, ◌-◌, ◌*◌, ◌++◌, length}
-use Rattle.host_memory.specs.Ends.{ends_from}
-use Rattle.host_memory.specs.Reading.{prds_at}
-use Rattle.host_memory.specs.Place.{total_of}
+use Rattle.host_memory.specs.{Ends.ends_from, Reading.prds_at, Place.total_of}
 use Rattle.host_memory.proofs.table.ends_of.Given as goal
 
 -- the ends so far and those of what is left are all of them, and so with the sum

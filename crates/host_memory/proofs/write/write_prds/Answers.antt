@@ -1,8 +1,6 @@
-use Rattle.std.proofs.Common.{◌≡◌, ℕ, drop, ◌+◌, ◌-◌, ◌*◌, ◌<◌, ◌++◌, List, [], ◌∷◌, length, take, get_or, arith, ap, ◌∙◌}
-use Rattle.std.proofs.lemmas.List.{take_more, length-take-le, take_all}
-use Rattle.host_memory.specs.declared.table.Prd.{Prd}
-use Rattle.host_memory.specs.Memory.{overwritten}
-use Rattle.host_memory.specs.Writing.{entry_bytes, table_bytes, CanBeWritten, IsUsable}
+use Rattle.std.proofs.{Common.{◌≡◌, ℕ, drop, ◌+◌, ◌-◌, ◌*◌, ◌<◌, ◌++◌, List, [], ◌∷◌, length, take, get_or, arith, ap, ◌∙◌}, lemmas.List.take_more}
+use Rattle.std.proofs.lemmas.List.{length-take-le, take_all}
+use Rattle.host_memory.specs.{declared.table.Prd.Prd, Memory.overwritten, Writing.{entry_bytes, table_bytes, CanBeWritten, IsUsable}}
 use Rattle.host_memory.proofs.WriteLemmas.{entry_written, entries_more, prds_read, table_usable, drop_overwritten, nothing_written, all_by_recursion}
 use Rattle.host_memory.proofs.write.write_prds.Goals as goal
 

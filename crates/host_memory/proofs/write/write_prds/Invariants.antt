@@ -1,7 +1,6 @@
 use Rattle.std.proofs.Common.{◌≡◌, take}
 use Rattle.std.specs.List.{AllByRecursion}
-use Rattle.host_memory.specs.Memory.{overwritten}
-use Rattle.host_memory.specs.Writing.{table_bytes}
+use Rattle.host_memory.specs.{Memory.overwritten, Writing.table_bytes}
 use Rattle.host_memory.proofs.WriteLemmas.{IsEntry}
 use Rattle.host_memory.proofs.write.write_prds.Given as goal
 

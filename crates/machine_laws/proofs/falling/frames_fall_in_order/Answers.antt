@@ -1,5 +1,4 @@
-use Rattle.machine_laws.proofs.FallEnds.{begun_forgets, ports_emptied}
-use Rattle.machine_laws.proofs.FallHeard.{go_where, hear_them}
+use Rattle.machine_laws.proofs.{FallEnds.{begun_forgets, ports_emptied}, FallHeard.{go_where, hear_them}}
 use Rattle.machine_laws.proofs.FallLinks as links
 use Rattle.machine_laws.proofs.FallPorts as ports
 use Rattle.machine_laws.proofs.falling.frames_fall_in_order.Goals as goal

@@ -1,7 +1,4 @@
-use Rattle.machine_laws.proofs.Due.{opens_due}
-use Rattle.machine_laws.proofs.HeardSent.{heard_were_sent}
-use Rattle.machine_laws.proofs.Lives.{have_lived}
-use Rattle.machine_laws.proofs.RisRun.{goes, opens}
+use Rattle.machine_laws.proofs.{Due.opens_due, HeardSent.heard_were_sent, Lives.have_lived, RisRun.{goes, opens}}
 use Rattle.machine_laws.proofs.heard.disks_hear_what_was_sent.Goals as goal
 
 pub returns-clause-lives : goal.returns-clause-lives

@@ -1,5 +1,4 @@
-use Rattle.machine_laws.proofs.Calls.{goes_on}
-use Rattle.machine_laws.proofs.Due.{opens_due, stays_due}
+use Rattle.machine_laws.proofs.{Calls.goes_on, Due.{opens_due, stays_due}}
 use Rattle.machine_laws.proofs.laws.controller_goes_on.Goals as goal
 
 pub returns-clause-opens : goal.returns-clause-opens

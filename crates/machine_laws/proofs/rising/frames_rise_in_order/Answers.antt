@@ -1,6 +1,4 @@
-use Rattle.machine_laws.proofs.RisCalls.{taken}
-use Rattle.machine_laws.proofs.RisOver.{over}
-use Rattle.machine_laws.proofs.RisRun.{goes, opens, rise}
+use Rattle.machine_laws.proofs.{RisCalls.taken, RisOver.over, RisRun.{goes, opens, rise}}
 use Rattle.machine_laws.proofs.rising.frames_rise_in_order.Goals as goal
 
 pub returns : goal.returns

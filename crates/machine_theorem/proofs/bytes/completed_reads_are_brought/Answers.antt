@@ -1,7 +1,5 @@
-use Rattle.machine_theorem.proofs.AsSupplied.{Laws}
+use Rattle.machine_theorem.proofs.{AsSupplied.Laws, BroughtAt.{reads_are_brought, reads_are_since}, CompletedReads.completed_reads}
 use Rattle.machine_theorem.proofs.BroughtAt as moments
-use Rattle.machine_theorem.proofs.BroughtAt.{reads_are_brought, reads_are_since}
-use Rattle.machine_theorem.proofs.CompletedReads.{completed_reads}
 use Rattle.machine_theorem.proofs.Falls as falls
 use Rattle.machine_theorem.proofs.OwnPlace as places
 use Rattle.machine_theorem.proofs.Sent as sent

@@ -1,6 +1,5 @@
-use Rattle.machine_theorem.proofs.AsSupplied.{Laws}
+use Rattle.machine_theorem.proofs.{AsSupplied.Laws, CompletedReads.queued_reads}
 use Rattle.machine_theorem.proofs.BroughtAt as moments
-use Rattle.machine_theorem.proofs.CompletedReads.{queued_reads}
 use Rattle.machine_theorem.proofs.Falls as falls
 use Rattle.machine_theorem.proofs.OwnPlace as places
 use Rattle.machine_theorem.proofs.Sent as sent

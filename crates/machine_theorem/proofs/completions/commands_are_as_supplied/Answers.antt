@@ -1,5 +1,4 @@
-use Rattle.machine_theorem.proofs.AsSupplied.{Laws}
-use Rattle.machine_theorem.proofs.Given.{commands_are, data_are}
+use Rattle.machine_theorem.proofs.{AsSupplied.Laws, Given.{commands_are, data_are}}
 use Rattle.machine_theorem.proofs.Falls as falls
 use Rattle.machine_theorem.proofs.TheSlots as slots
 use Rattle.machine_theorem.proofs.completions.commands_are_as_supplied.Goals as goal

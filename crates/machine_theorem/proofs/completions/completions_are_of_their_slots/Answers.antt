@@ -1,5 +1,4 @@
-use Rattle.machine_theorem.proofs.AsSupplied.{Laws}
-use Rattle.machine_theorem.proofs.TheirSlots.{completions_are}
+use Rattle.machine_theorem.proofs.{AsSupplied.Laws, TheirSlots.completions_are}
 use Rattle.machine_theorem.proofs.Falls as falls
 use Rattle.machine_theorem.proofs.TheSlots as slots
 use Rattle.machine_theorem.proofs.completions.completions_are_of_their_slots.Goals as goal

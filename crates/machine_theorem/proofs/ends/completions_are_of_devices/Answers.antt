@@ -1,5 +1,4 @@
-use Rattle.machine_theorem.proofs.CompletedSent.{Marks, completions}
-use Rattle.machine_theorem.proofs.Falls.{Laws}
+use Rattle.machine_theorem.proofs.{CompletedSent.{Marks, completions}, Falls.Laws}
 use Rattle.machine_theorem.proofs.ends.completions_are_of_devices.Goals as goal
 
 pub returns : goal.returns

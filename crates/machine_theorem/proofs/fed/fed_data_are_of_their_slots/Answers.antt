@@ -1,5 +1,4 @@
-use Rattle.machine_theorem.proofs.FedFor.{fed_for}
-use Rattle.machine_theorem.proofs.FeedStays.{feeds_stay}
+use Rattle.machine_theorem.proofs.{FedFor.fed_for, FeedStays.feeds_stay}
 use Rattle.machine_theorem.proofs.fed.fed_data_are_of_their_slots.Goals as goal
 
 pub returns : goal.returns

@@ -1,6 +1,5 @@
 use Rattle.machine_theorem.specs.Waits.{AllKeepWaiting, AllPlain}
-use Rattle.machine_theorem.proofs.FlushesFollow.{flushes_follow}
-use Rattle.machine_theorem.proofs.FlushesOwn.{reached_still}
+use Rattle.machine_theorem.proofs.{FlushesFollow.flushes_follow, FlushesOwn.reached_still}
 use Rattle.machine_theorem.proofs.flushes.flushes_follow_writes.Goals as goal
 
 pub returns : goal.returns

@@ -1,6 +1,5 @@
-use Rattle.machine_theorem.proofs.AsSupplied.{Laws}
+use Rattle.machine_theorem.proofs.{AsSupplied.Laws, Between.reads_follow_among}
 use Rattle.machine_theorem.proofs.Falls as falls
-use Rattle.machine_theorem.proofs.Between.{reads_follow_among}
 use Rattle.machine_theorem.proofs.TheSlots as slots
 use Rattle.machine_theorem.proofs.over_all.reads_follow_writes_among_slots.Goals as goal
 

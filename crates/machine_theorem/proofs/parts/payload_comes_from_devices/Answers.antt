@@ -1,6 +1,4 @@
-use Rattle.machine_theorem.proofs.Brought.{Laws, brought, carried}
-use Rattle.machine_theorem.proofs.Own.{owns}
-use Rattle.machine_theorem.proofs.Numbered.{bytes_are_given}
+use Rattle.machine_theorem.proofs.{Brought.{Laws, brought, carried}, Own.owns, Numbered.bytes_are_given}
 use Rattle.machine_theorem.proofs.parts.payload_comes_from_devices.Goals as goal
 
 pub returns : goal.returns

@@ -1,6 +1,5 @@
 use Rattle.machine_theorem.specs.Settled.{CommandsAreSettledInTurn}
-use Rattle.machine_theorem.proofs.SectorData.{sectors_end}
-use Rattle.machine_theorem.proofs.Settled.{settled_in_turn}
+use Rattle.machine_theorem.proofs.{SectorData.sectors_end, Settled.settled_in_turn}
 use Rattle.machine_theorem.proofs.pio.commands_are_settled_in_turn.Goals as goal
 
 pub returns : goal.returns

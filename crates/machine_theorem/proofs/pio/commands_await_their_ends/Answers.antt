@@ -1,6 +1,4 @@
-use Rattle.machine_theorem.proofs.EndingWaits.{await_ends, last_waits}
-use Rattle.machine_theorem.proofs.UnqueuedWaits.{unqueued_wait}
-use Rattle.machine_theorem.proofs.Waiting.{Laws}
+use Rattle.machine_theorem.proofs.{EndingWaits.{await_ends, last_waits}, UnqueuedWaits.unqueued_wait, Waiting.Laws}
 use Rattle.machine_theorem.proofs.pio.commands_await_their_ends.Goals as goal
 
 pub returns : goal.returns

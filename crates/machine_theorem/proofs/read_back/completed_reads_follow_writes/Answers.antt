@@ -1,6 +1,5 @@
-use Rattle.machine_theorem.proofs.AsSupplied.{Laws}
+use Rattle.machine_theorem.proofs.{AsSupplied.Laws, ReadsFollow.reads_follow}
 use Rattle.machine_theorem.proofs.Falls as falls
-use Rattle.machine_theorem.proofs.ReadsFollow.{reads_follow}
 use Rattle.machine_theorem.proofs.TheSlots as slots
 use Rattle.machine_theorem.proofs.read_back.completed_reads_follow_writes.Goals as goal
 

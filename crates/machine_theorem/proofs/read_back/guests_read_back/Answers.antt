@@ -1,8 +1,6 @@
-use Rattle.machine_theorem.proofs.AsSupplied.{Laws}
+use Rattle.machine_theorem.proofs.{AsSupplied.Laws, ReadBack.guests_read_back, SlotFree.{hidden_is_free, issued_was_free}}
 use Rattle.machine_theorem.proofs.Falls as falls
 use Rattle.machine_theorem.proofs.OwnPlace as places
-use Rattle.machine_theorem.proofs.ReadBack.{guests_read_back}
-use Rattle.machine_theorem.proofs.SlotFree.{hidden_is_free, issued_was_free}
 use Rattle.machine_theorem.proofs.TheSlots as slots
 use Rattle.machine_theorem.proofs.read_back.guests_read_back.Goals as goal
 

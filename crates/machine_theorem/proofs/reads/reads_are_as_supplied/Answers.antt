@@ -1,7 +1,6 @@
-use Rattle.machine_theorem.proofs.AsSupplied.{Laws}
+use Rattle.machine_theorem.proofs.{AsSupplied.Laws, ReadsOwn.reads_are}
 use Rattle.machine_theorem.proofs.Falls as falls
 use Rattle.machine_theorem.proofs.OwnPlace as places
-use Rattle.machine_theorem.proofs.ReadsOwn.{reads_are}
 use Rattle.machine_theorem.proofs.TheSlots as slots
 use Rattle.machine_theorem.proofs.reads.reads_are_as_supplied.Goals as goal
 

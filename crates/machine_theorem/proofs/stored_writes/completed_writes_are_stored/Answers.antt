@@ -1,8 +1,7 @@
-use Rattle.machine_theorem.proofs.AsSupplied.{Laws}
+use Rattle.machine_theorem.proofs.{AsSupplied.Laws, StoredBytes.stored_writes}
 use Rattle.machine_theorem.proofs.Falls as falls
 use Rattle.machine_theorem.proofs.FedFor as for_slot
 use Rattle.machine_theorem.proofs.OwnData as data_of
-use Rattle.machine_theorem.proofs.StoredBytes.{stored_writes}
 use Rattle.machine_theorem.proofs.TheSlots as slots
 use Rattle.machine_theorem.proofs.stored_writes.completed_writes_are_stored.Goals as goal
 

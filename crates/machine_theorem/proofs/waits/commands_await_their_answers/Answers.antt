@@ -1,5 +1,4 @@
-use Rattle.machine_theorem.proofs.PlainWaits.{plain_wait}
-use Rattle.machine_theorem.proofs.Waiting.{Laws, await_answers, last_waits}
+use Rattle.machine_theorem.proofs.{PlainWaits.plain_wait, Waiting.{Laws, await_answers, last_waits}}
 use Rattle.machine_theorem.proofs.waits.commands_await_their_answers.Goals as goal
 
 pub returns : goal.returns

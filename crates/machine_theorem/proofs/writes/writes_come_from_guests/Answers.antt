@@ -1,7 +1,5 @@
-use Rattle.machine_theorem.proofs.Done.{done_are, falls_are}
+use Rattle.machine_theorem.proofs.{Done.{done_are, falls_are}, Stored.{Laws, completions, stores_are, writes_are}, Supplied.data_are}
 use Rattle.machine_theorem.proofs.FromHost as from_host
-use Rattle.machine_theorem.proofs.Stored.{Laws, completions, stores_are, writes_are}
-use Rattle.machine_theorem.proofs.Supplied.{data_are}
 use Rattle.machine_theorem.proofs.writes.writes_come_from_guests.Goals as goal
 
 pub returns : goal.returns

@@ -1,11 +1,8 @@
-use Rattle.std.proofs.Common.{◌≡◌, ◌==◌, ℕ, Bool, true, false, List, IsSome, if◌then◌else◌, refl}
-use Rattle.std.proofs.lemmas.Bool.{eq-eqb}
+use Rattle.std.proofs.{Common.{◌≡◌, ◌==◌, ℕ, Bool, true, false, List, IsSome, if◌then◌else◌, refl}, lemmas.Bool.{eq-eqb}}
 use Rattle.fis_view.specs.Table.{H2d, C, Command, field}
 use Rattle.pm_registers.specs.RegisterMap.{RegisterMap}
-use Rattle.pm_control.specs.declared.request.Request.{Request}
-use Rattle.pm_control.specs.declared.request.Request.TheVariants.{Read, Write, Unknown}
-use Rattle.pm_control.specs.Requests.{IsCommand, address_in, value_in, requested}
-use Rattle.pm_control.specs.Answers.{answer_of, answer_to}
+use Rattle.pm_control.specs.{declared.request.Request.{Request, TheVariants.{Read, Write, Unknown}}, Requests.{IsCommand, address_in, value_in}}
+use Rattle.pm_control.specs.{Requests.requested, Answers.{answer_of, answer_to}}
 use Rattle.pm_control.proofs.laws.commands_are_answered.Goals as goal
 
 -- a choice has what both values have

@@ -1,8 +1,6 @@
 use Rattle.std.proofs.Common.{arith, refl}
-use Rattle.pm_registers.specs.RegisterMap.{opening, opening_with_port_0}
-use Rattle.pm_registers.specs.Calls.{after}
-use Rattle.pm_registers.proofs.LawLemmas.{ports_after, summary_agrees, due_since, cleared_by_ones}
-use Rattle.pm_registers.proofs.ShownLemmas.{keeps_sound}
+use Rattle.pm_registers.specs.{RegisterMap.{opening, opening_with_port_0}, Calls.after}
+use Rattle.pm_registers.proofs.{LawLemmas.{ports_after, summary_agrees, due_since, cleared_by_ones}, ShownLemmas.keeps_sound}
 use Rattle.pm_registers.proofs.laws.registers_follow_calls.Goals as goal
 
 pub returns-clause-summary : goal.returns-clause-summary

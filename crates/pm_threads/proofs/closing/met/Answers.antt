@@ -1,17 +1,14 @@
 use Rattle.std.proofs.Common.{rules}
-use Rattle.std.specs.Prelude.{map}
+use Rattle.std.specs.{Prelude.map, List.AllZip}
 use Rattle.disk_thread.specs.declared.worker.DiskEnd.{DiskEnd}
-use Rattle.std.specs.List.{AllZip}
 use Rattle.ruled_links.specs.Lists.{IsPrefixOf}
-use Rattle.hba_driver.specs.declared.mode.Mode.TheVariants.{Switching}
-use Rattle.hba_driver.specs.Delivered.{HasCome}
+use Rattle.hba_driver.specs.{declared.mode.Mode.TheVariants.Switching, Delivered.HasCome}
 use Rattle.hba_driver.proofs.Door.{turns_deliver}
 use Rattle.host_thread.proofs.Dones.{run_done}
 use Rattle.pm_thread.specs.Passing.{Passes}
 use Rattle.pm_threads.specs.Seats.{Handed}
 use Rattle.thread_counts.specs.Rows.{AreCounted}
-use Rattle.pm_threads.proofs.Fewer.{none_above}
-use Rattle.pm_threads.proofs.Ends.{all_arrive, link_prefix}
+use Rattle.pm_threads.proofs.{Fewer.none_above, Ends.{all_arrive, link_prefix}}
 use Rattle.pm_threads.proofs.closing.met.Goals as goal
 
 pub returns-clause-arrives : goal.returns-clause-arrives

@@ -1,8 +1,7 @@
 use Rattle.std.proofs.Common.{rules, ◌≡◌, []}
-use Rattle.disk_thread.specs.declared.worker.DiskEnd.{DiskEnd}
+use Rattle.disk_thread.specs.{declared.worker.DiskEnd.DiskEnd, Runs.StationState}
 use Rattle.pm_threads.specs.Seats.{TiedTo, Handed}
 use Rattle.std.specs.Prelude.{map}
-use Rattle.disk_thread.specs.Runs.{StationState}
 use Rattle.pm_threads.proofs.Zips.{map_last, map_push, map_pop, units_more}
 use Rattle.pm_threads.proofs.meeting.+meet_all.Goals as goal
 

@@ -1,9 +1,7 @@
 use Rattle.std.proofs.Common.{rules, ◌≡◌, ◌∙◌, List, Option, None, true, false, sym}
-use Rattle.std.specs.Prelude.{All}
-use Rattle.std.specs.List.{list_any}
+use Rattle.std.specs.{Prelude.All, List.list_any}
 use Rattle.disk_thread.specs.declared.worker.DiskEnd.{DiskEnd}
-use Rattle.host_thread.specs.Runs.{is_open}
-use Rattle.host_thread.specs.declared.end.HostEnd.{HostEnd}
+use Rattle.host_thread.specs.{Runs.is_open, declared.end.HostEnd.HostEnd}
 use Rattle.pm_thread.specs.declared.end.PmEnd.{PmEnd}
 use Rattle.runner.specs.declared.worker.Fault.{Fault}
 use Rattle.pm_threads.specs.Halts.{IsOpen, is_any_short, is_shut}

@@ -1,8 +1,7 @@
 use Rattle.std.proofs.Common.{rules, ◌≡◌, Option, None, Some, subst}
 use Rattle.std.specs.Prelude.{All, IfNone}
 use Rattle.disk_thread.specs.declared.worker.DiskEnd.{DiskEnd}
-use Rattle.pm_threads.specs.Halts.{IsWhy}
-use Rattle.pm_threads.specs.declared.run.RunError.{RunError}
+use Rattle.pm_threads.specs.{Halts.IsWhy, declared.run.RunError.RunError}
 use Rattle.pm_threads.proofs.run.finished.Goals as goal
 
 if_none : (r : Option RunError) (P : Type 0) → IfNone r P → r ≡ None → P

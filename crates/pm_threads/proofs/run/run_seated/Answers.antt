@@ -1,21 +1,13 @@
-use Rattle.std.proofs.Common.{rules, ◌≡◌, ℕ, List, None, Some, sym, ap, ◌∙◌, subst, arith}
-use Rattle.std.proofs.lemmas.List.{length-map}
+use Rattle.std.proofs.{Common.{rules, ◌≡◌, ℕ, List, None, Some, sym, ap, ◌∙◌, subst, arith}, lemmas.List.{length-map}}
 use Rattle.runner.specs.declared.worker.Fault.TheVariants as fault
-use Rattle.pm_threads.proofs.Zips.{zip_long}
-use Rattle.std.specs.Prelude.{map, All, IfSome}
-use Rattle.std.specs.List.{AllZip}
+use Rattle.pm_threads.proofs.{Zips.zip_long, Ends.{all_at_ports, all_tied, all_ran, all_ran_unless, if_ok, on_ok, one_refused}, Failures.has_begun}
+use Rattle.pm_threads.proofs.Failures.{is_told, left_is, shut_by_gate}
+use Rattle.std.specs.{Prelude.{map, All, IfSome}, List.AllZip}
 use Rattle.disk_model.specs.Histories.{Happening, Plan}
-use Rattle.disk_thread.specs.Runs.{StationState, IsRun, GoesOnRunning, IsAtSamePort}
-use Rattle.disk_thread.specs.declared.worker.DiskEnd.{DiskEnd}
-use Rattle.pm_thread.specs.Runs.{SameLinks, LinkEnd}
-use Rattle.host_thread.specs.Runs.{GoesOn, Same, LinkEnd as HostLinkEnd}
-use Rattle.pm_threads.specs.Ends.{Ends, AllGoOn, RunsWith}
-use Rattle.pm_threads.specs.Setups.{pulls_at}
-use Rattle.pm_threads.proofs.Ends.{all_at_ports, all_tied, all_ran, all_ran_unless, if_ok, on_ok, one_refused}
-use Rattle.pm_threads.proofs.Failures.{has_begun, is_told, left_is, shut_by_gate}
-use Rattle.pm_threads.specs.Halts.{Halt, LeadsTo}
-use Rattle.pm_thread.specs.declared.end.PmEnd.{PmEnd}
-use Rattle.host_thread.specs.declared.end.HostEnd.{HostEnd}
+use Rattle.disk_thread.specs.{Runs.{StationState, IsRun, GoesOnRunning, IsAtSamePort}, declared.worker.DiskEnd.DiskEnd}
+use Rattle.pm_thread.specs.{Runs.{SameLinks, LinkEnd}, declared.end.PmEnd.PmEnd}
+use Rattle.host_thread.specs.{Runs.{GoesOn, Same, LinkEnd as HostLinkEnd}, declared.end.HostEnd.HostEnd}
+use Rattle.pm_threads.specs.{Ends.{Ends, AllGoOn, RunsWith}, Setups.pulls_at, Halts.{Halt, LeadsTo}}
 use Rattle.pm_threads.proofs.run.run_seated.Goals as goal
 
 module _ {D : Type 0} (plan_of : D → Plan) (StandsFor : D → List Happening → Type 0) (MaySend : Plan → List Happening → List ℕ → Type 0) (MayRefuse : Type 0) (turns : ℕ) where

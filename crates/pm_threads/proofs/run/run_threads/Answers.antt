@@ -1,16 +1,11 @@
 use Rattle.std.proofs.Common.{rules, ◌≡◌, ℕ, true, false, List, length, Vec, Global, sym, subst, ap, ◌∙◌, arith}
-use Rattle.std.specs.Prelude.{map}
-use Rattle.std.specs.List.{AllZip, list_all}
+use Rattle.std.specs.{Prelude.map, List.{AllZip, list_all}}
 use Rattle.disk_thread.specs.Runs.{StationState}
 use Rattle.host_thread.specs.Runs.{GoesOn, IsRun as IsHostRun}
-use Rattle.pm_threads.specs.Ends.{Ends, AllGoOn, RunsWith}
-use Rattle.pm_threads.specs.Halts.{IsLeftOf, LeadsTo}
-use Rattle.pm_threads.proofs.Failures.{left_then, refused_gate, refused_left, refused_setup, refused_told}
-use Rattle.pm_threads.specs.Seats.{Starts, first_ports}
-use Rattle.pm_threads.specs.Setups.{is_fitting, lies_in, memory_of}
-use Rattle.pm_threads.proofs.Ends.{all_unused, starts_tied, if_ok}
-use Rattle.pm_threads.proofs.Fits.{first_three, fits_puts, fits_size, fits_units, may_run, unit_for_each}
-use Rattle.pm_threads.proofs.Zips.{zip_long}
+use Rattle.pm_threads.specs.{Ends.{Ends, AllGoOn, RunsWith}, Halts.{IsLeftOf, LeadsTo}, Seats.{Starts, first_ports}, Setups.{is_fitting, lies_in}}
+use Rattle.pm_threads.specs.Setups.{memory_of}
+use Rattle.pm_threads.proofs.{Failures.{left_then, refused_gate, refused_left, refused_setup, refused_told}, Ends.{all_unused, starts_tied, if_ok}}
+use Rattle.pm_threads.proofs.{Fits.{first_three, fits_puts, fits_size, fits_units, may_run, unit_for_each}, Zips.zip_long}
 use Rattle.pm_threads.proofs.run.run_threads.Goals as goal
 
 pub new-pm-requires-clause-some : goal.new-pm-requires-clause-some

@@ -1,13 +1,8 @@
 use Rattle.std.proofs.Common.{rules, ◌≡◌, ℕ, ◌+◌, List, ◌++◌, ◌∷◌, [], length, length-append, sym, ap, ◌∙◌, subst, arith}
-use Rattle.std.specs.Prelude.{All, map}
-use Rattle.std.specs.List.{AllZip}
+use Rattle.std.specs.{Prelude.{All, map}, List.AllZip}
 use Rattle.disk_thread.specs.Runs.{IsRun}
-use Rattle.pm_threads.specs.Ends.{RunsWith}
-use Rattle.pm_threads.specs.Links.{IsFree}
-use Rattle.pm_threads.specs.Seats.{first_ports}
-use Rattle.pm_threads.specs.Setups.{pulls_at}
-use Rattle.pm_threads.proofs.Ends.{if_ok}
-use Rattle.pm_threads.proofs.Zips.{all_front, ports_push, zip_push}
+use Rattle.pm_threads.specs.{Ends.RunsWith, Links.IsFree, Seats.first_ports, Setups.pulls_at}
+use Rattle.pm_threads.proofs.{Ends.if_ok, Zips.{all_front, ports_push, zip_push}}
 use Rattle.pm_threads.proofs.seats.+seated.Goals as goal
 
 pub seated-requires : goal.seated-requires

@@ -1,5 +1,4 @@
-use Rattle.sata_disk_books.proofs.LastBlocks.{last_blocks}
-use Rattle.sata_disk_books.proofs.LastData.{last_data}
+use Rattle.sata_disk_books.proofs.{LastBlocks.last_blocks, LastData.last_data}
 use Rattle.sata_disk_books.proofs.last.last_data_end_reads.Goals as goal
 
 pub returns : goal.returns

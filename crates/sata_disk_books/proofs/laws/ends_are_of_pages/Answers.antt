@@ -1,5 +1,4 @@
-use Rattle.sata_disk_books.proofs.Ended.{ends_are_of_pages, singles_are_of_pages}
-use Rattle.sata_disk_books.proofs.NoEnds.{only_ends_end}
+use Rattle.sata_disk_books.proofs.{Ended.{ends_are_of_pages, singles_are_of_pages}, NoEnds.only_ends_end}
 use Rattle.sata_disk_books.proofs.laws.ends_are_of_pages.Goals as goal
 
 pub returns-clause-ends : goal.returns-clause-ends

@@ -1,5 +1,4 @@
-use Rattle.std.proofs.Common.{◌<◌, ◌∙◌, length, take, sym, ap, arith}
-use Rattle.std.proofs.lemmas.List.{length-take}
+use Rattle.std.proofs.{Common.{◌<◌, ◌∙◌, length, take, sym, ap, arith}, lemmas.List.{length-take}}
 use Rattle.saved_state.specs.State.{put_all}
 use Rattle.saved_state.proofs.All.{all_refused, put_all-set, each-set}
 use Rattle.saved_state.proofs.saved.restore_all.Goals as goal

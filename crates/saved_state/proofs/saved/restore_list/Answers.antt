@@ -1,5 +1,4 @@
-use Rattle.std.proofs.Common.{◌<◌, ◌≡◌, ◌∙◌, ◌∷◌, ◌++◌, [], length, sym, ap, arith}
-use Rattle.std.proofs.Common.{length-append}
+use Rattle.std.proofs.Common.{◌<◌, ◌≡◌, ◌∙◌, ◌∷◌, ◌++◌, [], length, sym, ap, arith, length-append}
 use Rattle.saved_state.specs.State.{put_all}
 use Rattle.saved_state.proofs.All.{each-append, list_refused, put_all-append}
 use Rattle.saved_state.proofs.saved.restore_list.Goals as goal

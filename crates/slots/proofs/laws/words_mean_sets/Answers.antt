@@ -1,5 +1,4 @@
-use Rattle.slots.proofs.ByteLemmas.{over_with_bytes, over_none}
-use Rattle.slots.proofs.MaskLemmas.{has_bit_mask, mask_fits, lowest_is, lowest_before, none_below}
+use Rattle.slots.proofs.{ByteLemmas.{over_with_bytes, over_none}, MaskLemmas.{has_bit_mask, mask_fits, lowest_is, lowest_before, none_below}}
 use Rattle.slots.proofs.laws.words_mean_sets.Goals as goal
 
 pub returns-clause-bytes : goal.returns-clause-bytes

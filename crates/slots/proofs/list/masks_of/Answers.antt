@@ -1,8 +1,6 @@
 use Rattle.std.proofs.Common.{ℕ, ◌≡◌, arith, subst, Option}
-use Rattle.slots.specs.Masks.{AreMasksBelow, Notes}
-use Rattle.slots.specs.Slots.{Issue}
-use Rattle.slots.proofs.ListLemmas.{masks_noted, no_masks}
-use Rattle.slots.proofs.MaskLemmas.{slot_read}
+use Rattle.slots.specs.{Masks.{AreMasksBelow, Notes}, Slots.Issue}
+use Rattle.slots.proofs.{ListLemmas.{masks_noted, no_masks}, MaskLemmas.slot_read}
 use Rattle.slots.proofs.list.masks_of.Goals as goal
 
 pub loop-slot-init : goal.loop-slot-init

@@ -1,7 +1,5 @@
-use Rattle.std.proofs.Common.{◌≡◌, ◌+◌, ◌∷◌, get_or, drop, arith, ap, subst}
-use Rattle.std.proofs.lemmas.List.{drop_more, drop_all}
-use Rattle.slots.specs.declared.moved.Stretch.{Stretch}
-use Rattle.slots.specs.Stretches.{AreApart, dwords_of}
+use Rattle.std.proofs.{Common.{◌≡◌, ◌+◌, ◌∷◌, get_or, drop, arith, ap, subst}, lemmas.List.{drop_more, drop_all}}
+use Rattle.slots.specs.{declared.moved.Stretch.Stretch, Stretches.{AreApart, dwords_of}}
 use Rattle.slots.proofs.ApartLemmas.{dwords_few, lower}
 use Rattle.slots.proofs.moved.count_dwords.Goals as goal
 

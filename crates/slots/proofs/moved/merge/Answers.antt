@@ -1,7 +1,5 @@
-use Rattle.std.proofs.Common.{◌++◌, List, arith, ap, ◌∙◌}
-use Rattle.std.proofs.lemmas.List.{drop_more, drop_all}
-use Rattle.slots.specs.declared.moved.Stretch.{Stretch}
-use Rattle.slots.specs.Stretches.{merged_with}
+use Rattle.std.proofs.{Common.{◌++◌, List, arith, ap, ◌∙◌}, lemmas.List.{drop_more, drop_all}}
+use Rattle.slots.specs.{declared.moved.Stretch.Stretch, Stretches.merged_with}
 use Rattle.slots.proofs.MergeLemmas.{keeps, left_before, left_behind, left_done, left_joined, left_last, left_none, no_stretch, one_waits, room_for}
 use Rattle.slots.proofs.moved.merge.Goals.{in-None, in-Some, in-Some-2, in-Some-3}
 use Rattle.slots.proofs.moved.merge.Goals as goal

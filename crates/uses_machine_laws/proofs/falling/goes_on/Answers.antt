@@ -1,5 +1,4 @@
-use Rattle.uses_machine_laws.proofs.Controller.{ruled}
-use Rattle.uses_machine_laws.proofs.FallCalls.{arrives, moved, orders}
+use Rattle.uses_machine_laws.proofs.{Controller.ruled, FallCalls.{arrives, moved, orders}}
 use Rattle.uses_machine_laws.proofs.falling.goes_on.Goals as goal
 
 pub returns-clause-falls : goal.returns-clause-falls

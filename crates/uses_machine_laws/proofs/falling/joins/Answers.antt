@@ -1,6 +1,5 @@
 use Rattle.machine_laws.specs.Deeds as deed
-use Rattle.uses_machine_laws.proofs.Controller.{ruled}
-use Rattle.uses_machine_laws.proofs.FallCalls.{one}
+use Rattle.uses_machine_laws.proofs.{Controller.ruled, FallCalls.one}
 use Rattle.uses_machine_laws.proofs.falling.joins.Goals as goal
 
 pub returns : goal.returns

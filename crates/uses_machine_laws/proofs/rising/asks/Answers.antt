@@ -1,5 +1,4 @@
-use Rattle.uses_machine_laws.proofs.Controller.{ruled}
-use Rattle.uses_machine_laws.proofs.Risen.{asks}
+use Rattle.uses_machine_laws.proofs.{Controller.ruled, Risen.asks}
 use Rattle.uses_machine_laws.proofs.rising.asks.Goals as goal
 
 pub returns : goal.returns

@@ -1,5 +1,4 @@
-use Rattle.uses_machine_laws.proofs.Controller.{ruled}
-use Rattle.uses_machine_laws.proofs.Risen.{moved}
+use Rattle.uses_machine_laws.proofs.{Controller.ruled, Risen.moved}
 use Rattle.uses_machine_laws.proofs.rising.moves.Goals as goal
 
 pub returns : goal.returns

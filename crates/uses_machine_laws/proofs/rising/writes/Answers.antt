@@ -1,6 +1,5 @@
 use Rattle.machine_laws.specs.Deeds as deed
-use Rattle.uses_machine_laws.proofs.Controller.{ruled}
-use Rattle.uses_machine_laws.proofs.Risen.{rises}
+use Rattle.uses_machine_laws.proofs.{Controller.ruled, Risen.rises}
 use Rattle.uses_machine_laws.proofs.rising.writes.Goals as goal
 
 pub returns : goal.returns

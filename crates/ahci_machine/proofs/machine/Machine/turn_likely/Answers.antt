@@ -1,7 +1,5 @@
 use Rattle.std.proofs.Common.{false, refl, subst}
-use Rattle.ahci_machine.specs.Acts.{Steps}
-use Rattle.ahci_machine.specs.States.{MachineState}
-use Rattle.ahci_machine.specs.contracts.machine.Machine.{the_view}
+use Rattle.ahci_machine.specs.{Acts.Steps, States.MachineState, contracts.machine.Machine.the_view}
 use Rattle.ahci_machine.specs.declared.act.Act.TheVariants as act
 use Rattle.ahci_machine.proofs.MoveLemmas.{turns_first}
 use Rattle.ahci_machine.proofs.machine.Machine.turn_likely.Goals as goal

@@ -2,9 +2,8 @@ use Rattle.std.proofs.Common.{refl}
 use Rattle.block_disk.specs.Requests.{with_asked}
 use Rattle.block_queue.specs.Line.{with_queue}
 use Rattle.block_engine.specs.Numbers.{AreNumbered}
-use Rattle.block_engine.proofs.Holders.{asked_line}
+use Rattle.block_engine.proofs.{Holders.asked_line, engine.Engine.ask.Goals.{in-None, in-Some}}
 use Rattle.block_engine.proofs.engine.Engine.ask.Goals as goal
-use Rattle.block_engine.proofs.engine.Engine.ask.Goals.{in-None, in-Some}
 
 pub invariant_of-self-2 : goal.invariant_of-self-2
 invariant_of-self-2 c =

@@ -1,8 +1,6 @@
 use Rattle.std.proofs.Common.{subst, sym, ◌∙◌}
-use Rattle.block_queue.specs.Line.{waits_for}
-use Rattle.block_queue.specs.Places.{IsWatched}
-use Rattle.block_queue.proofs.Kept.{any_found}
-use Rattle.block_queue.proofs.Watched.{checked_all, checked_end, checked_none, checked_on, waits_not}
+use Rattle.block_queue.specs.{Line.waits_for, Places.IsWatched}
+use Rattle.block_queue.proofs.{Kept.any_found, Watched.{checked_all, checked_end, checked_none, checked_on, waits_not}}
 use Rattle.block_queue.proofs.queue.CommandQueue.must_wait.Goals as goal
 
 pub loop-walked-init : goal.loop-walked-init

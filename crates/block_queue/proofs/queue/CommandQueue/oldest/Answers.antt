@@ -1,6 +1,5 @@
 use Rattle.std.proofs.Common.{ap, ◌∙◌}
-use Rattle.block_queue.specs.Line.{has_bit}
-use Rattle.block_queue.specs.Places.{older}
+use Rattle.block_queue.specs.{Line.has_bit, Places.older}
 use Rattle.block_queue.proofs.Oldest.{best_none, best_some, walked_all, walked_below, walked_end, walked_none, walked_on}
 use Rattle.block_queue.proofs.queue.CommandQueue.oldest.Goals as goal
 

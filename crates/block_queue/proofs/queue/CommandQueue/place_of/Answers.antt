@@ -1,8 +1,6 @@
 use Rattle.std.proofs.Common.{subst, sym, ◌∙◌}
-use Rattle.block_queue.specs.Line.{awaits}
-use Rattle.block_queue.specs.Places.{IsWatched}
-use Rattle.block_queue.proofs.Kept.{first_found}
-use Rattle.block_queue.proofs.Watched.{awaits_not, before_first, checked_none, checked_nowhere, checked_on, checked_through}
+use Rattle.block_queue.specs.{Line.awaits, Places.IsWatched}
+use Rattle.block_queue.proofs.{Kept.first_found, Watched.{awaits_not, before_first, checked_none, checked_nowhere, checked_on, checked_through}}
 use Rattle.block_queue.proofs.queue.CommandQueue.place_of.Goals as goal
 
 pub loop-walked-init : goal.loop-walked-init

@@ -1,7 +1,6 @@
 use Rattle.std.proofs.Common.{ap, ◌∙◌}
 use Rattle.block_queue.specs.Line.{may_send}
-use Rattle.block_queue.proofs.Kept.{of_and}
-use Rattle.block_queue.proofs.Watched.{sent_kept}
+use Rattle.block_queue.proofs.{Kept.of_and, Watched.sent_kept}
 use Rattle.block_queue.proofs.queue.CommandQueue.send.Goals as goal
 
 pub invariant_of-self : goal.invariant_of-self

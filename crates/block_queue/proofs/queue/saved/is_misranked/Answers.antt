@@ -1,7 +1,6 @@
 use Rattle.std.proofs.Common.{◌≡◌, true, false, below_more, arith, sym, ap, ◌∙◌, get_or}
 use Rattle.std.specs.Prelude.{◌||◌, nat_le}
-use Rattle.block_queue.specs.Line.{any_below}
-use Rattle.block_queue.specs.Saved.{has_rank_of}
+use Rattle.block_queue.specs.{Line.any_below, Saved.has_rank_of}
 use Rattle.block_queue.proofs.Kept.{any_found, any_none}
 use Rattle.block_queue.proofs.queue.saved.is_misranked.Goals as goal
 

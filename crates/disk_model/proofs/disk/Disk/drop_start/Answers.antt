@@ -1,11 +1,7 @@
 use Rattle.std.proofs.Common.{◌≡◌, ◌∙◌, None, ap, sym, refl, false}
-use Rattle.disk_model.specs.Chunks.{chunks, sends_left, fault_of}
-use Rattle.disk_model.specs.Disks.{DiskValue, after_turn, read_turn, starts, turn, went}
-use Rattle.disk_model.specs.Insides.{seen_as, sends_after, started_by}
-use Rattle.disk_model.specs.declared.disk.Reading.{Reading}
-use Rattle.disk_model.specs.declared.disk.Transfer.TheVariants.{Read}
-use Rattle.disk_model.proofs.turns.QuietLemmas.{turn_start, read_leaves, same_disk}
-use Rattle.disk_model.proofs.turns.TurnLemmas.{went_on, same_moment}
+use Rattle.disk_model.specs.{Chunks.{chunks, sends_left, fault_of}, Disks.{DiskValue, after_turn, read_turn, starts, turn, went}, Insides.seen_as}
+use Rattle.disk_model.specs.{Insides.{sends_after, started_by}, declared.disk.{Reading.Reading, Transfer.TheVariants.Read}}
+use Rattle.disk_model.proofs.turns.{QuietLemmas.{turn_start, read_leaves, same_disk}, TurnLemmas.{went_on, same_moment}}
 use Rattle.disk_model.proofs.disk.Disk.drop_start.Goals as goal
 
 pub returns-in-None-2 : goal.returns-in-None-2

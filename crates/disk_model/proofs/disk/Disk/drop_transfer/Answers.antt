@@ -1,10 +1,7 @@
 use Rattle.std.proofs.Common.{◌≡◌, ◌∙◌, ◌<◌, [], Some, ap, sym, refl, true, arith}
-use Rattle.disk_model.specs.declared.disk.Reading.{Reading}
-use Rattle.disk_model.specs.declared.disk.Transfer.TheVariants.{Read}
-use Rattle.disk_model.specs.Disks.{DiskValue, after_turn, turn, went}
-use Rattle.disk_model.specs.Insides.{seen_as, sends_of, sends_after, started_by, writing_by, IsTransfer}
-use Rattle.disk_model.proofs.turns.QuietLemmas.{turn_read, read_leaves, same_disk}
-use Rattle.disk_model.proofs.turns.TurnLemmas.{went_on, went_last, same_moment}
+use Rattle.disk_model.specs.{declared.disk.{Reading.Reading, Transfer.TheVariants.Read}, Disks.{DiskValue, after_turn, turn, went}, Insides.seen_as}
+use Rattle.disk_model.specs.Insides.{sends_of, sends_after, started_by, writing_by, IsTransfer}
+use Rattle.disk_model.proofs.turns.{QuietLemmas.{turn_read, read_leaves, same_disk}, TurnLemmas.{went_on, went_last, same_moment}}
 use Rattle.disk_model.proofs.disk.Disk.drop_transfer.Goals.{else-reading-via-then-reading+else-reading-eq1, else-reading-via-else-reading}
 use Rattle.disk_model.proofs.disk.Disk.drop_transfer.Goals as goal
 

@@ -1,11 +1,7 @@
 use Rattle.std.proofs.Common.{◌≡◌, ◌∙◌, ◌+◌, ◌<◌, length, drop, Some, ap, sym, refl, arith}
-use Rattle.disk_model.specs.Chunks.{activations, asks_for}
-use Rattle.disk_model.specs.declared.disk.Transfer.TheVariants.{Write}
-use Rattle.disk_model.specs.declared.disk.Waiting.{Waiting}
-use Rattle.disk_model.specs.Disks.{DiskValue}
+use Rattle.disk_model.specs.{Chunks.{activations, asks_for}, declared.disk.{Transfer.TheVariants.Write, Waiting.Waiting}, Disks.DiskValue}
 use Rattle.disk_model.specs.Insides.{seen_as, started_by, writing_by}
-use Rattle.disk_model.proofs.turns.QuietLemmas.{ask_leaves, same_disk_here}
-use Rattle.disk_model.proofs.turns.TurnLemmas.{same_moment}
+use Rattle.disk_model.proofs.turns.{QuietLemmas.{ask_leaves, same_disk_here}, TurnLemmas.same_moment}
 use Rattle.disk_model.proofs.disk.Disk.drop_waiting.Goals as goal
 
 pub returns-then-waiting-asks : goal.returns-then-waiting-asks

@@ -1,8 +1,5 @@
 use Rattle.std.proofs.Common.{◌≡◌, ◌∙◌, None, ap, sym}
-use Rattle.disk_model.specs.Chunks.{chunks, fault_of, sends_left}
-use Rattle.disk_model.specs.Disks.{DiskValue, read_turn, starts}
-use Rattle.disk_model.specs.Insides.{seen_as}
-use Rattle.disk_model.specs.Quiet.{due_by}
+use Rattle.disk_model.specs.{Chunks.{chunks, fault_of, sends_left}, Disks.{DiskValue, read_turn, starts}, Insides.seen_as, Quiet.due_by}
 use Rattle.disk_model.proofs.turns.QuietLemmas.{turn_start}
 use Rattle.disk_model.proofs.disk.Disk.due_start.Goals as goal
 

@@ -1,8 +1,5 @@
 use Rattle.std.proofs.Common.{◌≡◌, ◌∙◌, Some, ap, sym}
-use Rattle.disk_model.specs.declared.disk.Transfer.TheVariants.{Read}
-use Rattle.disk_model.specs.Disks.{DiskValue}
-use Rattle.disk_model.specs.Insides.{seen_as, sends_of, started_by}
-use Rattle.disk_model.specs.Quiet.{due_by}
+use Rattle.disk_model.specs.{declared.disk.Transfer.TheVariants.Read, Disks.DiskValue, Insides.{seen_as, sends_of, started_by}, Quiet.due_by}
 use Rattle.disk_model.proofs.turns.QuietLemmas.{turn_read}
 use Rattle.disk_model.proofs.disk.Disk.due_transfer.Goals as goal
 

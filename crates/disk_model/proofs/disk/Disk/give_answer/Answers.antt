@@ -1,7 +1,5 @@
 use Rattle.std.proofs.Common.{◌≡◌, ◌∷◌, ◌∙◌, ap, sym, subst, drop, rules}
-use Rattle.disk_model.specs.Sendings.{Shows, answer_sent}
-use Rattle.disk_model.specs.Disks.{DiskValue}
-use Rattle.disk_model.specs.Insides.{seen_as}
+use Rattle.disk_model.specs.{Sendings.{Shows, answer_sent}, Disks.DiskValue, Insides.seen_as}
 use Rattle.disk_model.proofs.turns.TurnLemmas.{takes_answer, front_is, same_moment}
 use Rattle.disk_model.proofs.disk.Disk.give_answer.Goals as goal
 

@@ -1,11 +1,6 @@
-use Rattle.std.proofs.Common.{◌<◌, ◌≤◌, ◌≡◌, ◌∙◌, ◌*◌, List, None, Some, ap, sym, subst, refl, false, length, arith}
-use Rattle.std.proofs.lemmas.List.{length-replicate}
-use Rattle.disk_model.specs.Sendings.{Sending}
-use Rattle.disk_model.specs.Chunks.{chunks, sends_left, fault_of}
-use Rattle.disk_model.specs.Requests.{IsCounted}
-use Rattle.disk_model.specs.Disks.{DiskValue, picked, went}
-use Rattle.disk_model.specs.Insides.{seen_as, sends_after, started_by, IsStaged, IsTransfer, Leads}
-use Rattle.disk_model.specs.declared.disk.Reading.{Reading}
+use Rattle.std.proofs.{Common.{◌<◌, ◌≤◌, ◌≡◌, ◌∙◌, ◌*◌, List, None, Some, ap, sym, subst, refl, false, length, arith}, lemmas.List.{length-replicate}}
+use Rattle.disk_model.specs.{Sendings.Sending, Chunks.{chunks, sends_left, fault_of}, Requests.IsCounted, Disks.{DiskValue, picked, went}}
+use Rattle.disk_model.specs.{Insides.{seen_as, sends_after, started_by, IsStaged, IsTransfer, Leads}, declared.disk.Reading.Reading}
 use Rattle.disk_model.specs.declared.disk.Transfer.TheVariants.{Read, Write}
 use Rattle.disk_model.proofs.turns.TurnLemmas.{on_err_so, has_start, takes_start, picked_counted, went_on, same_moment}
 use Rattle.disk_model.proofs.agreement.FaultLemmas.{can_be_done}

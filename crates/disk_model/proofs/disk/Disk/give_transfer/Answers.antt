@@ -1,8 +1,6 @@
 use Rattle.std.proofs.Common.{◌≡◌, ◌∙◌, List, ℕ, ◌<◌, [], Some, subst, ap, sym, refl, true, arith}
-use Rattle.disk_model.specs.declared.disk.Reading.{Reading}
-use Rattle.disk_model.specs.declared.disk.Transfer.TheVariants.{Read}
-use Rattle.disk_model.specs.Disks.{DiskValue, went}
-use Rattle.disk_model.specs.Insides.{seen_as, sends_of, sends_after, started_by, writing_by, IsTransfer, Leads}
+use Rattle.disk_model.specs.{declared.disk.{Reading.Reading, Transfer.TheVariants.Read}, Disks.{DiskValue, went}, Insides.{seen_as, sends_of}}
+use Rattle.disk_model.specs.Insides.{sends_after, started_by, writing_by, IsTransfer, Leads}
 use Rattle.disk_model.proofs.turns.TurnLemmas.{on_err_so, has_read, takes_read, went_on, went_last, same_moment}
 use Rattle.disk_model.proofs.disk.Disk.give_transfer.Goals.{else-reading-via-then-reading+else-reading-eq1, else-reading-via-else-reading}
 use Rattle.disk_model.proofs.disk.Disk.give_transfer.Goals as goal

@@ -1,8 +1,6 @@
 use Rattle.std.proofs.Common.{ℕ, List, length, ◌+◌, ◌*◌, ◌<◌, ◌≤◌, ap, subst, refl, arith, ◌∙◌}
-use Rattle.disk_model.specs.Chunks.{sectors_at}
-use Rattle.disk_model.specs.Disks.{DiskValue}
-use Rattle.disk_model.proofs.turns.SendLemmas.{slice_of_sectors}
-use Rattle.disk_model.proofs.agreement.TransferLemmas.{length-sectors_at}
+use Rattle.disk_model.specs.{Chunks.sectors_at, Disks.DiskValue}
+use Rattle.disk_model.proofs.{turns.SendLemmas.slice_of_sectors, agreement.TransferLemmas.{length-sectors_at}}
 use Rattle.disk_model.proofs.disk.Disk.sector.Goals as goal
 
 pub returns : goal.returns

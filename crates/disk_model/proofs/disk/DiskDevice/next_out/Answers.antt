@@ -1,10 +1,7 @@
 use Rattle.std.proofs.lemmas.Result.{IfOk-weaker}
 use Rattle.std.specs.Prelude.{Option, Some, None, IfSome, IfNone}
 use Rattle.fis_view.specs.Frames.{Stamped}
-use Rattle.disk_model.specs.Histories.{SendsNext, IsSilent}
-use Rattle.disk_model.specs.Disks.{DiskValue}
-use Rattle.disk_model.specs.Runs.{disk_plan, DiskStandsFor, DiskMaySend}
-use Rattle.disk_model.specs.Insides.{Gives}
+use Rattle.disk_model.specs.{Histories.{SendsNext, IsSilent}, Disks.DiskValue, Runs.{disk_plan, DiskStandsFor, DiskMaySend}, Insides.Gives}
 use Rattle.disk_model.proofs.turns.MomentLemmas.{disk_sends, disk_silent}
 use Rattle.disk_model.proofs.disk.DiskDevice.next_out.Goals as goal
 

@@ -1,10 +1,7 @@
-use Rattle.std.proofs.Common.{◌∙◌, ap, sym}
+use Rattle.std.proofs.{Common.{◌∙◌, ap, sym}, lemmas.Result.on_ok_weaker}
 use Rattle.std.specs.Prelude.{Ok, Result}
-use Rattle.std.proofs.lemmas.Result.{on_ok_weaker}
-use Rattle.fis_view.specs.declared.view.Fis.{Fis}
-use Rattle.fis_view.specs.declared.view.FisFault.{FisFault}
-use Rattle.disk_model.specs.Histories.{Received}
-use Rattle.disk_model.specs.Disks.{with_now, heard}
+use Rattle.fis_view.specs.declared.view.{Fis.Fis, FisFault.FisFault}
+use Rattle.disk_model.specs.{Histories.Received, Disks.{with_now, heard}}
 use Rattle.disk_model.proofs.turns.MomentLemmas.{disk_goes_on, hears_register, hears_data, hears_nothing}
 use Rattle.disk_model.proofs.disk.DiskDevice.on_frame.Goals as goal
 

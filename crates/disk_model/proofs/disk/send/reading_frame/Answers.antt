@@ -1,6 +1,5 @@
-use Rattle.std.proofs.Common.{◌+◌, refl}
+use Rattle.std.proofs.{Common.{◌+◌, refl}, lemmas.Result.{IfOk-weaker}}
 use Rattle.fis_view.specs.Frames.{Stamped}
-use Rattle.std.proofs.lemmas.Result.{IfOk-weaker}
 use Rattle.disk_model.proofs.turns.SendLemmas.{leads_setup, leads_data, slice_of_sectors}
 use Rattle.disk_model.proofs.disk.send.reading_frame.Goals as goal
 

@@ -1,6 +1,4 @@
-use Rattle.std.proofs.Common.{◌≡◌, filter, arith, rules, ap}
-use Rattle.std.proofs.lemmas.Fn.{filter_same}
-use Rattle.std.proofs.lemmas.List.Elements.{filter_passes}
+use Rattle.std.proofs.{Common.{◌≡◌, filter, arith, rules, ap}, lemmas.{Fn.filter_same, List.Elements.filter_passes}}
 use Rattle.fis_view.specs.Frames.{is_frame}
 use Rattle.disk_model.specs.Histories.{Script}
 use Rattle.disk_model.proofs.scripted.Scripted.new.Goals as goal

@@ -1,10 +1,8 @@
 use Rattle.std.proofs.Common.{rules, ◌≡◌, ◌<◌, ◌+◌, ◌++◌, ◌∷◌, [], true, None, length, length-append, refl, sym, ap, subst, ◌∙◌, append-nil}
-use Rattle.std.specs.Prelude.{All}
-use Rattle.std.specs.Option.{option_to_list}
+use Rattle.std.specs.{Prelude.All, Option.option_to_list}
 use Rattle.disk_model.specs.Histories.{SendsNext}
 use Rattle.disk_thread.specs.Runs.{ArePast, IsCounted, IsRun}
-use Rattle.disk_thread.proofs.CountLemmas.{counted_more, past_more}
-use Rattle.disk_thread.proofs.DeedLemmas.{run_gave}
+use Rattle.disk_thread.proofs.{CountLemmas.{counted_more, past_more}, DeedLemmas.run_gave}
 use Rattle.disk_thread.proofs.station.Station.give.Goals as goal
 
 pub invariant_of-self : goal.invariant_of-self

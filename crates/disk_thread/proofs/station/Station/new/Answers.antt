@@ -1,7 +1,5 @@
 use Rattle.std.proofs.Common.{rules, refl, sym, ap, ◌∙◌, append-nil, length}
-use Rattle.disk_thread.proofs.CountLemmas.{counted_none, past_none}
-use Rattle.disk_thread.proofs.DeedLemmas.{run_none}
-use Rattle.disk_thread.proofs.ToldLemmas.{told_none}
+use Rattle.disk_thread.proofs.{CountLemmas.{counted_none, past_none}, DeedLemmas.run_none, ToldLemmas.told_none}
 use Rattle.disk_thread.proofs.station.Station.new.Goals as goal
 
 pub invariant_of-result : goal.invariant_of-result

@@ -2,9 +2,7 @@ use Rattle.std.proofs.Common.{rules, ◌≡◌, ◌++◌, ◌∷◌, [], false, 
 use Rattle.std.specs.Option.{option_to_list}
 use Rattle.disk_model.specs.Histories.{GoesOn, Plugged}
 use Rattle.disk_thread.specs.Runs.{AreTold, IsRun}
-use Rattle.disk_thread.proofs.CountLemmas.{counted_comes, past_comes}
-use Rattle.disk_thread.proofs.DeedLemmas.{run_plugged}
-use Rattle.disk_thread.proofs.ToldLemmas.{told_came}
+use Rattle.disk_thread.proofs.{CountLemmas.{counted_comes, past_comes}, DeedLemmas.run_plugged, ToldLemmas.told_came}
 use Rattle.disk_thread.proofs.station.Station.plug.Goals as goal
 
 pub invariant_of-self-2 : goal.invariant_of-self-2

@@ -1,6 +1,5 @@
 use Rattle.std.proofs.Common.{ap, sym, ◌∙◌}
-use Rattle.fis_view.specs.Frames.{is_frame}
-use Rattle.fis_view.specs.Saved.{KeepsFrame, KeepsFrameParts, fits_frame, frame_parts, frame_parts_apart, put_frame_parts}
+use Rattle.fis_view.specs.{Frames.is_frame, Saved.{KeepsFrame, KeepsFrameParts, fits_frame, frame_parts, frame_parts_apart, put_frame_parts}}
 use Rattle.saved_state.specs.State.{parts_refused, rule_refused}
 use Rattle.fis_view.proofs.saved.FrameSaved.restore.Goals as goal
 

@@ -1,5 +1,5 @@
 -- `from_loose` puts the pointer into the other struct.
-use Rattle.std.proofs.Common.{◌≡◌, List, [], ◌∷◌, ◌++◌, refl, sym, ap, ◌∙◌, subst}
+use Rattle.std.proofs.{Common.{◌≡◌, List, [], ◌∷◌, ◌++◌, refl, sym, ap, ◌∙◌, subst}, raw_atomic.Walks.{proved_at, leaves}}
 use base.Logic.{SProp, ent, emp, id⊢}
 use contract.Monad.{fact, fact_i}
 use contract.Running.{tables}
@@ -16,14 +16,10 @@ use types.ByLocal.{alloc_all, pass_all, free_all, look_at, get, get_in, sets}
 use types.Kit.{‵, raw, ◌⊛◌, ◌$◌, ◌∵◌, !, qed, by, move, keep, split, fsplit, fjoin, fpack, suffices, use0}
 use types.Part.{agg, sub, whole}
 use types.Run.{stop, fld, of_opd, no_more, and_then, returns, enter}
-use Rattle.std.proofs.raw_atomic.Walks.{proved_at, leaves}
-use Rattle.std.specs.Box.Ownership.{box_owns}
-use Rattle.std.specs.Prelude.{Option, Some}
-use Rattle.std_heap.specs.contracts.GlobalAllocator.TheImpl.{ghosts}
-use Rattle.std_heap.specs.declared.Global.{Global}
-use Rattle.gefsunk.proofs.HeldSteps.{State, Loose, word, boxed_out, loose_out, held_in}
+use Rattle.std.specs.{Box.Ownership.box_owns, Prelude.{Option, Some}}
+use Rattle.std_heap.specs.{contracts.GlobalAllocator.TheImpl.ghosts, declared.Global.Global}
+use Rattle.gefsunk.proofs.{HeldSteps.{State, Loose, word, boxed_out, loose_out, held_in}, handle.Held.from_loose.Statement.statement}
 use Rattle.gefsunk.specs.contracts.handle.Held.from_loose as f
-use Rattle.gefsunk.proofs.handle.Held.from_loose.Statement.{statement}
 use Rattle.gefsunk.proofs.handle.Held.from_loose.Code as code
 
 abbrev stayed : Stays f.ended.signature.params f.ended.kept

@@ -1,5 +1,6 @@
 -- `into_box` makes the box again.
-use Rattle.std.proofs.Common.{◌≡◌, List, [], ◌∷◌, ◌++◌, T, refl, sym, ap, ◌∙◌, subst}
+use Rattle.std.proofs.{Common.{◌≡◌, List, [], ◌∷◌, ◌++◌, T, refl, sym, ap, ◌∙◌, subst}, BoxSteps.Steps.{box_out, box_in}, boxed.Box.from_raw.Met.met}
+use Rattle.std.proofs.{cell.Inside.one, raw_atomic.Walks.{proved_at, leaves}}
 use base.Fraction.{full_share}
 use base.Fml.{flft, ftrue}
 use base.Logic.{SProp, ent, emp, id⊢}
@@ -30,21 +31,16 @@ use types.Kit.{‵, raw, ◌⊛◌, some, later, at_ret, ◌$◌, ◌∵◌, !, 
 use types.Part.{sub, whole}
 use types.Run.{stop, fld, of_opd, no_more, and_then, first, blocks, exec, returns, enter}
 use Rattle.std.proofs.BoxSteps.Form as box
-use Rattle.std.proofs.BoxSteps.Steps.{box_out, box_in}
-use Rattle.std.proofs.boxed.Box.from_raw.Met.{met}
-use Rattle.std.proofs.cell.Inside.{one}
-use Rattle.std.proofs.raw_atomic.Walks.{proved_at, leaves}
 use Rattle.std.specs.contracts.boxed.Box.from_raw as callee
 use Rattle.std.specs.Prelude.{Option, Some, is_some, true}
 use Rattle.std_heap.proofs.Global.TheLaws as heap_laws
 use Rattle.std_heap.proofs.GlobalAllocator.TheImpl.Met.{passed}
 use Rattle.std_heap.specs.contracts.Global as heap
 use Rattle.std_heap.specs.contracts.GlobalAllocator.TheImpl.{ghosts, dict}
-use Rattle.gefsunk.proofs.HeldSteps.{State, Held, word, some_of, boxed_out, held_out}
+use Rattle.gefsunk.proofs.{HeldSteps.{State, Held, word, some_of, boxed_out, held_out}, handle.Held.into_box.Statement.statement}
 use Rattle.gefsunk.proofs.kept.Kept.TheLaws as state_laws
 use Rattle.gefsunk.specs.Handles.{owned}
 use Rattle.gefsunk.specs.contracts.handle.Held.into_box as f
-use Rattle.gefsunk.proofs.handle.Held.into_box.Statement.{statement}
 use Rattle.gefsunk.proofs.handle.Held.into_box.Code as code
 use Rattle.gefsunk.proofs.Destruct++none.drop.Code as none
 

@@ -1,5 +1,5 @@
 -- `nothing` owns nothing, at null.
-use Rattle.std.proofs.Common.{◌≡◌, [], ◌∷◌, refl, lit<}
+use Rattle.std.proofs.{Common.{◌≡◌, [], ◌∷◌, refl, lit<}, raw_atomic.Walks.{proved, leaves}}
 use base.Logic.{emp}
 use contract.Monad.{fact, fact_i}
 use denote.RattleType.{owns}
@@ -12,11 +12,9 @@ use types.ByLocal.{alloc_all, pass_all, free_all, look_at, sets}
 use types.Kit.{‵, raw, ◌⊛◌, ◌$◌, ◌∵◌, !, qed, by, keep, split, use0}
 use types.Part.{agg}
 use types.Run.{lit, no_more, and_then, returns, enter}
-use Rattle.std.proofs.raw_atomic.Walks.{proved, leaves}
 use Rattle.std.specs.Prelude.{Option, None}
-use Rattle.gefsunk.proofs.HeldSteps.{State, word, held_in}
+use Rattle.gefsunk.proofs.{HeldSteps.{State, word, held_in}, handle.Held.nothing.Statement.statement}
 use Rattle.gefsunk.specs.contracts.handle.Held.nothing as f
-use Rattle.gefsunk.proofs.handle.Held.nothing.Statement.{statement}
 use Rattle.gefsunk.proofs.handle.Held.nothing.Code as code
 
 abbrev stayed : Stays f.ended.signature.params f.ended.kept

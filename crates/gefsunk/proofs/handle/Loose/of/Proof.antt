@@ -1,5 +1,6 @@
 -- `of` takes the pointer of a box, with what the box owned.
-use Rattle.std.proofs.Common.{◌≡◌, List, [], ◌∷◌, ◌++◌, refl, sym, ap, ◌∙◌, subst}
+use Rattle.std.proofs.{Common.{◌≡◌, List, [], ◌∷◌, ◌++◌, refl, sym, ap, ◌∙◌, subst}, BoxSteps.Steps.{box_out, box_in}, alloc.Calls.{Goes-blank}}
+use Rattle.std.proofs.{boxed.Box.into_raw.Met.met, raw_atomic.Walks.{proved_at, leaves}}
 use base.Fraction.{full_share}
 use base.Fml.{flft, ftrue}
 use base.Logic.{SProp, ent, emp, never, fst∗, id⊢}
@@ -33,22 +34,15 @@ use types.Logic.{sem}
 use types.Part.{agg}
 use types.Run.{of_opd, no_more, and_then, returns, enter}
 use Rattle.std.proofs.BoxSteps.Form as box
-use Rattle.std.proofs.BoxSteps.Steps.{box_out, box_in}
-use Rattle.std.proofs.alloc.Calls.{Goes-blank}
-use Rattle.std.proofs.boxed.Box.into_raw.Met.{met}
-use Rattle.std.proofs.raw_atomic.Walks.{proved_at, leaves}
 use Rattle.std.specs.Box.Ownership.{box_owns}
 use Rattle.std.specs.contracts.boxed.Box as Boxes
 use Rattle.std.specs.contracts.boxed.Box.into_raw as callee
 use Rattle.std_heap.proofs.Global.TheLaws as heap_laws
 use Rattle.std_heap.proofs.GlobalAllocator.TheImpl.Met.{passed}
 use Rattle.std_heap.specs.contracts.Global as heap
-use Rattle.std_heap.specs.contracts.GlobalAllocator.TheImpl.{ghosts, dict}
-use Rattle.std_heap.specs.declared.Global.{Global}
-use Rattle.gefsunk.proofs.HeldSteps.{word, loose_in}
-use Rattle.gefsunk.specs.contracts.handle.Loose.of.{ended, clauses}
-use Rattle.gefsunk.specs.contracts.handle.Loose.of.Key.{name as #self}
-use Rattle.gefsunk.proofs.handle.Loose.of.Statement.{statement}
+use Rattle.std_heap.specs.{contracts.GlobalAllocator.TheImpl.{ghosts, dict}, declared.Global.Global}
+use Rattle.gefsunk.proofs.{HeldSteps.{word, loose_in}, handle.Loose.of.Statement.statement}
+use Rattle.gefsunk.specs.contracts.handle.Loose.of.{ended, clauses, Key.{name as #self}}
 use Rattle.gefsunk.proofs.handle.Loose.of.Code as code
 use Rattle.gefsunk.proofs.Destruct++none.drop.Code as none
 

@@ -1,6 +1,5 @@
 use Rattle.std.proofs.Common.{◌≡◌, ◌-◌, ◌∙◌, List, ℕ, length, refl, sym, ap, arith}
-use Rattle.guest_bytes.specs.Flat.{Block, LiesIn, written_by, overwritten}
-use Rattle.guest_bytes.specs.Guest.{singles_from}
+use Rattle.guest_bytes.specs.{Flat.{Block, LiesIn, written_by, overwritten}, Guest.singles_from}
 use Rattle.guest_bytes.proofs.FlatLemmas.{put_is}
 use Rattle.guest_bytes.proofs.flat.FlatGuest.put.Goals as goal
 

@@ -1,7 +1,6 @@
 use Rattle.std.proofs.Common.{◌≡◌, ◌-◌, ◌<◌, ◌∙◌, sym, arith}
 use Rattle.guest_fetch.specs.Spans.{no_span}
-use Rattle.guest_fetch.proofs.MoveLemmas.{moves_done}
-use Rattle.guest_fetch.proofs.StepLemmas.{stands, hold_next, moves_step, moves_fewer}
+use Rattle.guest_fetch.proofs.{MoveLemmas.moves_done, StepLemmas.{stands, hold_next, moves_step, moves_fewer}}
 use Rattle.guest_fetch.proofs.moves.MovesIterator.next.Goals as goal
 
 pub returns-then-self-clause-steps : goal.returns-then-self-clause-steps

@@ -1,7 +1,5 @@
 use Rattle.std.proofs.Common.{◌+◌, ◌-◌, ◌<◌, ◌≡◌, ◌∙◌, None, length, arith, sym, ap}
-use Rattle.guest_fetch.specs.Entries.{entries_at, first_fault}
-use Rattle.guest_fetch.specs.Places.{total_of}
-use Rattle.guest_fetch.specs.Spans.{entries_from}
+use Rattle.guest_fetch.specs.{Entries.{entries_at, first_fault}, Places.total_of, Spans.entries_from}
 use Rattle.guest_fetch.proofs.SpanLemmas.{length-entries}
 use Rattle.guest_fetch.proofs.table.Table.add.Goals as goal
 

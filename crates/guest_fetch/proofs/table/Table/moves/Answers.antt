@@ -1,7 +1,5 @@
 use Rattle.std.proofs.Common.{◌≡◌, ◌-◌, ◌∙◌, min, arith, ap}
-use Rattle.guest_fetch.specs.Moves.{moves_at}
-use Rattle.guest_fetch.specs.Places.{reach_of, room_at}
-use Rattle.guest_fetch.specs.Spans.{entries_from, table_of}
+use Rattle.guest_fetch.specs.{Moves.moves_at, Places.{reach_of, room_at}, Spans.{entries_from, table_of}}
 use Rattle.guest_fetch.proofs.StepLemmas.{Found, hold_first, are_at, delivers_at, each_at, few_at, told_at}
 use Rattle.guest_fetch.proofs.table.Table.moves.Goals as goal
 

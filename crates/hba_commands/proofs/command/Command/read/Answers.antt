@@ -1,10 +1,7 @@
 use Rattle.std.proofs.Common.{◌≡◌, ◌+◌, ℕ, List, sym, ap, ◌∙◌}
-use Rattle.host_memory.specs.Place.{total_of}
-use Rattle.host_memory.specs.Reading.{prds_at}
+use Rattle.host_memory.specs.{Place.total_of, Reading.prds_at}
 use Rattle.slots.specs.declared.work.Work.{Work}
-use Rattle.hba_commands.specs.declared.request.Request.{Request}
-use Rattle.hba_commands.specs.Headers.{header_at}
-use Rattle.hba_commands.specs.Requests.{tag_of}
+use Rattle.hba_commands.specs.{declared.request.Request.Request, Headers.header_at, Requests.tag_of}
 use Rattle.hba_commands.proofs.ProperLemmas.{proper_armed, proper_port, proper_tag, proper_work, proper_write, proper_total, request_is, sound_total}
 use Rattle.hba_commands.proofs.command.Command.read.Goals as goal
 

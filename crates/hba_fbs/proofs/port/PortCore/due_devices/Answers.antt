@@ -2,8 +2,7 @@ use Rattle.std.proofs.Common.{◌≡◌, ◌<◌, arith, sym, ap, ◌∙◌}
 use Rattle.slots.specs.Slots.{has_bit, mask_below}
 use Rattle.slots.proofs.Door.{has_bit_below, mask_fits, mask_none, mask_same, mask_set}
 use Rattle.hba_fbs.specs.Choosing.{may_feed}
-use Rattle.hba_fbs.proofs.ChooseLemmas.{none_feed, none_feed_at}
-use Rattle.hba_fbs.proofs.port.PortCore.due_devices.Goals.{then-may_feed, else-may_feed}
+use Rattle.hba_fbs.proofs.{ChooseLemmas.{none_feed, none_feed_at}, port.PortCore.due_devices.Goals.{then-may_feed, else-may_feed}}
 use Rattle.hba_fbs.proofs.port.PortCore.due_devices.Goals as goal
 
 pub returns-then-asking-eq0-clause-value : goal.returns-then-asking-eq0-clause-value

@@ -2,8 +2,7 @@ use Rattle.std.proofs.Common.{◌≡◌, arith, sym, ap, ◌∙◌}
 use Rattle.slots.specs.Slots.{has_bit, mask_below}
 use Rattle.slots.proofs.Door.{has_bit_mask, mask_none, mask_same, mask_set}
 use Rattle.hba_fbs.specs.Choosing.{may_order}
-use Rattle.hba_fbs.proofs.ChooseLemmas.{none_order, none_order_at}
-use Rattle.hba_fbs.proofs.port.PortCore.due_slots.Goals.{then-may_order, else-may_order}
+use Rattle.hba_fbs.proofs.{ChooseLemmas.{none_order, none_order_at}, port.PortCore.due_slots.Goals.{then-may_order, else-may_order}}
 use Rattle.hba_fbs.proofs.port.PortCore.due_slots.Goals as goal
 
 pub returns-then-unsent-eq0-clause-value : goal.returns-then-unsent-eq0-clause-value

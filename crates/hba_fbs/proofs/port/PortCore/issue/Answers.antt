@@ -1,8 +1,6 @@
 use Rattle.std.proofs.Common.{◌≡◌, ℕ, subst}
 use Rattle.std.specs.Prelude.{if◌then◌else◌, ◌==◌}
-use Rattle.hba_fbs.specs.Issuing.{view_with}
-use Rattle.hba_fbs.specs.Offering.{asked_by}
-use Rattle.hba_fbs.specs.Views.{LeavesOtherViews, view_of}
+use Rattle.hba_fbs.specs.{Issuing.view_with, Offering.asked_by, Views.{LeavesOtherViews, view_of}}
 use Rattle.hba_fbs.proofs.port.PortCore.issue.Goals as goal
 
 pub returns-clause-own : goal.returns-clause-own

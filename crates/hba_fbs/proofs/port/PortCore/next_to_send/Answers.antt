@@ -1,8 +1,6 @@
 use Rattle.std.proofs.Common.{ℕ, ap, sym, ◌∙◌}
-use Rattle.slots.specs.Slots.{mask_below}
-use Rattle.slots.specs.Commands.{next_slot}
-use Rattle.hba_fbs.specs.Sending.{is_ready, next_to_send}
-use Rattle.hba_fbs.specs.Views.{state_at}
+use Rattle.slots.specs.{Slots.mask_below, Commands.next_slot}
+use Rattle.hba_fbs.specs.{Sending.{is_ready, next_to_send}, Views.state_at}
 use Rattle.hba_fbs.proofs.ChooseLemmas.{none_next}
 use Rattle.hba_fbs.proofs.port.PortCore.next_to_send.Goals as goal
 

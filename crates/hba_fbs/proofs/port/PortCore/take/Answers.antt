@@ -1,10 +1,8 @@
 use Rattle.std.proofs.Common.{◌≡◌, ℕ, true, false, subst, Some}
 use Rattle.std.specs.Prelude.{IfSome}
 use Rattle.fis_view.specs.Seen.{seen}
-use Rattle.slots.specs.Data.{receiving_slot}
-use Rattle.slots.specs.Slots.{context_of}
-use Rattle.hba_fbs.specs.Deciding.{Decides, Passes}
-use Rattle.hba_fbs.specs.Taking.{admitted, ignores}
+use Rattle.slots.specs.{Data.receiving_slot, Slots.context_of}
+use Rattle.hba_fbs.specs.{Deciding.{Decides, Passes}, Taking.{admitted, ignores}}
 use Rattle.hba_fbs.proofs.port.PortCore.take.Goals as goal
 
 pub returns-clause-ignored : goal.returns-clause-ignored

@@ -1,7 +1,6 @@
 use Rattle.std.proofs.Common.{Option, ap, subst, sym, ◌∙◌}
 use Rattle.fis_view.specs.declared.view.Fis.{Fis}
-use Rattle.hba_fbs.specs.Deciding.{Decides}
-use Rattle.hba_fbs.specs.Taking.{admitted}
+use Rattle.hba_fbs.specs.{Deciding.Decides, Taking.admitted}
 use Rattle.hba_fbs.proofs.port.PortCore.take_from.Goals as goal
 
 pub returns-in-None-clause-heard : goal.returns-in-None-clause-heard

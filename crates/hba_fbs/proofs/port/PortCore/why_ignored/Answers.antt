@@ -1,9 +1,7 @@
 use Rattle.std.proofs.Common.{◌≡◌, ℕ, subst, ap, ◌∙◌}
 use Rattle.std.specs.Prelude.{is_some}
 use Rattle.fis_view.specs.Seen.{seen}
-use Rattle.hba_fbs.specs.Reasons.{ignored_for}
-use Rattle.hba_fbs.specs.Taking.{port_of}
-use Rattle.hba_fbs.specs.Views.{view_of}
+use Rattle.hba_fbs.specs.{Reasons.ignored_for, Taking.port_of, Views.view_of}
 use Rattle.hba_fbs.proofs.ReasonLemmas.{ignored_is}
 use Rattle.hba_fbs.proofs.port.PortCore.why_ignored.Goals as goal
 

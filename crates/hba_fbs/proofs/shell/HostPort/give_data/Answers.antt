@@ -1,10 +1,7 @@
 use Rattle.std.proofs.Common.{◌≡◌, ℕ, List, true, sym, refl, ap, ◌∙◌}
 use Rattle.std.specs.Prelude.{is_some}
-use Rattle.fis_view.specs.declared.frame.Stamp.{Stamp}
-use Rattle.fis_view.specs.Frames.{Stamped}
-use Rattle.hba_fbs.specs.declared.turn.Turn.TheVariants.{Feeds}
-use Rattle.hba_fbs.specs.Sending.{data_fis, gathered, host_stamp, is_sent}
-use Rattle.hba_fbs.specs.Turning.{outgoing_at}
+use Rattle.fis_view.specs.{declared.frame.Stamp.Stamp, Frames.Stamped}
+use Rattle.hba_fbs.specs.{declared.turn.Turn.TheVariants.Feeds, Sending.{data_fis, gathered, host_stamp, is_sent}, Turning.outgoing_at}
 use Rattle.hba_fbs.proofs.SendLemmas.{data_given, data_sent, on_err}
 use Rattle.hba_fbs.proofs.shell.HostPort.give_data.Goals as goal
 

@@ -1,11 +1,7 @@
 use Rattle.std.proofs.Common.{Option, Some, drop, subst, ap, ◌∙◌}
 use Rattle.fis_view.specs.Seen.{frame_of}
-use Rattle.hba_fbs.specs.declared.hearing.Heard.{Heard}
-use Rattle.hba_fbs.specs.declared.report.Wrote.{Wrote}
-use Rattle.hba_fbs.specs.Tables.{Delivers, is_sound}
-use Rattle.hba_fbs.specs.Posting.{posted}
-use Rattle.hba_fbs.specs.Taking.{errors_in, heard_report, place_in, row_for, settled, view_after_hearing, wrote_by}
-use Rattle.hba_fbs.specs.Views.{DeviceView, view_of}
+use Rattle.hba_fbs.specs.{declared.{hearing.Heard.Heard, report.Wrote.Wrote}, Tables.{Delivers, is_sound}, Posting.posted, Taking.errors_in}
+use Rattle.hba_fbs.specs.{Taking.{heard_report, place_in, row_for, settled, view_after_hearing, wrote_by}, Views.{DeviceView, view_of}}
 use Rattle.hba_fbs.proofs.CoreLemmas.{decided_if, reported_wrote}
 use Rattle.hba_fbs.proofs.shell.HostPort.hear_good.Goals as goal
 

@@ -1,6 +1,5 @@
 use Rattle.std.proofs.Common.{sym, ap, ◌∙◌}
-use Rattle.hba_fbs.specs.declared.turn.Turn.TheVariants.{Orders}
-use Rattle.hba_fbs.specs.Turning.{turn_of}
+use Rattle.hba_fbs.specs.{declared.turn.Turn.TheVariants.Orders, Turning.turn_of}
 use Rattle.hba_fbs.proofs.SendLemmas.{outgoing_for}
 use Rattle.hba_fbs.proofs.shell.HostPort.next_out.Goals as goal
 

@@ -1,9 +1,7 @@
 use Rattle.std.proofs.Common.{ap, sym, ◌∙◌}
 use Rattle.hba_fbs.specs.declared.room.Room.TheVariants as Room
-use Rattle.hba_fbs.specs.Taking.{admitted}
-use Rattle.hba_fbs.specs.Views.{DeviceView}
-use Rattle.hba_fbs.proofs.CoreLemmas.{decides_are, takes_bad}
-use Rattle.hba_fbs.proofs.TakeLemmas.{takes_from, takes_none, whole_of}
+use Rattle.hba_fbs.specs.{Taking.admitted, Views.DeviceView}
+use Rattle.hba_fbs.proofs.{CoreLemmas.{decides_are, takes_bad}, TakeLemmas.{takes_from, takes_none, whole_of}}
 use Rattle.hba_fbs.proofs.shell.HostPort.take_from.Goals as goal
 
 pub returns-in-Some-clause-heard : goal.returns-in-Some-clause-heard

@@ -1,10 +1,7 @@
 use Rattle.std.proofs.Common.{◌≡◌, ℕ, ◌≤◌, length, List, arith, sym, ap, ◌∙◌}
 use Rattle.std.specs.Prelude.{None, Some}
-use Rattle.host_memory.specs.Ends.{ends_from, begin_in}
-use Rattle.host_memory.specs.Reading.{prds_at, read_fault}
-use Rattle.host_memory.specs.Memory.{Memory}
-use Rattle.host_memory.proofs.KeptLemmas.{kept_wider, total_read}
-use Rattle.host_memory.proofs.SpotLemmas.{length-ends}
+use Rattle.host_memory.specs.{Ends.{ends_from, begin_in}, Reading.{prds_at, read_fault}, Memory.Memory}
+use Rattle.host_memory.proofs.{KeptLemmas.{kept_wider, total_read}, SpotLemmas.{length-ends}}
 use Rattle.host_memory.proofs.memory.HostMemory.keep.Goals as goal
 
 pub begin_of-total-requires : goal.begin_of-total-requires

@@ -1,5 +1,4 @@
-use Rattle.std.proofs.Common.{arith}
-use Rattle.std.proofs.lemmas.List.Elements.{All-nil}
+use Rattle.std.proofs.{Common.arith, lemmas.List.Elements.{All-nil}}
 use Rattle.host_memory.proofs.MemoryLemmas.{zeros_sized}
 use Rattle.host_memory.proofs.memory.HostMemory.new.Goals as goal
 

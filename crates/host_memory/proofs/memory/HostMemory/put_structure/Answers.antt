@@ -1,6 +1,5 @@
 use Rattle.std.proofs.Common.{◌+◌, ◌≤◌, length, arith, refl, ◌∙◌}
-use Rattle.host_memory.specs.Memory.{overwritten}
-use Rattle.host_memory.specs.Kept.{AreKept}
+use Rattle.host_memory.specs.{Memory.overwritten, Kept.AreKept}
 use Rattle.host_memory.proofs.AgreeLemmas.{length-overwritten}
 use Rattle.host_memory.proofs.memory.HostMemory.put_structure.Goals as goal
 

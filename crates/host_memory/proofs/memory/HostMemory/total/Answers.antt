@@ -1,9 +1,7 @@
 use Rattle.std.proofs.Common.{◌≡◌, ℕ, List, arith, sym, ap, length, ◌∙◌}
 use Rattle.std.specs.Prelude.{Some}
-use Rattle.host_memory.specs.Ends.{begin_in}
-use Rattle.host_memory.specs.Kept.{IsKept, readable_total}
-use Rattle.host_memory.proofs.KeptLemmas.{total_read}
-use Rattle.host_memory.proofs.SpotLemmas.{length-ends}
+use Rattle.host_memory.specs.{Ends.begin_in, Kept.{IsKept, readable_total}}
+use Rattle.host_memory.proofs.{KeptLemmas.total_read, SpotLemmas.{length-ends}}
 use Rattle.host_memory.proofs.memory.HostMemory.total.Goals as goal
 
 pub begin_of-requires : goal.begin_of-requires

@@ -1,8 +1,6 @@
 use Rattle.std.proofs.Common.{arith, ◌≡◌, ◌+◌, ◌≤◌, length, ◌∙◌}
-use Rattle.host_memory.specs.Place.{AreInside, total_of}
-use Rattle.host_memory.specs.Reading.{prds_at}
-use Rattle.host_memory.proofs.PartsLemmas.{parts_are}
-use Rattle.host_memory.proofs.SpotLemmas.{length-ends, lies_at, hold_from, parts_lie}
+use Rattle.host_memory.specs.{Place.{AreInside, total_of}, Reading.prds_at}
+use Rattle.host_memory.proofs.{PartsLemmas.parts_are, SpotLemmas.{length-ends, lies_at, hold_from, parts_lie}}
 use Rattle.host_memory.proofs.table.PrdTable.parts.Goals as goal
 
 pub overflow_mul-spot : goal.overflow_mul-spot

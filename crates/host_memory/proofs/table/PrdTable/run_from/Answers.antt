@@ -1,6 +1,5 @@
 use Rattle.std.proofs.Common.{◌+◌, ◌-◌, ◌<◌, arith, refl, ◌∙◌}
-use Rattle.host_memory.specs.Place.{total_of}
-use Rattle.host_memory.specs.Reading.{prds_at}
+use Rattle.host_memory.specs.{Place.total_of, Reading.prds_at}
 use Rattle.host_memory.proofs.SpotLemmas.{length-ends, lies_at, in_entry, is_run, past_all}
 use Rattle.host_memory.proofs.table.PrdTable.run_from.Goals as goal
 

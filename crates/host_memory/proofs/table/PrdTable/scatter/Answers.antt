@@ -1,9 +1,6 @@
-use Rattle.std.proofs.Common.{◌+◌, ◌-◌, ◌≤◌, length, take, drop, arith, sym, ◌∙◌}
-use Rattle.std.proofs.lemmas.List.{take_rest}
-use Rattle.host_memory.specs.Place.{AreInside, AreApart, total_of}
-use Rattle.host_memory.specs.Reading.{prds_at}
-use Rattle.host_memory.proofs.PrdLemmas.{total_fits}
-use Rattle.host_memory.proofs.ScatterLemmas.{scatters_more, some_more}
+use Rattle.std.proofs.{Common.{◌+◌, ◌-◌, ◌≤◌, length, take, drop, arith, sym, ◌∙◌}, lemmas.List.take_rest}
+use Rattle.host_memory.specs.{Place.{AreInside, AreApart, total_of}, Reading.prds_at}
+use Rattle.host_memory.proofs.{PrdLemmas.total_fits, ScatterLemmas.{scatters_more, some_more}}
 use Rattle.host_memory.proofs.table.PrdTable.scatter.Goals as goal
 
 pub overflow_cast-done : goal.overflow_cast-done

@@ -1,9 +1,8 @@
 use Rattle.std.proofs.Common.{rules, ◌≡◌, Some, None, refl, subst}
 use Rattle.hba_driver.specs.HostTurns.{Pushes}
 use Rattle.host_thread.specs.Runs.{HostView, GoesOn}
-use Rattle.host_thread.proofs.Steps.{with_host, asks_none, asks_some}
+use Rattle.host_thread.proofs.{Steps.{with_host, asks_none, asks_some}, worker.HostWorker.ask.Goals.{in-Some-1, in-None-1}}
 use Rattle.host_thread.proofs.worker.HostWorker.ask.Goals as goal
-use Rattle.host_thread.proofs.worker.HostWorker.ask.Goals.{in-Some-1, in-None-1}
 
 pub returns-in-Some-clause-run : goal.returns-in-Some-clause-run
 returns-in-Some-clause-run c =

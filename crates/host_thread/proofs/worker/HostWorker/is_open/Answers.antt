@@ -1,6 +1,5 @@
 use Rattle.std.proofs.Common.{rules, ◌≡◌, ◌∙◌, true, false, length, sym, ap}
-use Rattle.std.specs.Prelude.{◌||◌, nat_lt}
-use Rattle.std.specs.List.{list_any}
+use Rattle.std.specs.{Prelude.{◌||◌, nat_lt}, List.list_any}
 use Rattle.host_thread.specs.Runs.{HostView, count_submitted, is_open}
 use Rattle.host_thread.proofs.Counting.{open_counted}
 use Rattle.host_thread.proofs.worker.HostWorker.is_open.Goals as goal

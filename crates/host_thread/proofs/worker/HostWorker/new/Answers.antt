@@ -1,15 +1,9 @@
-use Rattle.std.proofs.Common.{rules, ◌≡◌, [], length, replicate, refl, sym, ap, ◌∙◌, subst}
-use Rattle.std.proofs.lemmas.List.{length-replicate}
+use Rattle.std.proofs.{Common.{rules, ◌≡◌, [], length, replicate, refl, sym, ap, ◌∙◌, subst}, lemmas.List.{length-replicate}}
 use Rattle.multiplier.specs.Orders.{InStampedOrder}
 use Rattle.host_memory.specs.Memory.{IsHostMemory}
 use Rattle.link_items.specs.Beginnings.{stamped_starts}
-use Rattle.host_thread.specs.declared.plan.State.TheVariants.{Waits}
-use Rattle.host_thread.specs.Runs.{AreGiven, count_submitted, starting}
-use Rattle.host_thread.specs.Tally.{AreCounted}
-use Rattle.host_thread.proofs.Counting.{none_submitted}
-use Rattle.host_thread.proofs.Requests.{none_given}
-use Rattle.host_thread.proofs.Tallies.{none_counted}
-use Rattle.host_thread.proofs.Steps.{begins}
+use Rattle.host_thread.specs.{declared.plan.State.TheVariants.Waits, Runs.{AreGiven, count_submitted, starting}, Tally.AreCounted}
+use Rattle.host_thread.proofs.{Counting.none_submitted, Requests.none_given, Tallies.none_counted, Steps.begins}
 use Rattle.host_thread.proofs.worker.HostWorker.new.Goals as goal
 
 pub invariant_of-result : goal.invariant_of-result

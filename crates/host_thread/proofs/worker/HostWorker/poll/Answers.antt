@@ -1,14 +1,10 @@
-use Rattle.std.proofs.Common.{rules, ◌≡◌, ◌<◌, ◌∙◌, ℕ, length, refl, subst}
-use Rattle.std.proofs.lemmas.List.{length-set}
+use Rattle.std.proofs.{Common.{rules, ◌≡◌, ◌<◌, ◌∙◌, ℕ, length, refl, subst}, lemmas.List.{length-set}}
 use Rattle.std.specs.Prelude.{slice_index_or, slice_set}
 use Rattle.hba_driver.specs.HostTurns.{Polls}
 use Rattle.host_thread.specs.declared.plan.Ended.TheVariants as ended
-use Rattle.host_thread.specs.declared.plan.State.{State}
+use Rattle.host_thread.specs.{declared.plan.State.State, Runs.{HostView, GoesOn}}
 use Rattle.host_thread.specs.declared.plan.State.TheVariants as state
-use Rattle.host_thread.specs.Runs.{HostView, GoesOn}
-use Rattle.host_thread.proofs.Counting.{one_less, there_is_one}
-use Rattle.host_thread.proofs.Requests.{still_given}
-use Rattle.host_thread.proofs.Steps.{with_host, with_states, polls, polls_other}
+use Rattle.host_thread.proofs.{Counting.{one_less, there_is_one}, Requests.still_given, Steps.{with_host, with_states, polls, polls_other}}
 use Rattle.host_thread.proofs.worker.HostWorker.poll.Goals as goal
 
 pub returns-in-Some-place_of-clause-run : goal.returns-in-Some-place_of-clause-run

@@ -1,17 +1,11 @@
-use Rattle.std.proofs.Common.{rules, ◌≡◌, ◌<◌, ◌≤◌, ◌+◌, ◌∙◌, true, false, length, Some, ap, sym, refl, subst, arith}
-use Rattle.std.proofs.lemmas.List.{length-set}
-use Rattle.std.specs.Prelude.{nat_lt, slice_index_or, slice_set}
-use Rattle.std.specs.List.{list_any}
-use Rattle.hba_driver.specs.HostTurns.{Submits}
-use Rattle.hba_driver.specs.Submits.{submit_refusal}
+use Rattle.std.proofs.{Common.{rules, ◌≡◌, ◌<◌, ◌≤◌, ◌+◌, ◌∙◌, true, false, length, Some, ap, sym, refl, subst, arith}, lemmas.List.{length-set}}
+use Rattle.std.specs.{Prelude.{nat_lt, slice_index_or, slice_set}, List.list_any}
+use Rattle.hba_driver.specs.{HostTurns.Submits, Submits.submit_refusal}
 use Rattle.host_thread.specs.declared.plan.Ended.TheVariants as ended
-use Rattle.host_thread.specs.declared.plan.Planned.{Planned}
+use Rattle.host_thread.specs.{declared.plan.Planned.Planned, Runs.{AreGiven, HostView, GoesOn, MayWait, count_submitted, is_for_now, is_submitted}}
 use Rattle.host_thread.specs.declared.plan.State.TheVariants as state
-use Rattle.host_thread.specs.Runs.{AreGiven, HostView, GoesOn, MayWait, count_submitted, is_for_now, is_submitted}
-use Rattle.host_thread.proofs.Counting.{any_counted, as_many, at_most_all, one_more}
-use Rattle.host_thread.proofs.Requests.{IsDue, one_given}
-use Rattle.host_thread.proofs.Steps.{with_states, submits, refuses}
-use Rattle.host_thread.proofs.Waiting.{waits_barred}
+use Rattle.host_thread.proofs.{Counting.{any_counted, as_many, at_most_all, one_more}, Requests.{IsDue, one_given}, Steps.{with_states, submits}}
+use Rattle.host_thread.proofs.{Steps.refuses, Waiting.waits_barred}
 use Rattle.host_thread.proofs.worker.HostWorker.submit.Goals as goal
 
 pub returns-in-Ok-clause-run : goal.returns-in-Ok-clause-run

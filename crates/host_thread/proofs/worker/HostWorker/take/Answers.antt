@@ -1,9 +1,8 @@
 use Rattle.std.proofs.Common.{rules, ◌≡◌, ◌∷◌, [], ◌++◌, refl, subst}
 use Rattle.hba_driver.specs.HostTurns.{Tooks}
 use Rattle.host_thread.specs.Runs.{HostView, GoesOn}
-use Rattle.host_thread.proofs.Steps.{takes}
+use Rattle.host_thread.proofs.{Steps.takes, worker.HostWorker.take.Goals.{then-stamp-lt15, else-stamp-lt15}}
 use Rattle.host_thread.proofs.worker.HostWorker.take.Goals as goal
-use Rattle.host_thread.proofs.worker.HostWorker.take.Goals.{then-stamp-lt15, else-stamp-lt15}
 
 pub returns-clause-run : goal.returns-clause-run
 returns-clause-run g c =

@@ -1,6 +1,5 @@
 use Rattle.std.proofs.Common.{◌≡◌, ◌<◌, ◌≤◌, ap, arith}
-use Rattle.multiplier.specs.contracts.multiplier.Multiplier.{the_view}
-use Rattle.multiplier.specs.State.{PmState}
+use Rattle.multiplier.specs.{contracts.multiplier.Multiplier.the_view, State.PmState}
 use Rattle.multiplier.proofs.Sound.{left_sound}
 use Rattle.multiplier.proofs.multiplier.Multiplier.gone.Goals as goal
 

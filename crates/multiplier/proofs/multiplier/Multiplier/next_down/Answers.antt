@@ -1,7 +1,6 @@
 use Rattle.std.proofs.Common.{None, Some, subst, arith}
 use Rattle.multiplier.specs.State.{IsSound}
-use Rattle.multiplier.proofs.GiveLemmas.{down_rule_keeps, down_rule_sound}
-use Rattle.multiplier.proofs.Lent.{down_given, down_none, lends}
+use Rattle.multiplier.proofs.{GiveLemmas.{down_rule_keeps, down_rule_sound}, Lent.{down_given, down_none, lends}}
 use Rattle.multiplier.proofs.multiplier.Multiplier.next_down.Goals as goal
 
 pub invariant_of-self : goal.invariant_of-self

@@ -1,8 +1,6 @@
 use Rattle.std.proofs.Common.{◌≡◌, ◌<◌, ◌∙◌, ℕ, true, Some, Ok, sym, ap, rules, arith}
 use Rattle.multiplier.specs.State.{ready}
-use Rattle.multiplier.proofs.ArbiterLemmas.{served_below, served_is_ready}
-use Rattle.multiplier.proofs.Holds.{ready_holds}
-use Rattle.multiplier.proofs.GiveLemmas.{up_rule_keeps}
+use Rattle.multiplier.proofs.{ArbiterLemmas.{served_below, served_is_ready}, Holds.ready_holds, GiveLemmas.up_rule_keeps}
 use Rattle.multiplier.proofs.multiplier.Multiplier.next_up.Goals as goal
 
 pub control_gives-requires : goal.control_gives-requires

@@ -1,8 +1,6 @@
 use Rattle.std.proofs.Common.{◌≡◌, ℕ, ◌+◌, ◌<◌, List, length, map, slice_index, slice_index_or, sym, ap, ◌∙◌, subst, arith, inl, inr}
+use Rattle.std.proofs.lemmas.{Bool.cases_eq, Grind.same_number_lists, List.{get_or_read, get_or-set_other, get_or-set_same, length-map, length-set}}
 use Rattle.std.specs.Prelude.{slice_set}
-use Rattle.std.proofs.lemmas.Bool.{cases_eq}
-use Rattle.std.proofs.lemmas.Grind.{same_number_lists}
-use Rattle.std.proofs.lemmas.List.{get_or_read, get_or-set_other, get_or-set_same, length-map, length-set}
 use Rattle.pm_ports.specs.Port.{PortState, empty_port}
 use Rattle.multiplier.specs.State.{removals}
 use Rattle.multiplier.proofs.Gone.{removal_at}

@@ -1,7 +1,6 @@
 use Rattle.std.proofs.Common.{None, ap, sym, subst}
 use Rattle.fis_view.specs.declared.frame.Stamp.{Stamp}
-use Rattle.multiplier.specs.contracts.multiplier.Multiplier.{the_view}
-use Rattle.multiplier.specs.State.{PmState, ShowsRecorded}
+use Rattle.multiplier.specs.{contracts.multiplier.Multiplier.the_view, State.{PmState, ShowsRecorded}}
 use Rattle.multiplier.proofs.Sound.{answered_sound, answer_is, answer_shows, stamp_shows}
 use Rattle.multiplier.proofs.multiplier.Multiplier.to_control.Goals as goal
 

@@ -1,9 +1,7 @@
 use Rattle.std.proofs.Common.{◌≡◌, Some, sym, ◌∙◌}
-use Rattle.pm_control.specs.Requests.{request_in}
-use Rattle.pm_control.specs.Answers.{IsAnswer, answer_of}
-use Rattle.pm_control.proofs.SeenLemmas.{seen_next}
+use Rattle.pm_control.specs.{Requests.request_in, Answers.{IsAnswer, answer_of}}
+use Rattle.pm_control.proofs.{SeenLemmas.seen_next, control.PmControl.answer.Goals.{in-Some-reply+in_ok-d2h-in-Some-reply, in-None}}
 use Rattle.pm_control.proofs.control.PmControl.answer.Goals as goal
-use Rattle.pm_control.proofs.control.PmControl.answer.Goals.{in-Some-reply+in_ok-d2h-in-Some-reply, in-None}
 
 pub returns-clause-seen : goal.returns-clause-seen
 returns-clause-seen c =

@@ -1,6 +1,5 @@
 use Rattle.std.proofs.Common.{ℕ, ◌<◌, Bool, length, sym, ◌∙◌, arith, slice_index_or}
-use Rattle.pm_registers.specs.Bits.{shares}
-use Rattle.pm_registers.specs.Port.{opening_port}
+use Rattle.pm_registers.specs.{Bits.shares, Port.opening_port}
 use Rattle.pm_registers.proofs.BitLemmas.{bits_where_set, bits_where_same, bits_where_none, asks_true, asks_false}
 use Rattle.pm_registers.proofs.registers.PmRegisters.summary.Goals.{then-self-from-ne0, else-self-from-ne0}
 use Rattle.pm_registers.proofs.registers.PmRegisters.summary.Goals as goal

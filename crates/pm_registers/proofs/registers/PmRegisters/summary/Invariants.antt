@@ -1,6 +1,5 @@
 use Rattle.std.proofs.Common.{◌≡◌, slice_index_or}
-use Rattle.pm_registers.specs.Bits.{shares, bits_where}
-use Rattle.pm_registers.specs.Port.{opening_port}
+use Rattle.pm_registers.specs.{Bits.{shares, bits_where}, Port.opening_port}
 use Rattle.pm_registers.proofs.registers.PmRegisters.summary.Given as goal
 
 abbrev pub invariant-loop-n : goal.invariant-loop-n

@@ -1,7 +1,6 @@
 use Rattle.std.proofs.Common.{rules, ◌≡◌, ◌≢◌, Some, sym, subst, ap, ◌∙◌}
 use Rattle.pm_registers.specs.RegisterMap.{RegisterMap, port_at, after_write, register_at, write_rule, after_rule}
-use Rattle.pm_registers.proofs.RegisterLemmas.{IsThere, is_there, write_seen, write_others, write_ports}
-use Rattle.pm_registers.proofs.ShownLemmas.{write_devices}
+use Rattle.pm_registers.proofs.{RegisterLemmas.{IsThere, is_there, write_seen, write_others, write_ports}, ShownLemmas.write_devices}
 use Rattle.pm_registers.proofs.registers.PmRegisters.write.Goals.{then-port-eq-CONTROL_PORT, else-port-eq-CONTROL_PORT}
 use Rattle.pm_registers.proofs.registers.PmRegisters.write.Goals as goal
 

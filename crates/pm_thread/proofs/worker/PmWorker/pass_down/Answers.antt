@@ -2,8 +2,7 @@ use Rattle.std.proofs.Common.{rules, ◌≡◌, ◌<◌, ◌∷◌, [], ◌++◌
 use Rattle.std.specs.Prelude.{slice_index_or}
 use Rattle.multiplier.specs.Rules.{CanPutBackDown, NextDownRule, UndoesDown}
 use Rattle.pm_thread.specs.Runs.{PmView, PortSeats, IsSound, SameLinks, ends_of}
-use Rattle.pm_thread.proofs.Seats.{same_links}
-use Rattle.pm_thread.proofs.Steps.{with_port_seats, sends_down, keeps_down}
+use Rattle.pm_thread.proofs.{Seats.same_links, Steps.{with_port_seats, sends_down, keeps_down}}
 use Rattle.pm_thread.proofs.worker.PmWorker.pass_down.Goals as goal
 
 pub invariant_of-self-in-Ok : goal.invariant_of-self-in-Ok

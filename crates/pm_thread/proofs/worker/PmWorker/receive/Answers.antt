@@ -1,11 +1,8 @@
 use Rattle.std.proofs.Common.{rules, ◌≡◌, ◌<◌, ◌∷◌, [], ◌++◌, length, None, refl, sym, ap, ◌∙◌, subst}
 use Rattle.std.specs.Prelude.{slice_index_or}
-use Rattle.multiplier.specs.Orders.{InDeviceOrder}
-use Rattle.multiplier.specs.Rules.{FromDeviceRule}
-use Rattle.multiplier.specs.State.{port_at}
+use Rattle.multiplier.specs.{Orders.InDeviceOrder, Rules.FromDeviceRule, State.port_at}
 use Rattle.pm_thread.specs.Runs.{PmView, PortSeats, IsSound, SameLinks, ends_of}
-use Rattle.pm_thread.proofs.Seats.{same_links}
-use Rattle.pm_thread.proofs.Steps.{with_port_seats, receives, rests}
+use Rattle.pm_thread.proofs.{Seats.same_links, Steps.{with_port_seats, receives, rests}}
 use Rattle.pm_thread.proofs.worker.PmWorker.receive.Goals as goal
 
 pub invariant_of-self-2 : goal.invariant_of-self-2

@@ -2,8 +2,7 @@ use Rattle.std.proofs.Common.{rules, ◌≡◌, ◌<◌, ◌∷◌, [], ◌++◌
 use Rattle.std.specs.Prelude.{slice_index_or}
 use Rattle.link_items.specs.declared.items.Presence.TheVariants as presence
 use Rattle.pm_thread.specs.Runs.{PmView, PortSeats, IsSound, SameLinks, ends_of}
-use Rattle.pm_thread.proofs.Seats.{same_links}
-use Rattle.pm_thread.proofs.Steps.{with_port_seats, rests, tells_came, tells_gone}
+use Rattle.pm_thread.proofs.{Seats.same_links, Steps.{with_port_seats, rests, tells_came, tells_gone}}
 use Rattle.pm_thread.proofs.worker.PmWorker.record.Goals as goal
 
 pub invariant_of-self-in-Some-Came : goal.invariant_of-self-in-Some-Came

@@ -1,5 +1,4 @@
-use Rattle.std.proofs.Common.{rules}
-use Rattle.std.proofs.lemmas.List.Sorted.{answers_always}
+use Rattle.std.proofs.{Common.rules, lemmas.List.Sorted.answers_always}
 use Rattle.pm_world.proofs.counted.Rows.{searched}
 use Rattle.pm_world.proofs.counts.Counts.search.Goals as goal
 

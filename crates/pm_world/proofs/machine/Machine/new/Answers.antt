@@ -1,5 +1,4 @@
-use Rattle.std.proofs.Common.{◌≡◌, true, length, map, ap, ◌∙◌, rules}
-use Rattle.std.proofs.lemmas.List.{length-map}
+use Rattle.std.proofs.{Common.{◌≡◌, true, length, map, ap, ◌∙◌, rules}, lemmas.List.{length-map}}
 use Rattle.pm_world.specs.Places.{is_config, opening}
 use Rattle.pm_world.proofs.steps.{Openings.{nothing_falls, nothing_stands}, Orderly.{as_many, opening_orderly}}
 use Rattle.pm_world.proofs.machine.Machine.new.Goals as goal

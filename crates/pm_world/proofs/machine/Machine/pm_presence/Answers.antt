@@ -1,5 +1,4 @@
-use Rattle.std.proofs.Common.{Ok, refl, rules, sym, ◌∙◌}
-use Rattle.std.proofs.lemmas.List.{length-set}
+use Rattle.std.proofs.{Common.{Ok, refl, rules, sym, ◌∙◌}, lemmas.List.{length-set}}
 use Rattle.pm_world.specs.{Places.{Places, with_device, with_multiplier}, Rules.PmPresenceRule, declared.step.Step.TheVariants.PmPresence}
 use Rattle.pm_world.proofs.steps.{Doing.on_both, Refusals.stays_orderly}
 use Rattle.pm_world.proofs.machine.Machine.pm_presence.Goals as goal

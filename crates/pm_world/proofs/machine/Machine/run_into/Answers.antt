@@ -1,11 +1,10 @@
 use Rattle.std.proofs.Common.{◌≡◌, ◌+◌, ◌<◌, ◌++◌, List, [], ◌∷◌, Some, None, length, take, drop, arith, refl, sym, ap, ◌∙◌, rules, subst}
-use Rattle.std.specs.Prelude.{Ok, Err, slice_get, unwrap_or}
 use Rattle.std.proofs.{Math.Seq.{drop-append_seam, drop-length, take-append_seam}, lemmas.List.{append_assoc, take-append-drop, take_more, take_all}}
 use Rattle.std.proofs.lemmas.Option.{slice_get_read}
-use Rattle.pm_world.specs.{Places.IsOrderly, Rules.{Rule, Run, refusal}, declared.{step.Answer.Answer, step.Step.Step}}
-use Rattle.pm_world.specs.declared.step.StepError.TheVariants.{OutOfMemory}
-use Rattle.pm_world.proofs.{upward.Law.run_more, reached.Laws.obeys, steps.Lists.none_first}
-use Rattle.pm_world.proofs.steps.Refused.{rule_refuses, refuses_or_wants, refusal_named}
+use Rattle.std.specs.Prelude.{Ok, Err, slice_get, unwrap_or}
+use Rattle.pm_world.specs.{Places.IsOrderly, Rules.{Rule, Run, refusal}, declared.step.{Answer.Answer, Step.Step, StepError.TheVariants.OutOfMemory}}
+use Rattle.pm_world.proofs.{upward.Law.run_more, reached.Laws.obeys, steps.{Lists.none_first, Refused.{rule_refuses, refuses_or_wants}}}
+use Rattle.pm_world.proofs.steps.Refused.{refusal_named}
 use Rattle.pm_world.proofs.machine.Machine.run_into.Goals as goal
 
 -- one more behind the old ones

@@ -1,5 +1,4 @@
-use Rattle.std.proofs.Common.{◌≡◌, ◌↔◌, Bool, true, false, refl, ap, ◌∙◌, [], Ok, Err, map}
-use Rattle.std.proofs.lemmas.List.{length-map}
+use Rattle.std.proofs.{Common.{◌≡◌, ◌↔◌, Bool, true, false, refl, ap, ◌∙◌, [], Ok, Err, map}, lemmas.List.{length-map}}
 use Rattle.std.specs.Prelude.{Result, length}
 use Rattle.pm_world.specs.{Places.{Places, is_config}, declared.step.WorldError.{WorldError, TheVariants.BadConfig}}
 use Rattle.pm_world.proofs.world.World.with_mode.Goals as goal

@@ -1,7 +1,6 @@
 use Rattle.std.proofs.Common.{rules, sym, subst}
 use Rattle.ruled_links.specs.Rule.{CanMeet}
-use Rattle.ruled_links.proofs.Moves.{looks}
-use Rattle.ruled_links.proofs.Seats.{joins, can_meet}
+use Rattle.ruled_links.proofs.{Moves.looks, Seats.{joins, can_meet}}
 use Rattle.ruled_links.proofs.ring.Ring.join.Goals as goal
 
 pub join_seat-requires : goal.join_seat-requires

@@ -1,11 +1,8 @@
 use Rattle.std.proofs.Common.{rules, ◌≡◌, ◌+◌, ◌%◌, ℕ, [], ◌∷◌, length, sym, refl, ap, ◌∙◌, subst, IfSome, Option, Some, None}
 use mathlib.Core.Option.{none}
 use Rattle.atomic_table.specs.Table.{step, Allows}
-use Rattle.ruled_links.specs.declared.rule.View.{View}
-use Rattle.ruled_links.specs.Lists.{Agree}
-use Rattle.ruled_links.specs.Rule.{Sight, IsLinked, Freed, has_taken}
-use Rattle.ruled_links.proofs.Moves.{fetches, frees}
-use Rattle.ruled_links.proofs.Out.{found, out, holds}
+use Rattle.ruled_links.specs.{declared.rule.View.View, Lists.Agree, Rule.{Sight, IsLinked, Freed, has_taken}}
+use Rattle.ruled_links.proofs.{Moves.{fetches, frees}, Out.{found, out, holds}}
 use Rattle.ruled_links.proofs.ring.Ring.pop.Goals as goal
 
 pub load-tail-requires : goal.load-tail-requires

@@ -1,10 +1,8 @@
 use Rattle.std.proofs.Common.{rules, ◌≡◌, ◌+◌, ◌%◌, ℕ, [], ◌∷◌, length, sym, refl, ap, ◌∙◌, subst, true, Option, Some, None}
 use mathlib.Core.Option.{none}
 use Rattle.atomic_table.specs.Table.{step, Allows}
-use Rattle.ruled_links.specs.declared.rule.View.{View}
-use Rattle.ruled_links.specs.Rule.{Sight, IsLinked, Published, has_sent}
-use Rattle.ruled_links.proofs.Moves.{claims, publishes}
-use Rattle.ruled_links.proofs.Out.{not_full, full_now, out, holds}
+use Rattle.ruled_links.specs.{declared.rule.View.View, Rule.{Sight, IsLinked, Published, has_sent}}
+use Rattle.ruled_links.proofs.{Moves.{claims, publishes}, Out.{not_full, full_now, out, holds}}
 use Rattle.ruled_links.proofs.ring.Ring.push.Goals as goal
 
 pub load-head-requires : goal.load-head-requires

@@ -1,7 +1,6 @@
 use Rattle.std.proofs.Common.{sym, subst}
 use Rattle.ata_front.specs.declared.task.Act.TheVariants.{Takes, Resets}
-use Rattle.sata_disk.specs.State.{DiskState, sectors_of}
-use Rattle.sata_disk.specs.Hearing.{MayAct, TakesWithin}
+use Rattle.sata_disk.specs.{State.{DiskState, sectors_of}, Hearing.{MayAct, TakesWithin}}
 use Rattle.sata_disk.proofs.Kept.{acts}
 use Rattle.sata_disk.proofs.disk.SataDisk.act.Goals as goal
 

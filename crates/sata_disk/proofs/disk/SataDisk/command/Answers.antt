@@ -2,8 +2,7 @@ use Rattle.std.proofs.Common.{subst}
 use Rattle.block_engine.specs.Engine.{line}
 use Rattle.ata_command.specs.Asks.{DiskFacts, IsAsked, asked}
 use Rattle.disk_pages.specs.Profiles.{facts_of}
-use Rattle.sata_disk.specs.State.{tags_of}
-use Rattle.sata_disk.specs.Hearing.{with_logs}
+use Rattle.sata_disk.specs.{State.tags_of, Hearing.with_logs}
 use Rattle.sata_disk.proofs.Acts.{command_may, command_reset, takes_within}
 use Rattle.sata_disk.proofs.disk.SataDisk.command.Goals as goal
 

@@ -1,7 +1,6 @@
 use Rattle.std.proofs.Common.{true, sym, subst}
 use Rattle.block_engine.specs.Engine.{EngineState}
-use Rattle.ata_front.specs.Fronts.{opening}
-use Rattle.ata_front.specs.declared.front.Front.{Front}
+use Rattle.ata_front.specs.{Fronts.opening, declared.front.Front.Front}
 use Rattle.sata_disk.specs.State.{IsDisk}
 use Rattle.sata_disk.proofs.Kept.{opens}
 use Rattle.sata_disk.proofs.disk.SataDisk.new.Goals as goal

@@ -1,6 +1,5 @@
 use Rattle.disk_pages.specs.Profiles.{facts_of}
-use Rattle.sata_disk.proofs.Asking.{request_within}
-use Rattle.sata_disk.proofs.Kept.{requests_keep}
+use Rattle.sata_disk.proofs.{Asking.request_within, Kept.requests_keep}
 use Rattle.sata_disk.proofs.disk.SataDisk.next_request.Goals as goal
 
 pub invariant_of-self : goal.invariant_of-self

@@ -1,6 +1,5 @@
-use Rattle.std.proofs.Common.{◌≡◌, ◌∙◌, ◌-◌, ◌+◌, ◌*◌, ◌/◌, ◌%◌, ◌∷◌, [], length, take, drop, ap, arith}
+use Rattle.std.proofs.{Common.{◌≡◌, ◌∙◌, ◌-◌, ◌+◌, ◌*◌, ◌/◌, ◌%◌, ◌∷◌, [], length, take, drop, ap, arith}, lemmas.List.{reverse-append}}
 use Rattle.std.specs.Prelude.{reverse}
-use Rattle.std.proofs.lemmas.List.{reverse-append}
 use Rattle.saved_state.specs.Bytes.{bytes_of}
 use Rattle.saved_state.proofs.Bytes.{long, one_before}
 use Rattle.saved_state.proofs.words.Words.from_bytes.Goals as goal

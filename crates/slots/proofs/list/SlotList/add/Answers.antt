@@ -1,8 +1,7 @@
 use Rattle.std.proofs.Common.{◌<◌, ap, arith, length, length-set, ◌∙◌}
 use Rattle.std.specs.Option.{option_map}
 use Rattle.slots.specs.Data.{moved_over}
-use Rattle.slots.proofs.ListLemmas.{masks_moved}
-use Rattle.slots.proofs.MaskLemmas.{slot_read}
+use Rattle.slots.proofs.{ListLemmas.masks_moved, MaskLemmas.slot_read}
 use Rattle.slots.proofs.list.SlotList.add.Goals as goal
 
 pub invariant_of-self : goal.invariant_of-self

@@ -1,7 +1,6 @@
 use Rattle.std.proofs.Common.{ℕ, None, Option, arith, slice_index_or, sym, ap, true, false}
 use Rattle.std.specs.Option.{is_some}
-use Rattle.slots.specs.Commands.{is_any, is_sent_beside}
-use Rattle.slots.specs.Slots.{holds, is_unsent}
+use Rattle.slots.specs.{Commands.{is_any, is_sent_beside}, Slots.{holds, is_unsent}}
 use Rattle.slots.proofs.ListLemmas.{left_by, none_beside, seen, walk_ends, walk_found, walk_on}
 use Rattle.slots.proofs.list.SlotList.any_sent_beside.Goals as goal
 

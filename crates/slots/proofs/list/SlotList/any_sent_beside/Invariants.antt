@@ -1,6 +1,5 @@
 use Rattle.std.proofs.Common.{None, slice_index_or}
-use Rattle.slots.specs.Commands.{is_sent_beside}
-use Rattle.slots.specs.Slots.{holds}
+use Rattle.slots.specs.{Commands.is_sent_beside, Slots.holds}
 use Rattle.slots.proofs.ListLemmas.{NoneBut}
 use Rattle.slots.proofs.list.SlotList.any_sent_beside.Given as goal
 

@@ -1,8 +1,6 @@
 use Rattle.std.proofs.Common.{List, Option, sym, subst, ◌∙◌, ◌≡◌, length}
-use Rattle.slots.specs.Masks.{AreMasks}
-use Rattle.slots.specs.Slots.{Issue, has_bit}
-use Rattle.slots.proofs.MaskLemmas.{length-unless}
-use Rattle.slots.proofs.ListLemmas.{masks_freed}
+use Rattle.slots.specs.{Masks.AreMasks, Slots.{Issue, has_bit}}
+use Rattle.slots.proofs.{MaskLemmas.{length-unless}, ListLemmas.masks_freed}
 use Rattle.slots.proofs.list.SlotList.clear_all.Goals as goal
 
 pub invariant_of-self : goal.invariant_of-self

@@ -1,6 +1,5 @@
 use Rattle.std.proofs.Common.{arith}
-use Rattle.slots.specs.Commands.{is_done}
-use Rattle.slots.specs.Slots.{is_done_issue, own_of}
+use Rattle.slots.specs.{Commands.is_done, Slots.{is_done_issue, own_of}}
 use Rattle.slots.proofs.ListLemmas.{gather_ends, gather_on, gather_starts, named_only, none_done}
 use Rattle.slots.proofs.list.SlotList.done.Goals as goal
 

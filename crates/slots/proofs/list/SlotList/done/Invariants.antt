@@ -1,6 +1,5 @@
 use Rattle.std.proofs.Common.{◌<◌, ◌^◌}
-use Rattle.slots.specs.Commands.{is_done}
-use Rattle.slots.specs.Slots.{own_of}
+use Rattle.slots.specs.{Commands.is_done, Slots.own_of}
 use Rattle.slots.proofs.ListLemmas.{Gathered}
 use Rattle.slots.proofs.list.SlotList.done.Given as goal
 

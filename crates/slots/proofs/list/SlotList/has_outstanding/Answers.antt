@@ -1,8 +1,6 @@
 use Rattle.std.proofs.Common.{ℕ, Option, arith, sym, ap, true, false}
 use Rattle.std.specs.Option.{is_some}
-use Rattle.slots.specs.Commands.{is_unanswered}
-use Rattle.slots.specs.Setup.{is_outstanding}
-use Rattle.slots.specs.Slots.{holds, is_queued_issue, own_issue, own_of}
+use Rattle.slots.specs.{Commands.is_unanswered, Setup.is_outstanding, Slots.{holds, is_queued_issue, own_issue, own_of}}
 use Rattle.slots.proofs.ListLemmas.{left_own, no_outstanding, seen_own, walk_ends, walk_found, walk_on}
 use Rattle.slots.proofs.list.SlotList.has_outstanding.Goals as goal
 

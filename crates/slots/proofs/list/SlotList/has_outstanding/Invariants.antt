@@ -1,5 +1,4 @@
-use Rattle.slots.specs.Setup.{is_outstanding}
-use Rattle.slots.specs.Slots.{holds, own_issue, own_of}
+use Rattle.slots.specs.{Setup.is_outstanding, Slots.{holds, own_issue, own_of}}
 use Rattle.slots.proofs.ListLemmas.{NoneBut}
 use Rattle.slots.proofs.list.SlotList.has_outstanding.Given as goal
 

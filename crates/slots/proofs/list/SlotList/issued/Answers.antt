@@ -1,6 +1,5 @@
 use Rattle.std.proofs.Common.{None, arith, slice_index_or}
-use Rattle.slots.specs.Commands.{is_any}
-use Rattle.slots.specs.Slots.{holds}
+use Rattle.slots.specs.{Commands.is_any, Slots.holds}
 use Rattle.slots.proofs.ListLemmas.{mask_all}
 use Rattle.slots.proofs.list.SlotList.issued.Goals as goal
 

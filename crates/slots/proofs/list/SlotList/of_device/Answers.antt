@@ -1,9 +1,7 @@
 use Rattle.std.proofs.Common.{◌≡◌, ◌<◌, List, Option, length, arith, ap, subst, ◌∙◌}
 use Rattle.std.specs.Option.{is_some}
-use Rattle.slots.specs.Commands.{is_any}
-use Rattle.slots.specs.Slots.{Issue, holds, own_issue, own_of}
-use Rattle.slots.proofs.ListLemmas.{gather_ends, gather_on, gather_starts, issued_only}
-use Rattle.slots.proofs.MaskLemmas.{any_issued, own_read}
+use Rattle.slots.specs.{Commands.is_any, Slots.{Issue, holds, own_issue, own_of}}
+use Rattle.slots.proofs.{ListLemmas.{gather_ends, gather_on, gather_starts, issued_only}, MaskLemmas.{any_issued, own_read}}
 use Rattle.slots.proofs.list.SlotList.of_device.Goals as goal
 
 pub walk-init : goal.walk-init

@@ -1,6 +1,5 @@
 use Rattle.std.proofs.Common.{◌<◌, ◌^◌}
-use Rattle.slots.specs.Commands.{is_any}
-use Rattle.slots.specs.Slots.{holds, own_issue, own_of}
+use Rattle.slots.specs.{Commands.is_any, Slots.{holds, own_issue, own_of}}
 use Rattle.slots.proofs.ListLemmas.{Gathered}
 use Rattle.slots.proofs.list.SlotList.of_device.Given as goal
 

@@ -1,6 +1,5 @@
 use Rattle.std.proofs.Common.{arith, sym, true, false}
-use Rattle.slots.specs.Commands.{is_any}
-use Rattle.slots.specs.Slots.{holds, is_sent_pio, is_unsent, own_issue, own_of}
+use Rattle.slots.specs.{Commands.is_any, Slots.{holds, is_sent_pio, is_unsent, own_issue, own_of}}
 use Rattle.slots.proofs.ListLemmas.{left_own, no_sent_pio, seen_own, walk_ends, walk_found, walk_on}
 use Rattle.slots.proofs.list.SlotList.sent_pio.Goals as goal
 

@@ -1,6 +1,5 @@
 use Rattle.std.proofs.Common.{arith}
-use Rattle.slots.specs.Commands.{is_short}
-use Rattle.slots.specs.Slots.{is_short_issue, own_of}
+use Rattle.slots.specs.{Commands.is_short, Slots.{is_short_issue, own_of}}
 use Rattle.slots.proofs.ListLemmas.{gather_ends, gather_on, gather_starts, named_only, none_short}
 use Rattle.slots.proofs.list.SlotList.short.Goals as goal
 

@@ -1,6 +1,5 @@
 use Rattle.std.proofs.Common.{◌<◌, ◌^◌}
-use Rattle.slots.specs.Commands.{is_short}
-use Rattle.slots.specs.Slots.{own_of}
+use Rattle.slots.specs.{Commands.is_short, Slots.own_of}
 use Rattle.slots.proofs.ListLemmas.{Gathered}
 use Rattle.slots.proofs.list.SlotList.short.Given as goal
 

@@ -1,6 +1,5 @@
 use Rattle.std.proofs.Common.{arith, sym, true, false}
-use Rattle.slots.specs.Commands.{is_unanswered}
-use Rattle.slots.specs.Slots.{holds, is_unsent, is_waiting, own_issue, own_of}
+use Rattle.slots.specs.{Commands.is_unanswered, Slots.{holds, is_unsent, is_waiting, own_issue, own_of}}
 use Rattle.slots.proofs.ListLemmas.{left_own, no_waiting, seen_own, walk_ends, walk_found, walk_on}
 use Rattle.slots.proofs.list.SlotList.waiting.Goals as goal
 

@@ -1,10 +1,6 @@
 use Rattle.std.proofs.Common.{◌≡◌, ◌≤◌, ◌<◌, ◌+◌, ◌*◌, ◌/◌, ℕ, List, Bool, length, arith, sym, ap, ◌∙◌, subst, refl}
-use Rattle.slots.specs.declared.moved.Stretch.{Stretch}
-use Rattle.slots.specs.Bytes.{with_bytes}
-use Rattle.slots.specs.Stretches.{AreApart, merged_with, over_of}
-use Rattle.slots.proofs.FlagLemmas.{length-over}
-use Rattle.slots.proofs.StretchLemmas.{with_none}
-use Rattle.slots.proofs.MergeLemmas.{merged_apart, merged_over, merged_seen}
+use Rattle.slots.specs.{declared.moved.Stretch.Stretch, Bytes.with_bytes, Stretches.{AreApart, merged_with, over_of}}
+use Rattle.slots.proofs.{FlagLemmas.{length-over}, StretchLemmas.with_none, MergeLemmas.{merged_apart, merged_over, merged_seen}}
 use Rattle.slots.proofs.moved.Moved.add.Goals as goal
 
 pub returns-then-count-eq0 : goal.returns-then-count-eq0

@@ -1,10 +1,7 @@
 use Rattle.std.proofs.Common.{◌+◌, ◌-◌, ◌*◌, ◌/◌, ◌≤◌, ℕ, List, Bool, length, arith, sym, ap, ◌∙◌}
 use Rattle.std.specs.List.{list_any}
-use Rattle.slots.specs.Bytes.{any_over}
-use Rattle.slots.specs.Stretches.{meets}
-use Rattle.slots.proofs.ByteLemmas.{any_of_none}
-use Rattle.slots.proofs.FlagLemmas.{length-over}
-use Rattle.slots.proofs.ApartLemmas.{any_meets}
+use Rattle.slots.specs.{Bytes.any_over, Stretches.meets}
+use Rattle.slots.proofs.{ByteLemmas.any_of_none, FlagLemmas.{length-over}, ApartLemmas.any_meets}
 use Rattle.slots.proofs.moved.Moved.any_over.Goals as goal
 
 pub returns-then-count-eq0 : goal.returns-then-count-eq0

@@ -1,9 +1,6 @@
 use Rattle.std.proofs.Common.{◌≡◌, ◌*◌, length, ℕ, Option, sym, ap, ◌∙◌}
 use Rattle.std.specs.Option.{option_or}
-use Rattle.slots.specs.declared.answer.SetupError.{SetupError}
-use Rattle.slots.specs.Bytes.{came_of}
-use Rattle.slots.specs.Issued.{with_flags, issue_in}
-use Rattle.slots.specs.Setup.{transfer_fault}
+use Rattle.slots.specs.{declared.answer.SetupError.SetupError, Bytes.came_of, Issued.{with_flags, issue_in}, Setup.transfer_fault}
 use Rattle.slots.proofs.ByteLemmas.{whole_dwords}
 use Rattle.slots.proofs.slot.Slot.out_fault.Goals as goal
 

@@ -1,7 +1,5 @@
 use Rattle.std.proofs.Common.{◌≡◌, ◌*◌, length, ℕ, sym, ap, ◌∙◌}
-use Rattle.slots.specs.Bytes.{came_of}
-use Rattle.slots.specs.Issued.{with_flags, issue_in}
-use Rattle.slots.specs.Setup.{transfer_fault}
+use Rattle.slots.specs.{Bytes.came_of, Issued.{with_flags, issue_in}, Setup.transfer_fault}
 use Rattle.slots.proofs.ByteLemmas.{whole_dwords}
 use Rattle.slots.proofs.slot.Slot.pio_fault.Goals as goal
 

@@ -1,10 +1,7 @@
 use Rattle.std.proofs.Common.{◌≡◌, List, Option, None, true, arith, refl, sym, ap, subst, ◌∙◌}
-use Rattle.slots.specs.Commands.{answered_issue, with_answered}
-use Rattle.slots.specs.Slots.{Issue, LeavesOthers, Slots, issue_at, holds, is_queued_issue, is_waiting, own_issue, slots_of}
-use Rattle.slots.specs.Table.{IsTable}
-use Rattle.slots.specs.Between.{Owns}
-use Rattle.slots.proofs.TableLemmas.{own_at, own_changed, others_changed, owns_where}
-use Rattle.slots.proofs.CallLemmas.{table_answered}
+use Rattle.slots.specs.{Commands.{answered_issue, with_answered}, Slots.{Issue, LeavesOthers, Slots, issue_at, holds, is_queued_issue, is_waiting}}
+use Rattle.slots.specs.{Slots.{own_issue, slots_of}, Table.IsTable, Between.Owns}
+use Rattle.slots.proofs.{TableLemmas.{own_at, own_changed, others_changed, owns_where}, CallLemmas.table_answered}
 use Rattle.slots.proofs.table.SlotTable.answer.Goals as goal
 
 pub invariant_of-self : goal.invariant_of-self

@@ -1,7 +1,5 @@
 use Rattle.std.proofs.Common.{◌≡◌, arith, sym, ap, subst, ◌∙◌}
-use Rattle.slots.specs.declared.answer.Answered.{Answered}
-use Rattle.slots.specs.Commands.{answer_of, answered_as}
-use Rattle.slots.specs.Slots.{Slots, slots_of}
+use Rattle.slots.specs.{declared.answer.Answered.Answered, Commands.{answer_of, answered_as}, Slots.{Slots, slots_of}}
 use Rattle.slots.proofs.CallLemmas.{answer_is}
 use Rattle.slots.proofs.table.SlotTable.answered.Goals as goal
 

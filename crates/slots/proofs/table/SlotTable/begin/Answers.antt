@@ -1,9 +1,5 @@
 use Rattle.std.proofs.Common.{◌≡◌, Bool, true, sym, ap, subst, ◌∙◌}
-use Rattle.slots.specs.declared.table.Context.{Context}
-use Rattle.slots.specs.Setup.{new_context}
-use Rattle.slots.specs.Slots.{Slots}
-use Rattle.slots.specs.Table.{IsContext}
-use Rattle.slots.specs.Work.{is_dma, is_read}
+use Rattle.slots.specs.{declared.table.Context.Context, Setup.new_context, Slots.Slots, Table.IsContext, Work.{is_dma, is_read}}
 use Rattle.slots.proofs.FitLemmas.{begun_inside}
 use Rattle.slots.proofs.table.SlotTable.begin.Goals as goal
 

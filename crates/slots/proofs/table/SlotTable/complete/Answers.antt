@@ -1,10 +1,7 @@
 use Rattle.std.proofs.Common.{◌≡◌, ℕ, Bool, sym, ap, subst, ◌∙◌}
-use Rattle.slots.specs.declared.answer.Completed.{Completed}
-use Rattle.slots.specs.Commands.{is_done, is_short}
-use Rattle.slots.specs.Slots.{Slots, KeepsFree, LeavesOthers, freed, has_bit, mask_of, own_of, slots_of}
-use Rattle.slots.specs.Table.{IsTable}
-use Rattle.slots.proofs.FreeLemmas.{frees_freed, freed_many, own_freed, others_freed, table_freed}
-use Rattle.slots.proofs.SetLemmas.{mask_is, done_own}
+use Rattle.slots.specs.{declared.answer.Completed.Completed, Commands.{is_done, is_short}, Slots.{Slots, KeepsFree, LeavesOthers, freed, has_bit}}
+use Rattle.slots.specs.{Slots.{mask_of, own_of, slots_of}, Table.IsTable}
+use Rattle.slots.proofs.{FreeLemmas.{frees_freed, freed_many, own_freed, others_freed, table_freed}, SetLemmas.{mask_is, done_own}}
 use Rattle.slots.proofs.table.SlotTable.complete.Goals as goal
 
 pub invariant_of-self : goal.invariant_of-self

@@ -1,9 +1,8 @@
 use Rattle.std.proofs.Common.{◌≡◌, ℕ, Bool, refl, sym, subst, ◌∙◌}
-use Rattle.slots.specs.Commands.{is_any}
-use Rattle.slots.specs.Slots.{Slots, KeepsFree, LeavesOthers, has_bit, holds, no_own_slots, own_issue, own_of, slots_of}
+use Rattle.slots.specs.{Commands.is_any, Slots.{Slots, KeepsFree, LeavesOthers, has_bit, holds, no_own_slots, own_issue, own_of, slots_of}}
 use Rattle.slots.specs.Table.{IsTable}
-use Rattle.slots.proofs.FreeLemmas.{frees_freed, freed_many, own_freed, others_freed, table_freed}
-use Rattle.slots.proofs.SetLemmas.{mask_is, any_own, flushed_context, flushed_own}
+use Rattle.slots.proofs.{FreeLemmas.{frees_freed, freed_many, own_freed, others_freed, table_freed}, SetLemmas.{mask_is, any_own, flushed_context}}
+use Rattle.slots.proofs.SetLemmas.{flushed_own}
 use Rattle.slots.proofs.table.SlotTable.flush.Goals as goal
 
 pub invariant_of-self : goal.invariant_of-self

@@ -1,10 +1,6 @@
 use Rattle.std.proofs.Common.{◌≡◌, arith, refl, sym, subst, ◌∙◌}
-use Rattle.slots.specs.Commands.{is_slot}
-use Rattle.slots.specs.Slots.{Slots, LeavesOthers, issue_at, slots_of, freed}
-use Rattle.slots.specs.Table.{IsTable}
-use Rattle.slots.specs.Between.{Owns}
-use Rattle.slots.proofs.TableLemmas.{owns_from}
-use Rattle.slots.proofs.FreeLemmas.{freed_many, one_own, own_freed, others_freed, table_freed, unless_one}
+use Rattle.slots.specs.{Commands.is_slot, Slots.{Slots, LeavesOthers, issue_at, slots_of, freed}, Table.IsTable, Between.Owns}
+use Rattle.slots.proofs.{TableLemmas.owns_from, FreeLemmas.{freed_many, one_own, own_freed, others_freed, table_freed, unless_one}}
 use Rattle.slots.proofs.table.SlotTable.free.Goals as goal
 
 pub invariant_of-self : goal.invariant_of-self

@@ -1,10 +1,8 @@
 use Rattle.std.proofs.Common.{◌≡◌, List, Option, None, Some, arith, refl, slice_set, sym, subst}
 use Rattle.std.specs.Option.{option_map}
-use Rattle.slots.specs.Data.{gone_over, moved_on, moved_over}
-use Rattle.slots.specs.Slots.{Issue, LeavesOthers, Slots, context_of, issue_at, slots_of}
-use Rattle.slots.specs.Table.{IsTable}
-use Rattle.slots.proofs.TableLemmas.{with_issue, others_changed, others_with_context, others_both}
-use Rattle.slots.proofs.MoveLemmas.{few_moved, table_moved, slot_of_context, owns_context, own_moved}
+use Rattle.slots.specs.{Data.{gone_over, moved_on, moved_over}, Slots.{Issue, LeavesOthers, Slots, context_of, issue_at, slots_of}, Table.IsTable}
+use Rattle.slots.proofs.{TableLemmas.{with_issue, others_changed, others_with_context, others_both}, MoveLemmas.{few_moved, table_moved}}
+use Rattle.slots.proofs.MoveLemmas.{slot_of_context, owns_context, own_moved}
 use Rattle.slots.proofs.table.SlotTable.go_over.Goals as goal
 
 pub add-requires-clause-few : goal.add-requires-clause-few

@@ -1,7 +1,6 @@
 use Rattle.std.proofs.Common.{◌≡◌, Some, sym, ap, subst, ◌∙◌}
 use Rattle.std.specs.Option.{option_map}
-use Rattle.slots.specs.Issued.{issued_of}
-use Rattle.slots.specs.Slots.{Slots, issue_at}
+use Rattle.slots.specs.{Issued.issued_of, Slots.{Slots, issue_at}}
 use Rattle.slots.proofs.CallLemmas.{may_go_is}
 use Rattle.slots.proofs.table.SlotTable.is_next.Goals as goal
 

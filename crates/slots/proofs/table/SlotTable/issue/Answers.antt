@@ -1,11 +1,8 @@
 use Rattle.std.proofs.Common.{◌≡◌, List, Option, Some, None, arith, refl, sym, ap, subst, ◌∙◌}
 use Rattle.std.specs.Option.{is_some, option_map}
-use Rattle.slots.specs.Commands.{after_issue}
-use Rattle.slots.specs.Issued.{issued_of}
-use Rattle.slots.specs.Slots.{Issue, LeavesOthers, Slots, issue_at, new_issue, owned_by, slots_of}
+use Rattle.slots.specs.{Commands.after_issue, Issued.issued_of, Slots.{Issue, LeavesOthers, Slots, issue_at, new_issue, owned_by, slots_of}}
 use Rattle.slots.specs.Table.{IsTable}
-use Rattle.slots.proofs.TableLemmas.{own_with_issue, others_with_issue, owned_own, owned_other}
-use Rattle.slots.proofs.CallLemmas.{free_slot, table_issued}
+use Rattle.slots.proofs.{TableLemmas.{own_with_issue, others_with_issue, owned_own, owned_other}, CallLemmas.{free_slot, table_issued}}
 use Rattle.slots.proofs.table.SlotTable.issue.Goals as goal
 
 pub invariant_of-self : goal.invariant_of-self

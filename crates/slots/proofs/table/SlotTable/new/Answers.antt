@@ -1,6 +1,5 @@
 use Rattle.std.proofs.Common.{List, Option, None, replicate, refl, sym, ap, subst}
-use Rattle.slots.specs.Slots.{Issue}
-use Rattle.slots.specs.Table.{IsTable}
+use Rattle.slots.specs.{Slots.Issue, Table.IsTable}
 use Rattle.slots.proofs.NewLemmas.{no_context, new_table}
 use Rattle.slots.proofs.table.SlotTable.new.Goals as goal
 

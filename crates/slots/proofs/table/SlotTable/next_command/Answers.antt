@@ -1,8 +1,6 @@
 use Rattle.std.proofs.Common.{sym, ap, ◌∙◌}
-use Rattle.slots.specs.Commands.{may_go, slots_where}
-use Rattle.slots.specs.Slots.{holds, is_unsent, issue_at}
-use Rattle.slots.proofs.CallLemmas.{may_be_sent}
-use Rattle.slots.proofs.ListLemmas.{unsent_only, walk_ends, walk_found, walk_on}
+use Rattle.slots.specs.{Commands.{may_go, slots_where}, Slots.{holds, is_unsent, issue_at}}
+use Rattle.slots.proofs.{CallLemmas.may_be_sent, ListLemmas.{unsent_only, walk_ends, walk_found, walk_on}}
 use Rattle.slots.proofs.table.SlotTable.next_command.Goals as goal
 
 pub walk-init : goal.walk-init

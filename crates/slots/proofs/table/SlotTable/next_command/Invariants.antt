@@ -1,5 +1,4 @@
-use Rattle.slots.specs.Commands.{may_go}
-use Rattle.slots.specs.Slots.{holds, issue_at}
+use Rattle.slots.specs.{Commands.may_go, Slots.{holds, issue_at}}
 use Rattle.slots.proofs.ListLemmas.{NoneBut}
 use Rattle.slots.proofs.table.SlotTable.next_command.Given as goal
 

@@ -1,6 +1,5 @@
 use Rattle.std.proofs.Common.{◌≡◌, ℕ, Option, Some, arith, sym, ap, subst, ◌∙◌}
-use Rattle.slots.specs.Commands.{is_slot, whole_pio}
-use Rattle.slots.specs.Slots.{DeviceSlots, Slots, freed, match_some, slots_of}
+use Rattle.slots.specs.{Commands.{is_slot, whole_pio}, Slots.{DeviceSlots, Slots, freed, match_some, slots_of}}
 use Rattle.slots.proofs.CallLemmas.{none_whole, pio_missing, pio_stays, pio_whole}
 use Rattle.slots.proofs.table.SlotTable.pio_done.Goals as goal
 

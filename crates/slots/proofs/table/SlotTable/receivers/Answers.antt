@@ -1,11 +1,7 @@
-use Rattle.std.proofs.Common.{◌≡◌, ℕ, Bool, None, Option, arith, ap, sym, ◌∙◌}
+use Rattle.std.proofs.{Common.{◌≡◌, ℕ, Bool, None, Option, arith, ap, sym, ◌∙◌}, lemmas.List.get_or_default}
 use Rattle.std.specs.Option.{is_some}
-use Rattle.std.proofs.lemmas.List.{get_or_default}
-use Rattle.slots.specs.declared.table.Context.{Context}
-use Rattle.slots.specs.Data.{payload}
-use Rattle.slots.specs.Slots.{Slots, context_of, mask_below}
-use Rattle.slots.proofs.MaskLemmas.{mask_fits, mask_none, mask_set, mask_same}
-use Rattle.slots.proofs.table.SlotTable.receivers.Goals.{then-is_due, else-is_due}
+use Rattle.slots.specs.{declared.table.Context.Context, Data.payload, Slots.{Slots, context_of, mask_below}}
+use Rattle.slots.proofs.{MaskLemmas.{mask_fits, mask_none, mask_set, mask_same}, table.SlotTable.receivers.Goals.{then-is_due, else-is_due}}
 use Rattle.slots.proofs.table.SlotTable.receivers.Goals as goal
 
 pub loop-dev-init : goal.loop-dev-init

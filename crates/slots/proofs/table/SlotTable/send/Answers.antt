@@ -1,11 +1,8 @@
 use Rattle.std.proofs.Common.{◌≡◌, List, Option, None, false, arith, refl, sym, subst}
 use Rattle.std.specs.Prelude.{MatchOption}
-use Rattle.slots.specs.Commands.{sent_issue, with_sent}
-use Rattle.slots.specs.Slots.{Issue, LeavesOthers, Slots, issue_at, is_control, slots_of, waiting}
-use Rattle.slots.specs.Table.{IsTable}
+use Rattle.slots.specs.{Commands.{sent_issue, with_sent}, Slots.{Issue, LeavesOthers, Slots, issue_at, is_control, slots_of, waiting}, Table.IsTable}
 use Rattle.slots.specs.Between.{Owns}
-use Rattle.slots.proofs.TableLemmas.{own_changed, others_changed}
-use Rattle.slots.proofs.CallLemmas.{table_sent_at, owns_sent}
+use Rattle.slots.proofs.{TableLemmas.{own_changed, others_changed}, CallLemmas.{table_sent_at, owns_sent}}
 use Rattle.slots.proofs.table.SlotTable.send.Goals as goal
 
 pub invariant_of-self : goal.invariant_of-self

@@ -1,9 +1,6 @@
 use Rattle.std.proofs.Common.{◌≡◌, ◌<◌, None, Some, length, arith, refl, sym, ap, subst, ◌∙◌}
 use Rattle.std.specs.Option.{option_map}
-use Rattle.slots.specs.Issued.{issued_of}
-use Rattle.slots.specs.Slots.{Slots, issue_at}
-use Rattle.slots.specs.Table.{IsTable}
-use Rattle.slots.specs.Setup.{begun}
+use Rattle.slots.specs.{Issued.issued_of, Slots.{Slots, issue_at}, Table.IsTable, Setup.begun}
 use Rattle.slots.proofs.CallLemmas.{alone_there, dev_below, fresh_sent, nobody, other_there, owned_there, sent_control, sent_other}
 use Rattle.slots.proofs.table.SlotTable.sent.Goals as goal
 

@@ -1,6 +1,5 @@
 use Rattle.std.proofs.Common.{◌<◌, Some, length, arith, sym, subst}
-use Rattle.slots.specs.Slots.{Slots}
-use Rattle.slots.specs.Table.{IsContext}
+use Rattle.slots.specs.{Slots.Slots, Table.IsContext}
 use Rattle.slots.proofs.TableLemmas.{own_with_context, others_with_context, table_with_context}
 use Rattle.slots.proofs.table.SlotTable.set_context.Goals as goal
 

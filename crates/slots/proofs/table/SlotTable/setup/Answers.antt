@@ -1,7 +1,5 @@
 use Rattle.std.proofs.Common.{sym, subst, ◌∙◌}
-use Rattle.slots.specs.declared.table.Context.{Context}
-use Rattle.slots.specs.Slots.{Slots, slots_of}
-use Rattle.slots.specs.Table.{IsContext}
+use Rattle.slots.specs.{declared.table.Context.Context, Slots.{Slots, slots_of}, Table.IsContext}
 use Rattle.slots.proofs.FitLemmas.{set_up_inside, setup_refused, setup_tested}
 use Rattle.slots.proofs.table.SlotTable.setup.Goals as goal
 

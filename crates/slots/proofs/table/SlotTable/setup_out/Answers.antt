@@ -1,9 +1,6 @@
 use Rattle.std.proofs.Common.{◌≡◌, false, Some, Ok, sym, ap, subst, ◌∙◌}
-use Rattle.slots.specs.declared.table.Context.{Context}
-use Rattle.slots.specs.Data.{activated}
-use Rattle.slots.specs.Setup.{new_context, out_setup, with_own_context, with_setup}
-use Rattle.slots.specs.Slots.{DeviceSlots, Slots, sent_out, slots_of}
-use Rattle.slots.specs.Table.{IsContext}
+use Rattle.slots.specs.{declared.table.Context.Context, Data.activated, Setup.{new_context, out_setup, with_own_context, with_setup}}
+use Rattle.slots.specs.{Slots.{DeviceSlots, Slots, sent_out, slots_of}, Table.IsContext}
 use Rattle.slots.proofs.FitLemmas.{out_answers, out_inside, out_none, out_refuses, out_stays}
 use Rattle.slots.proofs.table.SlotTable.setup_out.Goals as goal
 

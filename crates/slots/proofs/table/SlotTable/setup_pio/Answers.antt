@@ -1,7 +1,6 @@
 use Rattle.std.proofs.Common.{◌≡◌, ◌<◌, ℕ, Option, length, arith, sym, ap, subst, ◌∙◌}
-use Rattle.slots.specs.declared.table.Context.{Context}
-use Rattle.slots.specs.Setup.{after_setup_pio, new_context, pio_fault, with_own_context}
-use Rattle.slots.specs.Slots.{Issue, Slots, slots_of}
+use Rattle.slots.specs.{declared.table.Context.Context, Setup.{after_setup_pio, new_context, pio_fault, with_own_context}, Slots.{Issue, Slots}}
+use Rattle.slots.specs.Slots.{slots_of}
 use Rattle.slots.proofs.CallLemmas.{pio_issue_is, pio_none, pio_set_up, pio_refused}
 use Rattle.slots.proofs.table.SlotTable.setup_pio.Goals as goal
 

@@ -1,8 +1,6 @@
 use Rattle.std.proofs.Common.{None, Option, get_or, refl, sym, ap, true, ◌∙◌}
 use Rattle.std.specs.Option.{option_map}
-use Rattle.slots.specs.Issued.{issued_of}
-use Rattle.slots.specs.Slots.{Issue, match_some}
-use Rattle.slots.specs.Tested.{is_proper}
+use Rattle.slots.specs.{Issued.issued_of, Slots.{Issue, match_some}, Tested.is_proper}
 use Rattle.slots.proofs.TestedLemmas.{first_after}
 use Rattle.slots.proofs.table.saved.is_slot_proper.Goals as goal
 

@@ -1,7 +1,6 @@
 use Rattle.std.proofs.Common.{refl, sym}
 use Rattle.ahci_controller.specs.SavedController.{KeepsController, parts_words}
-use Rattle.ahci_controller.proofs.rules.SavedLemmas.{not_offered, not_ruled, places_of}
-use Rattle.ahci_controller.proofs.rules.TestedLemmas.{ruled_then}
+use Rattle.ahci_controller.proofs.rules.{SavedLemmas.{not_offered, not_ruled, places_of}, TestedLemmas.ruled_then}
 use Rattle.saved_state.specs.State.{parts_refused}
 use Rattle.ahci_controller.proofs.ruled.saved.ControllerSaved.restore.Goals as goal
 

@@ -1,6 +1,5 @@
-use Rattle.std.proofs.Common.{◌≡◌, ◌∙◌, false, length, ap, sym}
+use Rattle.std.proofs.{Common.{◌≡◌, ◌∙◌, false, length, ap, sym}, lemmas.Bool.{eq-eqb, eqb-true}}
 use Rattle.std.specs.Prelude.{◌==◌}
-use Rattle.std.proofs.lemmas.Bool.{eq-eqb, eqb-true}
 use Rattle.saved_state.specs.State.{parts_refused, rule_refused}
 use Rattle.block_disk.specs.Saved.{KeepsTable, KeepsTableParts, put_table_parts, table_fits, table_parts, table_parts_apart}
 use Rattle.block_disk.proofs.SavedLemmas.{restored}

@@ -1,8 +1,7 @@
 use Rattle.std.proofs.Common.{sym}
 use Rattle.saved_state.specs.State.{parts_refused, rule_refused}
 use Rattle.block_engine.specs.Saved.{KeepsEngine, KeepsParts, fit, parts_of, parts_told_apart, put_parts}
-use Rattle.block_engine.proofs.Holders.{fit_numbered, numbered_fit}
-use Rattle.block_engine.proofs.SavedLemmas.{restored}
+use Rattle.block_engine.proofs.{Holders.{fit_numbered, numbered_fit}, SavedLemmas.restored}
 use Rattle.block_engine.proofs.engine.saved.EngineSaved.restore.Goals as goal
 
 pub returns-in-Err : goal.returns-in-Err

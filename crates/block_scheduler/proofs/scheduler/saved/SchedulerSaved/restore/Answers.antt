@@ -1,8 +1,6 @@
-use Rattle.std.proofs.Common.{sym}
-use Rattle.std.proofs.lemmas.Bool.{le-leb, leb-true}
+use Rattle.std.proofs.{Common.sym, lemmas.Bool.{le-leb, leb-true}}
 use Rattle.saved_state.specs.State.{parts_refused, rule_refused}
-use Rattle.block_scheduler.specs.Schedule.{held}
-use Rattle.block_scheduler.specs.Saved.{KeepsParts, KeepsSchedule, fit, parts_of, parts_told_apart, put_parts}
+use Rattle.block_scheduler.specs.{Schedule.held, Saved.{KeepsParts, KeepsSchedule, fit, parts_of, parts_told_apart, put_parts}}
 use Rattle.block_scheduler.proofs.scheduler.saved.SchedulerSaved.restore.Goals as goal
 
 pub returns-in-Err : goal.returns-in-Err

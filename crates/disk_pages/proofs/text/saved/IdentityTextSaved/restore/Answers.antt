@@ -1,7 +1,6 @@
 use Rattle.std.proofs.Common.{sym}
 use Rattle.saved_state.specs.State.{parts_refused, rule_refused}
-use Rattle.disk_pages.specs.Saved.{AreBytes, KeepsText, bytes_apart, put_text}
-use Rattle.disk_pages.specs.Texts.{is_text}
+use Rattle.disk_pages.specs.{Saved.{AreBytes, KeepsText, bytes_apart, put_text}, Texts.is_text}
 use Rattle.disk_pages.proofs.text.saved.IdentityTextSaved.restore.Goals as goal
 
 pub returns-in-Err : goal.returns-in-Err

@@ -1,8 +1,6 @@
-use Rattle.std.proofs.Common.{◌∙◌, ap}
-use Rattle.std.proofs.lemmas.Result.{on_ok_weaker}
+use Rattle.std.proofs.{Common.{◌∙◌, ap}, lemmas.Result.on_ok_weaker}
 use Rattle.saved_state.specs.State.{put_number}
-use Rattle.guest_fetch.specs.Saved.{table_words}
-use Rattle.guest_fetch.specs.SavedCommands.{head_words}
+use Rattle.guest_fetch.specs.{Saved.table_words, SavedCommands.head_words}
 use Rattle.guest_fetch.proofs.command.saved.CommandSaved.save.Goals as goal
 
 pub returns-clause-words : goal.returns-clause-words

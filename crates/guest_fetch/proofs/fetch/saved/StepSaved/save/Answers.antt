@@ -1,5 +1,4 @@
-use Rattle.std.proofs.Common.{◌∷◌, ◌∙◌, ap}
-use Rattle.std.proofs.lemmas.Result.{on_ok_weaker}
+use Rattle.std.proofs.{Common.{◌∷◌, ◌∙◌, ap}, lemmas.Result.on_ok_weaker}
 use Rattle.guest_fetch.specs.SavedCommands.{head_words}
 use Rattle.guest_fetch.proofs.fetch.saved.StepSaved.save.Goals as goal
 

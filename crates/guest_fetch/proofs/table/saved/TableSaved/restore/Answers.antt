@@ -1,6 +1,5 @@
 use Rattle.std.proofs.Common.{◌≡◌, ◌∙◌, ap, sym, true, false}
-use Rattle.guest_fetch.specs.Saved.{is_table, of_table, table_keeps, table_parts, table_words}
-use Rattle.guest_fetch.specs.Spans.{IsTable, table_of}
+use Rattle.guest_fetch.specs.{Saved.{is_table, of_table, table_keeps, table_parts, table_words}, Spans.{IsTable, table_of}}
 use Rattle.guest_fetch.proofs.SavedLemmas.{fit_keeps, keeps_fit, spans_again}
 use Rattle.saved_state.specs.State.{parts_refused, rule_refused}
 use Rattle.guest_fetch.proofs.table.saved.TableSaved.restore.Goals as goal

@@ -1,5 +1,4 @@
-use Rattle.std.proofs.Common.{◌≡◌, ◌∙◌, ap, sym}
-use Rattle.std.proofs.lemmas.Result.{on_ok_weaker}
+use Rattle.std.proofs.{Common.{◌≡◌, ◌∙◌, ap, sym}, lemmas.Result.on_ok_weaker}
 use Rattle.saved_state.specs.State.{put_list, put_number}
 use Rattle.guest_fetch.specs.Saved.{span_words}
 use Rattle.guest_fetch.proofs.SavedLemmas.{spans_again}

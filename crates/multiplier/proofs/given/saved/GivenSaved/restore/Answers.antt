@@ -1,5 +1,4 @@
-use Rattle.std.proofs.Common.{◌≡◌, ◌∷◌, rules, arith}
-use Rattle.std.proofs.lemmas.Grind.{common_steps}
+use Rattle.std.proofs.{Common.{◌≡◌, ◌∷◌, rules, arith}, lemmas.Grind.common_steps}
 use Rattle.multiplier.proofs.SavedLemmas.{down_refused, up_refused}
 use Rattle.multiplier.proofs.given.saved.GivenSaved.restore.Goals as goal
 

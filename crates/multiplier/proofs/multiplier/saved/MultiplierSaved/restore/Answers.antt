@@ -1,6 +1,5 @@
 use Rattle.std.proofs.Common.{sym}
-use Rattle.multiplier.specs.State.{PmState}
-use Rattle.multiplier.specs.Saved.{KeepsMultiplier, KeepsParts, Parts, parts_are_apart, parts_fit, parts_of, put_parts}
+use Rattle.multiplier.specs.{State.PmState, Saved.{KeepsMultiplier, KeepsParts, Parts, parts_are_apart, parts_fit, parts_of, put_parts}}
 use Rattle.multiplier.proofs.SavedLemmas.{fit_sound, sound_fits}
 use Rattle.saved_state.specs.State.{parts_refused, rule_refused}
 use Rattle.multiplier.proofs.multiplier.saved.MultiplierSaved.restore.Goals as goal

@@ -1,6 +1,5 @@
 use Rattle.std.proofs.Common.{sym}
-use Rattle.port_errors.specs.Errors.{AreErrors}
-use Rattle.port_errors.specs.Saved.{KeepsParts, errors_keep, fit, parts_are_apart, parts_of, put_parts}
+use Rattle.port_errors.specs.{Errors.AreErrors, Saved.{KeepsParts, errors_keep, fit, parts_are_apart, parts_of, put_parts}}
 use Rattle.port_errors.proofs.SavedLemmas.{fit_keeps, keeps_fit}
 use Rattle.saved_state.specs.State.{parts_refused, rule_refused}
 use Rattle.port_errors.proofs.errors.saved.PortErrorsSaved.restore.Goals as goal

@@ -1,5 +1,4 @@
-use Rattle.std.proofs.Common.{refl, sym, ◌∙◌, subst}
-use Rattle.std.proofs.lemmas.Bool.{false≢true}
+use Rattle.std.proofs.{Common.{refl, sym, ◌∙◌, subst}, lemmas.Bool.{false≢true}}
 use Rattle.saved_state.specs.State.{put_number}
 use Rattle.slots.specs.Saved.{AreRuns, IsDword, KeepsOver, KeepsStretch, put_over, put_stretch}
 use Rattle.slots.proofs.SavedLemmas.{dwords_gone, list_refused, over_gone, over_is, refused, runs_gone}

@@ -1,5 +1,4 @@
-use Rattle.std.proofs.Common.{◌≤◌, length, arith, ap, ◌∙◌}
-use Rattle.std.proofs.lemmas.Result.{on_ok_weaker}
+use Rattle.std.proofs.{Common.{◌≤◌, length, arith, ap, ◌∙◌}, lemmas.Result.on_ok_weaker}
 use Rattle.saved_state.specs.State.{put_list, put_number}
 use Rattle.slots.specs.Saved.{put_stretch}
 use Rattle.slots.proofs.SavedLemmas.{over_kept, over_words}

@@ -1,7 +1,5 @@
 use Rattle.std.proofs.Common.{◌≡◌, List, Option, ap, subst, sym, ◌∙◌}
-use Rattle.slots.specs.Saved.{KeepsTableParts, put_table, put_table_parts, table_keeps, table_parts, table_parts_apart}
-use Rattle.slots.specs.Slots.{Issue}
-use Rattle.slots.specs.Table.{IsTable}
+use Rattle.slots.specs.{Saved.{KeepsTableParts, put_table, put_table_parts, table_keeps, table_parts, table_parts_apart}, Slots.Issue, Table.IsTable}
 use Rattle.slots.specs.Tested.{is_table}
 use Rattle.saved_state.specs.State.{parts_refused, rule_refused}
 use Rattle.slots.proofs.TestedLemmas.{is_then_table, table_is}
