@@ -152,6 +152,21 @@ static inline void begin_with(const gef_disk_profile *profile) {
     bring_up(0);
 }
 
+/* A machine with so many such disks behind its multiplier, each with a serial number of its own. */
+static inline void begin_behind(uint8_t ports, gef_disk_profile profile) {
+    char serial[] = "DISK A";
+    uint8_t port;
+    profile.serial = serial;
+    must("new", gef_machine_new(&machine, ports, 0));
+    for (port = 0; port < ports; port++) {
+        serial[5] = (char)('A' + port);
+        must("put", gef_machine_put_disk(&machine, port, &profile));
+        must("plug", gef_machine_plug(&machine, port));
+    }
+    must("power", gef_machine_power_on(&machine));
+    bring_up(ports);
+}
+
 /* The state of the machine, in memory of its own. */
 static inline uint8_t *state_of(size_t *len) {
     uint8_t *bytes;

@@ -2,7 +2,7 @@
  * A disk over a file (gefsunk_files.h), where calls on the file are short, are interrupted, or fail: what the guest hears, and what
  * the file has. `files` takes no argument.
  *
- * Link it with -Wl,--wrap=pread,--wrap=pwrite,--wrap=fdatasync. Status 1 where something is not so.
+ * Link it with -Wl,--wrap=pread,--wrap=pwrite,--wrap=fdatasync,--wrap=fallocate. Status 1 where something is not so.
  */
 #define _GNU_SOURCE
 #include "gefsunk_files.h"
@@ -26,6 +26,14 @@ int __real_fdatasync(int fd);
 ssize_t __wrap_pread(int fd, void *bytes, size_t len, off_t at);
 ssize_t __wrap_pwrite(int fd, const void *bytes, size_t len, off_t at);
 int __wrap_fdatasync(int fd);
+int __wrap_fallocate(int fd, int mode, off_t at, off_t len);
+
+enum { MOST_HOLES = 4 };
+static struct {
+    int mode;
+    off_t at, len;
+} holes[MOST_HOLES]; /* what fallocate was asked for */
+static unsigned holes_asked;
 
 static int is_failing(void) {
     if (++calls != failing) return 0;
@@ -44,6 +52,15 @@ ssize_t __wrap_pwrite(int fd, const void *bytes, size_t len, off_t at) {
 
 int __wrap_fdatasync(int fd) {
     return is_failing() ? -1 : __real_fdatasync(fd);
+}
+
+/* No hole is made, so what is asked for shows on any file system. */
+int __wrap_fallocate(int fd, int mode, off_t at, off_t len) {
+    if (fd != file || holes_asked >= MOST_HOLES) fail("a hole", holes_asked);
+    holes[holes_asked].mode = mode;
+    holes[holes_asked].at = at;
+    holes[holes_asked++].len = len;
+    return 0;
 }
 
 /* ---- the guest ---------------------------------------------------------------------------------------------------- */
@@ -110,6 +127,22 @@ static void is_late_for(const char *what, uint8_t code, uint8_t byte) {
     has(what, byte, 8);
 }
 
+/* A hole for each range of a discard, of just its sectors, and the file keeps its length. */
+static void makes_holes(void) {
+    static const uint8_t ranges[16] = {8, 0, 0, 0, 0, 0, 8, 0, 20, 0, 0, 0, 0, 0, 2, 0};
+    unsigned at;
+    memset(memory + data_of(0), 0, 512);
+    memcpy(memory + data_of(0), ranges, sizeof ranges);
+    holes_asked = 0;
+    hears("a discard", TRIM, 0, 0, 0, 0);
+    if (holes_asked != 2) fail("holes", holes_asked);
+    for (at = 0; at < 2; at++) {
+        if (holes[at].mode != (FALLOC_FL_PUNCH_HOLE | FALLOC_FL_KEEP_SIZE)) fail("a hole's mode", (unsigned long)holes[at].mode);
+        if (holes[at].at != 512 * ranges[8 * at] || holes[at].len != 512 * ranges[8 * at + 6]) fail("a hole's place", at);
+    }
+    holes_asked = 0;
+}
+
 static void make(void) {
     gef_disk_profile profile = {"FILES", "1", "1", 0, 0, 512, 1, 32, 1, GEF_LEAST_LIMIT};
     char name[] = "/tmp/gefsunk-files-XXXXXX";
@@ -121,7 +154,6 @@ static void make(void) {
 }
 
 int main(void) {
-    static const uint8_t range[8] = {8, 0, 0, 0, 0, 0, 8, 0};
     unsigned at;
     make();
     memset(memory + data_of(0), 0xA5, 4096);
@@ -139,9 +171,7 @@ int main(void) {
     }
     hears("a flush", FLUSH, 0, 0, 0, 0);
     hears("a flush that fails", FLUSH, 1, EIO, GEF_ABRT, 0);
-    memset(memory + data_of(0), 0, 512);
-    memcpy(memory + data_of(0), range, sizeof range);
-    hears("a discard", TRIM, 0, 0, 0, 0);
+    makes_holes();
     is_late_for("a late discard", TRIM, 0x51);
     memset(memory + data_of(0), 0x52, 4096);
     is_late_for("a late store", WRITE, 0x53);

@@ -201,19 +201,9 @@ static void look(void) {
 }
 
 static void begin(void) {
-    gef_disk_profile profile = {"KILLED", 0, "1", SECTORS, 0, 512, 1, 32, 0, GEF_LEAST_LIMIT};
-    char serial[] = "DISK A";
-    uint8_t port;
-    profile.serial = serial;
+    const gef_disk_profile profile = {"KILLED", 0, "1", SECTORS, 0, 512, 1, 32, 0, GEF_LEAST_LIMIT};
     memcpy(held, shared->kept, sizeof held);
-    must("new", gef_machine_new(&machine, PORTS, 0));
-    for (port = 0; port < PORTS; port++) {
-        serial[5] = (char)('A' + port);
-        must("put", gef_machine_put_disk(&machine, port, &profile));
-        must("plug", gef_machine_plug(&machine, port));
-    }
-    must("power", gef_machine_power_on(&machine));
-    bring_up(PORTS);
+    begin_behind(PORTS, profile);
     plain(UNCACHED, 0xEF, 0x82, 0, 0, 0, 0); /* SET FEATURES: the write cache is off */
 }
 

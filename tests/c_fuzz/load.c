@@ -66,21 +66,11 @@ static int step(void) {
 
 static void begin(const load *of) {
     gef_disk_profile profile = {"LOAD", 0, "1", 0, 0, 512, 1, 32, 0, GEF_LEAST_LIMIT};
-    char serial[] = "DISK A";
-    uint8_t port;
     memset(memory, 0, sizeof memory);
     memset(slots, 0, sizeof slots);
     memset(versions, 0, sizeof versions);
-    profile.serial = serial;
     profile.sectors = of->sectors;
-    must("new", gef_machine_new(&machine, PORTS, 0));
-    for (port = 0; port < PORTS; port++) {
-        serial[5] = (char)('A' + port);
-        must("put", gef_machine_put_disk(&machine, port, &profile));
-        must("plug", gef_machine_plug(&machine, port));
-    }
-    must("power", gef_machine_power_on(&machine));
-    bring_up(PORTS);
+    begin_behind(PORTS, profile);
 }
 
 /* ---- the load ----------------------------------------------------------------------------------------------------- */
