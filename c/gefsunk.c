@@ -45,7 +45,7 @@ uint32_t gefsunk_disk_answer_loaded(gef_disk *disk, const gef_request *request, 
 uint32_t gefsunk_disk_answer_done(gef_disk *disk, const gef_request *request);
 uint32_t gefsunk_disk_answer_failed(gef_disk *disk, const gef_request *request, uint32_t error, uint64_t lba);
 uint32_t gefsunk_disk_stored(gef_disk *disk, const gef_request *request, size_t from, uint8_t *bytes, size_t room, size_t *len);
-uint32_t gefsunk_disk_discarded(gef_disk *disk, size_t number, gef_range *range);
+uint32_t gefsunk_disk_discarded(gef_disk *disk, const gef_request *request, size_t number, gef_range *range);
 uint32_t gefsunk_machine_new(gef_machine *machine, uint8_t ports, uint32_t port_0_open);
 uint32_t gefsunk_machine_free(gef_machine *machine);
 uint32_t gefsunk_machine_read(gef_machine *machine, uint32_t offset, uint32_t width, uint64_t *value);
@@ -264,8 +264,8 @@ gef_status gef_disk_stored(gef_disk *disk, const gef_request *request, size_t fr
     return disk && request && bytes && len ? (gef_status)gefsunk_disk_stored(disk, request, from, bytes, room, len) : GEF_NULL;
 }
 
-gef_status gef_disk_discarded(gef_disk *disk, size_t number, gef_range *range) {
-    return disk && range ? (gef_status)gefsunk_disk_discarded(disk, number, range) : GEF_NULL;
+gef_status gef_disk_discarded(gef_disk *disk, const gef_request *request, size_t number, gef_range *range) {
+    return disk && request && range ? (gef_status)gefsunk_disk_discarded(disk, request, number, range) : GEF_NULL;
 }
 
 gef_status gef_machine_new(gef_machine *machine, uint8_t ports, uint32_t port_0_open) {

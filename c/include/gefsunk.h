@@ -360,15 +360,17 @@ gef_status gef_disk_answer_failed(gef_disk *disk, const gef_request *request, ui
 
 /*
  * Copies bytes of a store into the room, from an offset on, as many as there are and fit, and their number into *len. They are
- * there until the store is answered, or a reset, a plug or an error ends it: copy them before you ask for the next event.
+ * there until the store is answered, or a reset, a plug or an error ends it; from then on GEF_NOT_OUT says that they are gone, and so
+ * of any request that is no store. GEF_OTHER_KIND: a flush or a discard that is of no command of the queue.
  * Can return GEF_CLOSED, GEF_NOT_OUT, GEF_OTHER_KIND.
  */
 gef_status gef_disk_stored(gef_disk *disk, const gef_request *request, size_t from, uint8_t *bytes, size_t room, size_t *len);
 
 /*
- * Gives the range of a discard that has this number, counted from 0. Can return GEF_CLOSED, GEF_NOTHING (it has no more).
+ * Gives the range of a discard that has this number, counted from 0. GEF_NOT_OUT: they are gone as the bytes of a store are.
+ * Can return GEF_CLOSED, GEF_NOT_OUT, GEF_NOTHING (it has no more).
  */
-gef_status gef_disk_discarded(gef_disk *disk, size_t number, gef_range *range);
+gef_status gef_disk_discarded(gef_disk *disk, const gef_request *request, size_t number, gef_range *range);
 
 /* ---- a machine ---------------------------------------------------------------------------------------------------- */
 
@@ -521,17 +523,17 @@ gef_status gef_machine_answer_failed(gef_machine *machine, const gef_request *re
 
 /*
  * Copies bytes of a store into the room, from an offset on, as many as there are and fit, and their number into *len. They are
- * there until the store is answered, or its disk is reset or pulled, or an error ends its command: copy them before you ask for
- * the next event: behind that they may be those of another command. GEF_NOT_OUT: they are gone, and the store is still to be answered if it
- * was not. A load has none.
+ * there until the store is answered, or its disk is reset or pulled, or an error ends its command. GEF_NOT_OUT: they are gone, and the
+ * store is still to be answered if it was not; so it is of any request that is no store. The bytes are never those of another request.
  * Can return GEF_CLOSED, GEF_OTHER_DISK, GEF_NOT_OUT, GEF_OTHER_KIND.
  */
 gef_status gef_machine_stored(gef_machine *machine, const gef_request *request, size_t from, uint8_t *bytes, size_t room,
                               size_t *len);
 
 /*
- * Gives the range of the disk's discard that has this number, counted from 0. Copy them before you ask for the next event.
- * Can return GEF_CLOSED, GEF_OTHER_DISK, GEF_NOTHING (it has no more).
+ * Gives the range of a discard that has this number, counted from 0. GEF_NOT_OUT: they are gone as the bytes of a store are, and the
+ * discard is still to be answered if it was not.
+ * Can return GEF_CLOSED, GEF_OTHER_DISK, GEF_NOT_OUT, GEF_NOTHING (it has no more).
  */
 gef_status gef_machine_discarded(gef_machine *machine, const gef_request *request, size_t number, gef_range *range);
 

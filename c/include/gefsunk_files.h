@@ -84,7 +84,7 @@ static inline gef_status gef_files_flush(gef_machine *machine, int file, const g
     return fdatasync(file) ? gef_machine_answer_failed(machine, request, GEF_ABRT, 0) : gef_machine_answer_done(machine, request);
 }
 
-/* Holes in the file. One that cannot be made is none: what a discard leaves behind is open. */
+/* Holes in the file. One that cannot be made is none: what a discard leaves behind is open. One that a reset dropped fails, as a store does. */
 static inline gef_status gef_files_discard(gef_machine *machine, int file, const gef_event *event) {
     const gef_request *request = &event->u.medium.request;
 #ifdef FALLOC_FL_PUNCH_HOLE
@@ -93,6 +93,7 @@ static inline gef_status gef_files_discard(gef_machine *machine, int file, const
     size_t at = 0;
     while ((status = gef_machine_discarded(machine, request, at++, &range)) == GEF_OK)
         (void)!fallocate(file, FALLOC_FL_PUNCH_HOLE | FALLOC_FL_KEEP_SIZE, (off_t)(range.lba * 512), (off_t)(range.count * 512));
+    if (status == GEF_NOT_OUT) return gef_machine_answer_failed(machine, request, GEF_ABRT, 0);
     if (status != GEF_NOTHING) return status;
 #else
     (void)file;
@@ -101,10 +102,9 @@ static inline gef_status gef_files_discard(gef_machine *machine, int file, const
 }
 
 /*
- * Does what an event asks of a medium that is this file, and answers. The room has GEF_FILES_ROOM bytes. Pass it each event before you ask
- * for the next one: later the bytes of a store may be another command's. One that comes behind a reset or a pull all the same is to be passed,
- * too, since a store or a discard keeps its sectors until it is answered. It returns what the machine says: GEF_OK; GEF_OTHER_DISK or
- * GEF_NOT_OUT where nobody waits any more; GEF_NO_MEMORY: then call it again with the event.
+ * Does what an event asks of a medium that is this file, and answers. The room has GEF_FILES_ROOM bytes. One that comes behind a reset or a
+ * pull is to be passed, too, since a store or a discard keeps its sectors until it is answered. It returns what the machine says: GEF_OK;
+ * GEF_OTHER_DISK or GEF_NOT_OUT where nobody waits any more; GEF_NO_MEMORY: then call it again with the event.
  */
 static inline gef_status gef_files_serve(gef_machine *machine, int file, uint8_t *room, const gef_event *event) {
     switch (event->kind) {

@@ -154,10 +154,10 @@ static void begin_discard(Work *work)
     GefsunkAhci *s = gefsunk_controller_of(work->disk);
     gef_range range;
     int64_t at, len;
-    gef_status status = work->disk->fis ? gef_disk_discarded(&work->disk->link.disk, work->at, &range) :
+    gef_status status = work->disk->fis ? gef_disk_discarded(&work->disk->link.disk, &work->event.u.medium.request, work->at, &range) :
                         gef_machine_discarded(&s->machine, &work->event.u.medium.request, work->at, &range);
     if (status != GEF_OK) {
-        gefsunk_answer(work, true, 0);
+        gefsunk_answer(work, status == GEF_NOTHING, 0);
         return;
     }
     at = range.lba * BDRV_SECTOR_SIZE;

@@ -35,8 +35,8 @@ pub struct Disk {
     owned: Owned<ffi::Disk>,
 }
 
-asks!(Disk, |disk, _request, number, range| {
-    ffi::gef_disk_discarded(disk, number, range)
+asks!(Disk, |disk, request, number, range| {
+    ffi::gef_disk_discarded(disk, &request.0, number, range)
 });
 
 impl Disk {

@@ -196,7 +196,7 @@ unsafe extern "C" {
     safe fn gef_disk_answer_done(disk: &mut Handle, request: &Request) -> c_int;
     safe fn gef_disk_answer_failed(disk: &mut Handle, request: &Request, error: u32, lba: u64) -> c_int;
     fn gef_disk_stored(disk: &mut Handle, request: &Request, from: usize, bytes: *mut u8, room: usize, len: &mut usize) -> c_int;
-    pub(crate) safe fn gef_disk_discarded(disk: &mut Handle, number: usize, range: &mut Range) -> c_int;
+    pub(crate) safe fn gef_disk_discarded(disk: &mut Handle, request: &Request, number: usize, range: &mut Range) -> c_int;
 
     pub(crate) safe fn gef_machine_new(machine: &mut Handle, ports: u8, port_0_open: u32) -> c_int;
     safe fn gef_machine_free(machine: &mut Handle) -> c_int;

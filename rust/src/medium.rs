@@ -260,7 +260,7 @@ pub trait Asks: sealed::Sealed {
     fn failed(&mut self, request: &Request, failure: Failure) -> Result<(), Error>;
 
     /// Copies bytes of a store, from an offset on, as many as there are and fit, and says how many they are. They are there until the
-    /// store is answered, or its disk is reset, plugged in or pulled.
+    /// store is answered, or its disk is reset, plugged in or pulled. They are never those of another request.
     ///
     /// # Errors
     /// [`Error::OtherDisk`], [`Error::NotOut`] and [`Error::OtherKind`].
@@ -269,7 +269,7 @@ pub trait Asks: sealed::Sealed {
     /// The range of a discard that has this number, counted from 0; `None` where it has no more.
     ///
     /// # Errors
-    /// [`Error::OtherDisk`].
+    /// [`Error::OtherDisk`] and [`Error::NotOut`].
     fn discarded(&mut self, request: &Request, number: usize)
         -> Result<Option<SectorRange>, Error>;
 
@@ -320,10 +320,14 @@ pub trait Asks: sealed::Sealed {
                 medium.store(*request, lba, bytes)
             }
             Work::Flush => without_sector(medium.flush(*request)),
-            Work::Discard => {
-                let ranges = all_ranges(self, request)?;
-                without_sector(medium.discard(*request, &ranges))
-            }
+            Work::Discard => match all_ranges(self, request) {
+                // A reset dropped them, as the bytes of a store.
+                Err(Error::NotOut) => {
+                    let fault = Fault::Aborted;
+                    return self.failed(request, Failure { fault, lba: 0 });
+                }
+                ranges => without_sector(medium.discard(*request, &ranges?)),
+            },
         };
         match reply {
             Ok(Reply::Done) => self.done(request),

@@ -135,6 +135,7 @@ static void answer(size_t number) {
     unsigned port = requests[number].port;
     gef_event event = requests[number].event;
     gef_status status;
+    size_t len;
     requests[number] = requests[--request_count];
     fill(bytes, port, event.u.medium.lba, event.u.medium.count);
     if (event.kind == GEF_EVENT_LOAD)
@@ -143,6 +144,8 @@ static void answer(size_t number) {
         CALL(status, gef_disk_answer_done(&disks[port], &event.u.medium.request));
     must("an answer", status);
     if (gef_disk_answer_done(&disks[port], &event.u.medium.request) != GEF_NOT_OUT) fail("an answer that comes twice", port);
+    if (event.kind == GEF_EVENT_STORE && gef_disk_stored(&disks[port], &event.u.medium.request, 0, bytes, sizeof bytes, &len) != GEF_NOT_OUT)
+        fail("bytes of a store that was answered", port);
 }
 
 /* ---- what moves --------------------------------------------------------------------------------------------------- */

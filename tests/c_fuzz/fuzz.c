@@ -231,8 +231,8 @@ static int answer(gef_disk *disk, gef_machine *machine, asked *events, uint32_t 
         return len <= room && after(status, good, open, others);
     default:
         other = next() & 3;
-        status = machine ? gef_machine_discarded(machine, &request, other, &range) : gef_disk_discarded(disk, other, &range);
-        return after(status, good | (open & BIT(GEF_NOTHING)), open, other_disk);
+        status = OF_EITHER(discarded, &request, other, &range);
+        return after(status, good | (open & BIT(GEF_NOTHING)), open, other_disk | AFTER(GEF_NOT_OUT));
     }
 }
 
@@ -470,6 +470,7 @@ static int nulls(void) {
     gef_machine machine = GEF_MACHINE_CLOSED;
     gef_request request = {0};
     gef_disk_profile profile = {0};
+    gef_range range;
     uint8_t bytes[GEF_FIS_ROOM], port;
     uint64_t value;
     size_t len;
@@ -484,7 +485,8 @@ static int nulls(void) {
         gef_disk_answer_loaded(&disk, &request, 0, 0), gef_disk_answer_done(&disk, 0),
         gef_disk_answer_failed(&disk, 0, GEF_ABRT, 0), gef_disk_stored(&disk, 0, 0, bytes, 0, &len),
         gef_disk_stored(&disk, &request, 0, 0, 0, &len), gef_disk_stored(&disk, &request, 0, bytes, 0, 0),
-        gef_disk_discarded(&disk, 0, 0), gef_machine_new(0, 0, 0), gef_machine_free(0), gef_machine_read(&machine, 0, 4, 0),
+        gef_disk_discarded(&disk, 0, 0, &range), gef_disk_discarded(&disk, &request, 0, 0), gef_machine_new(0, 0, 0),
+        gef_machine_free(0), gef_machine_read(&machine, 0, 4, 0),
         gef_machine_read(0, 0, 4, &value), gef_machine_write(0, 0, 4, 0), gef_machine_put_disk(&machine, 0, 0),
         gef_machine_put_disk(&machine, 0, &profile), gef_machine_next(&machine, 0), gef_machine_lent(&machine, 0, 0, &len),
         gef_machine_lent(&machine, bytes, 0, 0), gef_machine_supply(&machine, 0, bytes, 0), gef_machine_no_memory(&machine, 0),

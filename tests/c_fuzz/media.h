@@ -23,6 +23,25 @@ static uint32_t has_disk;  /* bit n: a disk is at port n */
 static uint32_t is_in;     /* bit n: what is at port n is plugged in */
 static uint32_t is_ending; /* bit n: something ends all that is under way at port n, also what its disk asks for until the guest knows */
 
+/* Bytes and ranges are of the request that is out, and of no other number. */
+static void check_other(const gef_event *event) {
+    static uint8_t bytes[512];
+    gef_request it = event->u.medium.request;
+    size_t len = 7;
+    gef_range range;
+    gef_status status = gef_machine_stored(&machine, &it, 0, bytes, sizeof bytes, &len);
+    if (event->kind == GEF_EVENT_LOAD && status != GEF_NOT_OUT) fail("bytes of a load", status);
+    if (event->kind == GEF_EVENT_DISCARD && status == GEF_OK) fail("bytes of a discard", status);
+    status = gef_machine_discarded(&machine, &it, 0, &range);
+    if (event->kind != GEF_EVENT_DISCARD && status != GEF_NOT_OUT) fail("ranges of another kind", status);
+    it.number--;
+    status = gef_machine_stored(&machine, &it, 0, bytes, sizeof bytes, &len);
+    if (status == GEF_OK || (event->kind == GEF_EVENT_STORE && status != GEF_NOT_OUT)) fail("bytes of an earlier number", status);
+    status = gef_machine_discarded(&machine, &it, 0, &range);
+    if (status != GEF_NOT_OUT) fail("ranges of an earlier number", status);
+    if (event->kind == GEF_EVENT_LOAD && len != 7) fail("a refused call wrote a length", (unsigned long)len);
+}
+
 /* The bytes of a store, in two pieces, are those of its sectors. */
 static void check_store(const gef_event *event) {
     static uint8_t bytes[2048 * 512], wanted[512];
@@ -79,6 +98,7 @@ static void ask(const gef_event *event) {
     if (has_sectors) check_apart(event);
     if (event->kind == GEF_EVENT_STORE) check_store(event);
     if (event->kind == GEF_EVENT_DISCARD) check_discard(event);
+    check_other(event);
     if (request_count == REQUESTS) requests[pick(REQUESTS)] = requests[--request_count]; /* one is never answered */
     requests[request_count].event = *event;
     requests[request_count].is_stale = !is_honest || is_ending >> event->port & 1;
@@ -131,6 +151,8 @@ static int may_be_gone(const request *it, gef_status status) {
 static void answer(size_t number, int is_error) {
     request it = requests[number];
     uint32_t error = it.event.kind == GEF_EVENT_LOAD ? GEF_UNC : GEF_ABRT;
+    uint8_t byte;
+    size_t len;
     gef_status status;
     requests[number] = requests[--request_count];
     if (!it.is_stale && !pick(4)) answer_wrongly(&it.event);
@@ -139,6 +161,8 @@ static void answer(size_t number, int is_error) {
     else
         status = answer_well(&it.event);
     if (status != GEF_OK && !may_be_gone(&it, status)) fail("an answer", status);
+    if (it.event.kind == GEF_EVENT_STORE && gef_machine_stored(&machine, &it.event.u.medium.request, 0, &byte, 1, &len) == GEF_OK)
+        fail("bytes of a store that was answered", (unsigned long)number);
     if (pick(8)) return;
     status = answer_well(&it.event);
     if (status != GEF_NOT_OUT && status != GEF_OTHER_DISK) fail("an answer that comes twice", status);

@@ -1,9 +1,9 @@
 -- What the caller answers: bytes of its guest (AHCI 1.3.1, 5.3, what a port fetches), and what its media did.
-use Rattle.std.specs.{Bool.MatchBool, Prelude.{◌≡◌, ◌||◌, ◌&&◌, ◌==◌, ℕ, nat_lt, Bool, true, false, if◌then◌else◌, List, [], slice_set, Option, Some}}
+use Rattle.std.specs.{Bool.MatchBool, Prelude.{◌≡◌, ◌||◌, ◌&&◌, ◌==◌, ℕ, nat_lt, Bool, true, false, if◌then◌else◌, List, slice_set, Option, Some}}
 use Rattle.std.specs.{Prelude.{None, MatchOption, Result, Ok, MatchResult, IsOk, OnOk, OnErr}, Result.IsErrOf, declared.alloc.AllocError.AllocError}
 use Rattle.fis_view.specs.Frames.{Stamped}
 use Rattle.pm_ports.specs.declared.port.Offered.{Offered}
-use Rattle.block_engine.specs.{Engine.{answer_refusal, answered}, declared.request.{Answer.Answer, Range.Range}}
+use Rattle.block_engine.specs.{Engine.{answer_refusal, answered, discarded_at, stored_at}, declared.request.{Answer.Answer, Range.Range}}
 use Rattle.ahci_controller.specs.{Fetching.{AnswersTo, Misses}, States.ControllerState, declared.{feeding.Fed.Fed, issuing.Supply.Supply}}
 use Rattle.ahci_controller.specs.declared.issuing.Supply.TheVariants as supply
 use Rattle.block_queue.specs.Line.{command_at}
@@ -98,14 +98,17 @@ disk_in other = None
 abbrev pub disk_at : MachineState → MediumId → Option DiskState
 disk_at m id = if (bay_at m id.port).disk == id.disk then disk_in (bay_at m id.port).unit else None
 
--- the bytes of a store are those of its command
+-- a disk holds these bytes for the command of a place
 abbrev pub Holds : MachineState → MediumId → (place : ℕ) → List ℕ → Type 0
 Holds m id place bytes = MatchOption (disk_at m id) ⊥ (λ d. MatchOption (command_at (commands d) place) ⊥ (λ c. bytes ≡ c.bytes))
 
--- and the sectors of a discard the disk's
-abbrev pub ranges_in : Option DiskState → List Range
-ranges_in None = []
-ranges_in (Some d) = d.engine.ranges
+-- the bytes of the store that is out of the command of a place under the number of this request; of any other request there are none
+abbrev pub stored_of : MachineState → MediumId → (place : ℕ) → Option (List ℕ)
+stored_of m id place = match_some (disk_at m id) None (λ d. stored_at d.engine place id.number)
+
+-- and the sectors of the discard that is
+abbrev pub discarded_of : MachineState → MediumId → Option (List Range)
+discarded_of m id = match_some (disk_at m id) None (λ d. discarded_at d.engine id.number)
 
 -- it takes the answer by its own rule
 pub record AnswersDisk (id : MediumId) (answer : Answer) (d : DiskState) (old : MachineState) (result : Result (Unit {0}) MediumError)

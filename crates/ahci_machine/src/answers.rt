@@ -1,7 +1,7 @@
 //! What the caller answers.
 
-ghost use Rattle.std.specs.Prelude.{◌≡◌, ◌<◌, ◌||◌, IfSome, IsTrue, MatchOption, option_copied};
-ghost use Rattle.ahci_machine.specs.Answers.{AnswersMachine, Holds, MissesFor, MissesMachine, OffersFrame, SuppliesData, SuppliesMachine, TakesFrame, disk_at, is_wanted as is_wanted_of, ranges_in, supply_message, IsToldBy};
+ghost use Rattle.std.specs.Prelude.{◌≡◌, ◌<◌, ◌||◌, IfNone, IfSome, IsTrue, MatchOption, None, Some, option_copied};
+ghost use Rattle.ahci_machine.specs.Answers.{AnswersMachine, MissesFor, MissesMachine, OffersFrame, SuppliesData, SuppliesMachine, TakesFrame, discarded_of, disk_at, is_wanted as is_wanted_of, stored_of, supply_message, IsToldBy};
 ghost use Rattle.ahci_machine.specs.States.{gathering_at};
 
 use crate::bay::Unit;
@@ -192,24 +192,21 @@ impl Machine {
         }
     }
 
-    /// The bytes of a store, until it is answered.
+    /// The bytes of the store that asked by this request, of the command of this place, while it is out. Of one that a reset dropped
+    /// there are none.
     pub fn stored(&self, id: MediumId, place: u8) -> Option<&[u8]>
-        ensures { IfSome result (λ bytes. Holds self.now id place bytes.now) }
+        ensures some { IfSome result (λ bytes. stored_of self.now id place ≡ Some bytes.now) }
+        ensures none { IfNone result (stored_of self.now id place ≡ None) }
     {
-        if place >= 33 {
-            return None;
-        }
-        Some(self.disk(id)?.get(place)?.bytes())
+        self.disk(id)?.stored(place, id.number)
     }
 
-    /// The sectors of a discard, until it is answered.
-    pub fn discarded(&self, id: MediumId) -> &[Range]
-        ensures { result.now ≡ ranges_in (disk_at self.now id) }
+    /// The sectors of the discard that asked by this request, while it is out. Of one that a reset dropped there are none.
+    pub fn discarded(&self, id: MediumId) -> Option<&[Range]>
+        ensures some { IfSome result (λ ranges. discarded_of self.now id ≡ Some ranges.now) }
+        ensures none { IfNone result (discarded_of self.now id ≡ None) }
     {
-        match self.disk(id) {
-            Some(disk) => disk.ranges(),
-            None => &[],
-        }
+        self.disk(id)?.discarded(id.number)
     }
 
     /// The FIS for the device of the caller's own at a port.

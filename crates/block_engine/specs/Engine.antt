@@ -5,7 +5,7 @@ use Rattle.block_command.specs.declared.{answer.AnswerError.{AnswerError, TheVar
 use Rattle.block_command.specs.{declared.command.Turn.Turn, Moments.{Moment, is_storing, part_count, part_lba, runs, turn_of}, Laws.{Input, Loads}}
 use Rattle.block_command.specs.Laws.{Stores, Flushes, Fails}
 use Rattle.block_command.specs.declared.command.Turn.TheVariants as turn
-use Rattle.block_disk.specs.{Table.{is_under_way, starts_write_at}, Requests.{with_asked, with_drawn}}
+use Rattle.block_disk.specs.{Table.{is_under_way, starts_write_at}, Requests.{number_at, with_asked, with_drawn}}
 use Rattle.block_queue.specs.Line.{IsOldest, Line, PassesNowhere, awaits, command_at, first_below, line_answered, line_gone, line_refusal, line_reset}
 use Rattle.block_queue.specs.Line.{line_taken, may_send, with_queue}
 use Rattle.block_scheduler.specs.declared.scheduler.NextFis.TheVariants as fis
@@ -231,6 +231,20 @@ abbrev pub answered : EngineState → ℕ → Answer → EngineState
 answered e number (Loaded bytes) = loaded_at e (place_of e number) number bytes.items
 answered e number Done = done_at e (place_of e number) number
 answered e number (Failed f) = failed_by e (place_of e number) number f
+
+-- ## What is handed out of a request that is out, by its number
+
+abbrev pub bytes_to_store : Option Moment → Option (List ℕ)
+bytes_to_store None = None
+bytes_to_store (Some m) = if is_storing m.stage then Some m.bytes else None
+
+-- the bytes of the store of this number that is out of the command of a place
+abbrev pub stored_at : EngineState → (place number : ℕ) → Option (List ℕ)
+stored_at e p number = if nat_lt p 33 && is_number (number_at (line e).queue.out p) number then bytes_to_store (command_at (line e) p) else None
+
+-- the sectors of the discard of this number that is out of the command beside the queue
+abbrev pub discarded_at : EngineState → ℕ → Option (List Range)
+discarded_at e number = if is_discard e.kind && asks_for e.stage number then Some e.ranges else None
 
 -- ## Which FIS goes
 

@@ -10,7 +10,7 @@ ghost use Rattle.block_queue.specs.Line.{PassesNowhere, awaits, command_at, firs
 ghost use Rattle.block_scheduler.specs.Sets.{asks_at};
 ghost use Rattle.block_scheduler.specs.Schedule.{Schedule, ends_sent, held, is_quiet, line_sent, with_line};
 ghost use Rattle.block_engine.specs.Aside.{settled};
-ghost use Rattle.block_engine.specs.Engine.{AsksNothing, EngineState, IsEngineFis, IsEngineStart, IsRequested, MayGo, StartsWrite, answer_refusal, answered, aside_asked, aside_due, aside_sent, aside_taken, aside_what, beside_answered, beside_failed, beside_other, beside_refusal, discards, done_at, done_of, done_refusal, dropped_by, engine_reset, fail_refusal, failed_at, failed_by, failure_misfit, has_part, is_asked, is_beside, is_discard, is_in_part, line, load_refusal, loaded_at, may_ask, none_engaged, on_line, or_else, place_asked, runs_at, started, taken, what_at, what_of, with_schedule};
+ghost use Rattle.block_engine.specs.Engine.{AsksNothing, EngineState, IsEngineFis, IsEngineStart, IsRequested, MayGo, StartsWrite, answer_refusal, answered, aside_asked, aside_due, aside_sent, aside_taken, aside_what, beside_answered, beside_failed, beside_other, beside_refusal, discarded_at, discards, done_at, done_of, done_refusal, dropped_by, engine_reset, fail_refusal, failed_at, failed_by, failure_misfit, has_part, is_asked, is_beside, is_discard, is_in_part, line, load_refusal, loaded_at, may_ask, none_engaged, on_line, or_else, place_asked, runs_at, started, stored_at, taken, what_at, what_of, with_schedule};
 ghost use Rattle.block_engine.specs.declared.aside.AsideKind.TheVariants.{Flush, Discard};
 ghost use Rattle.block_engine.specs.declared.aside.AsideStage.TheVariants.{Idle};
 
@@ -219,6 +219,33 @@ impl Engine {
         ensures { result.now ≡ self.now.ranges }
     {
         self.ranges.as_slice()
+    }
+
+    /// The bytes of the store of this number, while it is out of the command of this place. Of one that a reset dropped there are none.
+    pub fn stored(&self, place: u8, number: u64) -> Option<&[u8]>
+        ensures some { IfSome result (λ bytes. stored_at self.now place number ≡ Some bytes.now) }
+        ensures none { IfNone result (stored_at self.now place number ≡ None) }
+    {
+        if place >= 33 || !is_number(self.scheduler.number(place), number) {
+            return None;
+        }
+        let command = self.scheduler.get(place)?;
+        if command.is_storing() {
+            Some(command.bytes())
+        } else {
+            None
+        }
+    }
+
+    /// The sectors of the discard of this number, while it is out. Of one that a reset dropped there are none.
+    pub fn discarded(&self, number: u64) -> Option<&[Range]>
+        ensures some { IfSome result (λ ranges. discarded_at self.now number ≡ Some ranges.now) }
+        ensures none { IfNone result (discarded_at self.now number ≡ None) }
+    {
+        match self.kind {
+            AsideKind::Discard if asks_for(self.stage, number) => Some(self.ranges.as_slice()),
+            AsideKind::Discard | AsideKind::Flush => None,
+        }
     }
 
     /// A command is taken, unless its place is under way. While the host has not read an error none is.

@@ -2,13 +2,11 @@
 use Rattle.std.specs.{Bool.MatchBool, Prelude.{◌≡◌, ◌≢◌, ℕ, zero, suc, ◌<◌, ◌==◌, ◌&&◌, ◌⊎◌, Bool, true, false, List, Option, Some, None}}
 use Rattle.std.specs.Prelude.{MatchOption}
 use Rattle.fis_view.specs.{Frames.is_frame, Seen.seen}
-use Rattle.block_command.specs.Moments.{Moment}
-use Rattle.block_queue.specs.Line.{command_at}
-use Rattle.block_engine.specs.{Engine.{EngineState, IsEngineStart, IsRequested, answer_refusal, answered, started}, declared.request.Answer.Answer}
-use Rattle.block_engine.specs.declared.request.{Answer.TheVariants.Failed, Request.Request}
-use Rattle.sata_disk.specs.{Hearing.{MayHear, fis_heard, fis_unheard, plugged}, Sending.{IsFis, IsOut, after_sent}, State.{DiskState, commands}}
+use Rattle.block_engine.specs.Engine.{EngineState, IsEngineStart, IsRequested, answer_refusal, answered, discarded_at, started, stored_at}
+use Rattle.block_engine.specs.declared.request.{Answer.{Answer, TheVariants.Failed}, Request.Request}
+use Rattle.sata_disk.specs.{Hearing.{MayHear, fis_heard, fis_unheard, plugged}, Sending.{IsFis, IsOut, after_sent}, State.DiskState}
 use Rattle.sata_disk.specs.declared.out.Out.{Out}
-use Rattle.gefsunk.specs.{Media.{IsLoaded, RangeRule, error_of, medium_shown, misfit_of, piece, place_named, plain}, declared.event.Event.Event}
+use Rattle.gefsunk.specs.{Media.{IsLoaded, PieceRule, RangeRule, error_of, medium_shown, misfit_of, place_named, plain}, declared.event.Event.Event}
 use Rattle.gefsunk.specs.declared.{event.MediumRequest.MediumRequest, medium.SectorRange.SectorRange, status.Status.Status}
 use Rattle.gefsunk.specs.declared.status.Status.TheVariants as status
 
@@ -129,17 +127,16 @@ DiskFailed old r error lba answer new =
 
 -- ---- what goes to the medium
 
--- the bytes of a store are those of its command
-abbrev pub Holds : Option Moment → (from room : ℕ) → Status → List ℕ → Type 0
-Holds None from room answer got = answer ≡ status.NotOut
-Holds (Some m) from room answer got = (answer ≡ status.Done) × (got ≡ piece m.bytes from room)
-
+-- the bytes of a store are those of its request, while it is out
 abbrev pub DiskStored : DiskState → MediumRequest → (from room : ℕ) → Status → List ℕ → Type 0
 DiskStored d r from room answer got =
     MatchBool (is_own r)
-    (MatchOption (place_named r) (answer ≡ status.OtherKind) (λ p. Holds (command_at (commands d) p) from room answer got))
+    (MatchOption (place_named r) (answer ≡ status.OtherKind) (λ p. PieceRule (stored_at d.engine p r.number) from room answer got))
     (answer ≡ status.NotOut)
 
--- and the sectors of a discard the disk's
-abbrev pub DiskDiscarded : DiskState → (number : ℕ) → Status → SectorRange → Type 0
-DiskDiscarded d number answer got = RangeRule d.engine.ranges number answer got
+-- and so are the sectors of a discard
+abbrev pub DiskDiscarded : DiskState → MediumRequest → (number : ℕ) → Status → SectorRange → Type 0
+DiskDiscarded d r number answer got =
+    MatchBool (is_own r)
+    (MatchOption (discarded_at d.engine r.number) (answer ≡ status.NotOut) (λ ranges. RangeRule ranges number answer got))
+    (answer ≡ status.NotOut)

@@ -6,15 +6,15 @@ use Rattle.block_engine.specs.declared.request.Answer.{Answer, TheVariants.Faile
 use Rattle.sata_disk.specs.State.{DiskState}
 use Rattle.ahci_controller.specs.{Wide.read_wide, declared.access.Width.{Width, TheVariants.{Byte, Word, Dword, Qword}}}
 use Rattle.ahci_controller.specs.declared.wide.WideWritten.{WideWritten}
-use Rattle.ahci_machine.specs.{Acts.{Asks, Moves, unlent}, Answers.{AnswersMachine, Holds, MissesMachine, OffersFrame, SuppliesMachine, TakesFrame}}
-use Rattle.ahci_machine.specs.{Answers.{disk_at, ranges_in}, Ports.{PlugsMachine, PullsMachine, Puts, Removes}, Registers.{WritesMachine, lent_bytes}}
-use Rattle.ahci_machine.specs.{Registers.powered, States.{IsOpeningMachine, MachineState}, declared.answers.{MediumError.MediumError, Told.Told}}
-use Rattle.ahci_machine.specs.declared.{bay.Unit.{Unit as Inside, TheVariants.Disk}, ports.PortFault.PortFault, request.MediumId.MediumId}
-use Rattle.ahci_machine.specs.declared.request.{Request.Request, Wanted.{Wanted, TheVariants.{Command, Data}}}
+use Rattle.ahci_machine.specs.{Acts.{Asks, Moves, unlent}, Answers.{AnswersMachine, MissesMachine, OffersFrame, SuppliesMachine, TakesFrame}}
+use Rattle.ahci_machine.specs.{Answers.{discarded_of, stored_of}, Ports.{PlugsMachine, PullsMachine, Puts, Removes}, Registers.WritesMachine}
+use Rattle.ahci_machine.specs.{Registers.{lent_bytes, powered}, States.{IsOpeningMachine, MachineState}, declared.answers.MediumError.MediumError}
+use Rattle.ahci_machine.specs.declared.{answers.Told.Told, bay.Unit.{Unit as Inside, TheVariants.Disk}, ports.PortFault.PortFault}
+use Rattle.ahci_machine.specs.declared.request.{MediumId.MediumId, Request.Request, Wanted.{Wanted, TheVariants.{Command, Data}}}
 use Rattle.ahci_machine.specs.declared.answers.MediumError.TheVariants as medium
 use Rattle.ahci_machine.specs.declared.ports.PortFault.TheVariants as fault
 use Rattle.ahci_machine.specs.declared.request.Request.TheVariants as request
-use Rattle.gefsunk.specs.{Media.{IsLoaded, RangeRule, error_of, medium_shown, misfit_of, piece, place_named, plain}, Pms.no_removals}
+use Rattle.gefsunk.specs.{Media.{IsLoaded, PieceRule, RangeRule, error_of, medium_shown, misfit_of, place_named, plain}, Pms.no_removals}
 use Rattle.gefsunk.specs.{Profiles.{MakesDisk, ProfileRefused}, declared.event.{Event.Event, MediumRequest.MediumRequest, WantedBytes.WantedBytes}}
 use Rattle.gefsunk.specs.declared.{kept.Kept.Kept, medium.SectorRange.SectorRange, profile.DiskNumbers.DiskNumbers, status.Status.Status}
 use Rattle.gefsunk.specs.declared.kept.Kept.TheVariants as kept
@@ -177,23 +177,17 @@ FailRule old r error lba answer new =
     MatchOption (error_of error) ((answer ≡ status.BadError) × (new ≡ old))
     (λ kind. AnswerRule old r (Failed (record { error = kind; lba = lba })) answer new)
 
-pub record Stored (m : MachineState) (id : MediumId) (place from room : ℕ) (got : List ℕ) : Type 0 where
-  pub bytes : List ℕ
-  pub holds : Holds m id place bytes
-  pub is : got ≡ piece bytes from room
-
+-- the bytes of a store are those of its request, while it is out
 abbrev pub StoredRule : MachineState → MediumRequest → (from room : ℕ) → Status → List ℕ → Type 0
-StoredRule m r from room status.Done got =
-    MatchOption (id_named r) ⊥ (λ id. MatchOption (place_named r) ⊥ (λ place. Stored m id place from room got))
-StoredRule m r from room status.OtherDisk got = id_named r ≡ None
-StoredRule m r from room status.OtherKind got = place_named r ≡ None
-StoredRule m r from room status.NotOut got = Unit {0}
-StoredRule m r from room _ got = ⊥
+StoredRule m r from room answer got =
+    MatchOption (id_named r) (answer ≡ status.OtherDisk)
+    (λ id. MatchOption (place_named r) (answer ≡ status.OtherKind) (λ place. PieceRule (stored_of m id place) from room answer got))
 
+-- and so are the sectors of a discard
 abbrev pub DiscardedRule : MachineState → MediumRequest → (number : ℕ) → Status → SectorRange → Type 0
 DiscardedRule m r number answer got =
     MatchOption (id_named r) (answer ≡ status.OtherDisk)
-    (λ id. RangeRule (ranges_in (disk_at m id)) number answer got)
+    (λ id. MatchOption (discarded_of m id) (answer ≡ status.NotOut) (λ ranges. RangeRule ranges number answer got))
 
 -- ---- devices of the caller's own
 

@@ -62,6 +62,11 @@ error_of n = if n == 0x40 then Some Uncorrectable else if n == 0x10 then Some No
 abbrev pub piece : {A : Type 0} → List A → (from room : ℕ) → List A
 piece bytes from room = take room (drop from bytes)
 
+-- of what is there; of a request that is not out nothing is
+abbrev pub PieceRule : Option (List ℕ) → (from room : ℕ) → Status → List ℕ → Type 0
+PieceRule None from room answer got = answer ≡ status.NotOut
+PieceRule (Some bytes) from room answer got = (answer ≡ status.Done) × (got ≡ piece bytes from room)
+
 abbrev pub range_shown : Range → SectorRange
 range_shown r = record { lba = r.lba; count = r.count }
 

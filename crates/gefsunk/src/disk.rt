@@ -138,11 +138,29 @@ fn stored(
     let Some(place) = request.place() else {
         return Status::OtherKind;
     };
-    match disk.get(place) {
-        Some(command) => {
-            *len = copied_from(command.bytes(), from, room);
+    match disk.stored(place, request.number) {
+        Some(bytes) => {
+            *len = copied_from(bytes, from, room);
             Status::Done
         }
+        None => Status::NotOut,
+    }
+}
+
+fn discarded(
+    disk: &SataDisk,
+    request: &MediumRequest,
+    number: usize,
+    range: &mut SectorRange,
+) -> Status
+    ensures rule { DiskDiscarded disk.now request.now number result range.new }
+    ensures kept { result ≢ Status.Done → range.new ≡ range.old }
+{
+    if !request.is_own() {
+        return Status::NotOut;
+    }
+    match disk.discarded(request.number) {
+        Some(ranges) => range_at(ranges, number, range),
         None => Status::NotOut,
     }
 }
@@ -384,11 +402,12 @@ pub extern "C" fn gefsunk_disk_stored(
 pub extern "C" fn gefsunk_disk_discarded(
     handle: &mut Handle,
     alloc: Global,
+    request: &MediumRequest,
     number: usize,
     range: &mut SectorRange,
 ) -> u32
     ensures rule { AtDisk handle.old.held.value (status_of result) handle.new.held.value
-        (λ old new. DiskDiscarded old number (status_of result) range.new × (new ≡ old)) }
+        (λ old new. DiskDiscarded old request.now number (status_of result) range.new × (new ≡ old)) }
     ensures known { is_code result ≡ true }
     ensures kept { status_of result ≢ status.Done → range.new ≡ range.old }
 {
@@ -396,7 +415,7 @@ pub extern "C" fn gefsunk_disk_discarded(
         return Status::Closed.code();
     };
     let status = match &*kept {
-        Kept::Disk(disk) => range_at(disk.ranges(), number, range),
+        Kept::Disk(disk) => discarded(disk, request, number, range),
         Kept::Pm(_) | Kept::Machine(_) => Status::Closed,
     };
     *handle = Handle::open(kept);

@@ -179,5 +179,8 @@ pub fn discarded(
     let Some(id) = request.id() else {
         return Status::OtherDisk;
     };
-    range_at(machine.discarded(id), number, range)
+    match machine.discarded(id) {
+        Some(ranges) => range_at(ranges, number, range),
+        None => Status::NotOut,
+    }
 }

@@ -6,7 +6,7 @@ ghost use Rattle.std.specs.List.{All};
 ghost use Rattle.std.specs.Result.{result_err};
 ghost use Rattle.fis_view.specs.Seen.{seen};
 ghost use Rattle.block_queue.specs.Line.{command_at, may_send};
-ghost use Rattle.block_engine.specs.Engine.{IsEngineStart, IsRequested, answer_refusal, answered, started};
+ghost use Rattle.block_engine.specs.Engine.{IsEngineStart, IsRequested, answer_refusal, answered, discarded_at, started, stored_at};
 ghost use Rattle.ata_front.specs.Fronts.{heard_data, owed, standing};
 ghost use Rattle.ata_front.specs.declared.task.Task.TheVariants as tasks;
 ghost use Rattle.sata_disk.specs.State.{AsksWithin, DiskState, IsWithin, commands, new_disk, sectors_of, tags_of};
@@ -324,6 +324,22 @@ impl SataDisk {
         ensures none { IfNone result (command_at (commands self.now) place ≡ None) }
     {
         self.engine.get(place)
+    }
+
+    /// The bytes of the store of this number, while it is out of the command of this place. Of one that a reset dropped there are none.
+    pub fn stored(&self, place: u8, number: u64) -> Option<&[u8]>
+        ensures some { IfSome result (λ bytes. stored_at self.now.engine place number ≡ Some bytes.now) }
+        ensures none { IfNone result (stored_at self.now.engine place number ≡ None) }
+    {
+        self.engine.stored(place, number)
+    }
+
+    /// The sectors of the discard of this number, while it is out. Of one that a reset dropped there are none.
+    pub fn discarded(&self, number: u64) -> Option<&[Range]>
+        ensures some { IfSome result (λ ranges. discarded_at self.now.engine number ≡ Some ranges.now) }
+        ensures none { IfNone result (discarded_at self.now.engine number ≡ None) }
+    {
+        self.engine.discarded(number)
     }
 
     /// The sectors that the last DATA SET MANAGEMENT discards: all are there.

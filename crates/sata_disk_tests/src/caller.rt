@@ -22,8 +22,8 @@ fn bytes_of(rt: &impl Abort, alloc: Global, bench: &Bench, request: &Request) ->
         return Vec::new(alloc);
     };
     let place = request.place.expect(rt, "a place");
-    assert!(rt; place < 33);
-    let bytes = bench.disk.get(place).expect(rt, "a command").bytes();
+    let bytes = bench.disk.stored(place, request.number);
+    let bytes = bytes.expect(rt, "a store");
     assert!(rt; bytes.len() == count as usize * 512);
     copied(rt, alloc, bytes)
 }

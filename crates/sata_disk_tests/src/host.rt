@@ -265,18 +265,19 @@ impl Bench {
         Answer::Loaded(copied(rt, alloc, bytes))
     }
 
-    /// Stores the bytes of the command of a place.
-    fn store(&mut self, rt: &impl Abort, place: Option<u8>, lba: u64, count: u32) {
-        let place = place.expect(rt, "a place");
-        assert!(rt; place < 33);
-        let bytes = self.disk.get(place).expect(rt, "a command").bytes();
+    /// Stores the bytes of the store that asked.
+    fn store(&mut self, rt: &impl Abort, request: Request, lba: u64, count: u32) {
+        let place = request.place.expect(rt, "a place");
+        let bytes = self.disk.stored(place, request.number);
+        let bytes = bytes.expect(rt, "a store");
         assert!(rt; bytes.len() == count as usize * 512);
         put_sectors(rt, &mut self.medium, lba, bytes);
     }
 
     /// Makes the discarded sectors zeros.
-    fn discard(&mut self, rt: &impl Abort) {
-        for range in self.disk.ranges() {
+    fn discard(&mut self, rt: &impl Abort, number: u64) {
+        let ranges = self.disk.discarded(number);
+        for range in ranges.expect(rt, "a discard") {
             let Range { lba, count } = *range;
             clear_sectors(rt, &mut self.medium, lba, count);
         }
@@ -287,7 +288,7 @@ impl Bench {
         let answer = match request.what {
             What::Load { lba, count } => self.load(rt, alloc, lba, count),
             What::Store { lba, count } => {
-                self.store(rt, request.place, lba, count);
+                self.store(rt, request, lba, count);
                 Answer::Done
             }
             What::Flush => {
@@ -295,7 +296,7 @@ impl Bench {
                 Answer::Done
             }
             What::Discard => {
-                self.discard(rt);
+                self.discard(rt, request.number);
                 Answer::Done
             }
         };

@@ -2,7 +2,7 @@
 
 use crate::host::{Bench, command, queued, some_bytes};
 use crate::memory::zeros;
-use block_engine::{Answer, ErrorKind, Failure, What};
+use block_engine::{Answer, ErrorKind, Failure, Request, What};
 use fis_view::H2dFields;
 use sata_disk::Unheard;
 use sata_disk_laws::{
@@ -293,6 +293,45 @@ fn ranges_are_discarded(rt: HostRuntime) {
     has_sent(&rt, alloc, &mut bench, &["39000000", DONE]);
     assert!(rt; bench.medium.len() > 5120);
     assert!(rt; bench.medium[4608..5120].iter().all(|b| *b == 0));
+}
+
+/// What the disk asks for next.
+fn asked(rt: &impl Abort, alloc: Global, bench: &mut Bench) -> Request {
+    for _ in 0..100u32 {
+        if let Some(request) = bench.asks(rt) {
+            return request;
+        }
+        bench.sends(rt, alloc);
+    }
+    panic!(rt; "it asks for nothing")
+}
+
+#[test]
+fn bytes_are_of_the_store_that_is_out(rt: HostRuntime) {
+    let alloc = rt.alloc();
+    let mut bench = plugged(&rt, alloc);
+    bench.gives(&rt, alloc, command(0xC8, 9, 1));
+    let load = asked(&rt, alloc, &mut bench);
+    assert!(rt; load.place == Some(32) && bench.disk.stored(32, load.number).is_none());
+    bench.answers(&rt, alloc, load);
+    bench.settles(&rt, alloc);
+    bench.data = some_bytes(&rt, alloc, 512, 2);
+    bench.gives(&rt, alloc, command(0xCA, 9, 1));
+    let first = asked(&rt, alloc, &mut bench);
+    assert!(rt; first.place == Some(32) && bench.disk.stored(32, first.number).is_some());
+    assert!(rt; bench.disk.stored(32, load.number).is_none());
+    assert!(rt; bench.disk.stored(31, first.number).is_none());
+    assert!(rt; bench.disk.discarded(first.number).is_none());
+    bench.answers(&rt, alloc, first);
+    assert!(rt; bench.disk.stored(32, first.number).is_none());
+    bench.settles(&rt, alloc);
+    // the next command has the same place
+    bench.data = some_bytes(&rt, alloc, 512, 3);
+    bench.gone = 0;
+    bench.gives(&rt, alloc, command(0xCA, 10, 1));
+    let second = asked(&rt, alloc, &mut bench);
+    assert!(rt; second.place == Some(32) && bench.disk.stored(32, second.number).is_some());
+    assert!(rt; bench.disk.stored(32, first.number).is_none());
 }
 
 #[test]

@@ -1,9 +1,11 @@
 -- What a move lends was brought.
 use Rattle.std.proofs.Common.{◌≡◌, ℕ, Bool, List, [], ◌∷◌, ◌++◌, Option, Some, None, Result, Ok, Err, refl, sym, ap, ◌∙◌, subst}
-use Rattle.std.specs.{Prelude.{IfOk, IfSome, MatchOption}, declared.alloc.AllocError.AllocError}
+use Rattle.std.specs.{Prelude.{◌&&◌, nat_lt, false, true, if◌then◌else◌, IfOk, IfSome, MatchOption}, declared.alloc.AllocError.AllocError}
 use Rattle.hba_fbs.specs.Views.{IsCorePort}
-use Rattle.slots.specs.Table.{IsTable}
-use Rattle.block_command.specs.Moments.{Moment}
+use Rattle.slots.specs.{Slots.match_some, Table.IsTable}
+use Rattle.block_command.specs.Moments.{Moment, is_storing}
+use Rattle.block_disk.specs.Requests.{number_at}
+use Rattle.block_engine.specs.{Engine.{bytes_to_store, stored_at}, Numbers.is_number}
 use Rattle.block_queue.specs.Line.{command_at}
 use Rattle.ahci_controller.specs.Rules.{IsRuled}
 use Rattle.ahci_controller.specs.declared.next.Next.TheVariants as next
@@ -11,7 +13,7 @@ use Rattle.ata_reply.specs.declared.reply.Reply.TheVariants as replies
 use Rattle.disk_pages.specs.declared.profile.Profile.{Profile}
 use Rattle.sata_disk.specs.State.{DiskState, commands, new_disk}
 use Rattle.sata_disk.specs.declared.out.Out.TheVariants as out
-use Rattle.ahci_machine.specs.{Acts.Steps, Answers.{Holds, disk_at}, Ports.Puts, States.{HasRules, IsOpeningMachine, MachineState}}
+use Rattle.ahci_machine.specs.{Acts.Steps, Answers.{Holds, disk_at, stored_of}, Ports.Puts, States.{HasRules, IsOpeningMachine, MachineState}}
 use Rattle.ahci_machine.specs.declared.{act.Act.Act, bay.Unit.{Unit as Inside, TheVariants.Disk}, ports.PortFault.PortFault}
 use Rattle.ahci_machine.specs.declared.request.MediumId.{MediumId}
 use Rattle.ahci_machine.specs.declared.act.Act.TheVariants as act
@@ -120,6 +122,25 @@ holds law new id place bytes held now asked does was lba count at stores =
     subst (λ (b : List ℕ). SuppliedToNewDisk was.first was.deeds now was.run id.port place (StoresNext lba count b))
     (one_disk (disk_at new id) place store.bytes bytes there held)
     (subst (λ (k : ℕ). SuppliedToNewDisk was.first was.deeds now was.run id.port k (StoresNext lba count store.bytes)) same store.supplied)
+
+-- what is handed out of a store is what the machine holds for its place
+chosen : (b : Bool) (x : Option (List ℕ)) (bytes : List ℕ) → (if b then x else None) ≡ Some bytes → x ≡ Some bytes
+chosen true x bytes e = e
+chosen false x bytes e = absurd (cc)
+
+out_holds : (x : Option Moment) (bytes : List ℕ) → bytes_to_store x ≡ Some bytes → MatchOption x ⊥ (λ c. bytes ≡ c.bytes)
+out_holds None bytes e = absurd (cc)
+out_holds (Some m) bytes e = let is : Some m.bytes ≡ Some bytes = chosen (is_storing m.stage) (Some m.bytes) bytes e in cc
+
+disk_holds : (x : Option DiskState) (place number : ℕ) (bytes : List ℕ) → match_some x None (λ d. stored_at d.engine place number) ≡ Some bytes
+    → MatchOption x ⊥ (λ d. MatchOption (command_at (commands d) place) ⊥ (λ c. bytes ≡ c.bytes))
+disk_holds None place number bytes e = absurd (cc)
+disk_holds (Some d) place number bytes e =
+    out_holds (command_at (commands d) place) bytes
+    (chosen (nat_lt place 33 && is_number (number_at (commands d).queue.out place) number) (bytes_to_store (command_at (commands d) place)) bytes e)
+
+pub handed : (m : MachineState) (id : MediumId) (place : ℕ) (bytes : List ℕ) → stored_of m id place ≡ Some bytes → Holds m id place bytes
+handed m id place bytes e = disk_holds (disk_at m id) place id.number bytes e
 
 pub some_holds : {X : Type 0} {P Q : X → Type 0} → ((x : X) → P x → Q x) → (o : Option X) → IfSome o P → IfSome o Q
 some_holds step None h = tt
