@@ -11,7 +11,7 @@ use crate::opening::Sizes;
 use crate::progress::Progress;
 use crate::structures::part_at;
 use crate::telling::Telling;
-use crate::warning::{Warning, broken_by, named_by, value_of};
+use crate::warning::{Warning, broken_by, broken_in, named_by, value_of};
 use crate::why::{DiskSeen, Why};
 use ahci_controller::{Fed, Hindrance, Next, NotTaken, Took, Written};
 use ahci_machine::{Act, GuestRead, Machine, Told, Wanted};
@@ -74,11 +74,6 @@ const SET_MULTIPLE: u8 = 0xC6;
 
 /// C of a header (AHCI 1.3.1, 4.2.2).
 const CLEAR: u32 = 0x400;
-
-/// READ and WRITE FPDMA QUEUED, and the other commands that are queued (ACS-3, 7).
-fn is_queued(command: u8) -> bool {
-    matches!(command, 0x60 | 0x61 | 0x63 | 0x64 | 0x65)
-}
 
 impl Tracer {
     /// Of a machine on which nothing is on its way.
@@ -306,11 +301,10 @@ impl Tracer {
         out: &mut W,
     ) -> Result<(), Failure> {
         self.progress.read_command(slot, bytes);
-        let command = bytes.get(2).copied().unwrap_or(0);
-        if !is_queued(command) || self.progress.slot(slot).is_armed {
-            return Ok(());
+        match broken_in(slot, bytes, self.progress.slot(slot).is_armed) {
+            Some(warning) => self.say(&Event::Warns(warning), out),
+            None => Ok(()),
         }
-        self.say(&Event::Warns(Warning::NotArmed(slot)), out)
     }
 
     /// Bytes of the guest came, or are no memory.

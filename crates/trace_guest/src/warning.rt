@@ -26,6 +26,10 @@ pub enum Warning {
     IssuedBusy(u32),
     /// The command of this slot is queued, and PxSACT did not have the slot as it was written to PxCI.
     NotArmed(u8),
+    /// The command of this slot is not queued, and PxSACT had the slot as it was written to PxCI.
+    ArmedUnqueued(u8),
+    /// The command of this slot is queued, and its tag is another number.
+    OtherTag { slot: u8, tag: u8 },
     /// The header of this slot names this port, and PxCMD.PMA is 0.
     NoMultiplier { slot: u8, port: u8 },
     /// The header of this slot names this port, and PxFBS.DEV was another as the slot was written to PxCI.
@@ -43,7 +47,7 @@ impl Warning {
             Warning::SwitchesRunning | Warning::OtherDevice { .. } => "3.3.16",
             Warning::ResetsRunning => "3.3.11",
             Warning::IssuedTwice(_) => "5.5.1",
-            Warning::NotArmed(_) => "3.3.13",
+            Warning::NotArmed(_) | Warning::ArmedUnqueued(_) | Warning::OtherTag { .. } => "3.3.13",
         }
     }
 
@@ -52,6 +56,8 @@ impl Warning {
         match self {
             Warning::IssuedTwice(slots) | Warning::IssuedBusy(slots) => slots,
             Warning::NotArmed(slot)
+            | Warning::ArmedUnqueued(slot)
+            | Warning::OtherTag { slot, .. }
             | Warning::NoMultiplier { slot, .. }
             | Warning::OtherDevice { slot, .. } => bit_of(slot),
             _ => 0,
@@ -77,6 +83,14 @@ impl Warning {
             Warning::NotArmed(slot) => write!(
                 f,
                 "slot {slot} has a queued command, and PxSACT did not have it before PxCI"
+            ),
+            Warning::ArmedUnqueued(slot) => write!(
+                f,
+                "slot {slot} has a command that is not queued, and PxSACT had it before PxCI"
+            ),
+            Warning::OtherTag { slot, tag } => write!(
+                f,
+                "the queued command of slot {slot} has tag {tag}"
             ),
             Warning::NoMultiplier { slot, port } => {
                 write!(f, "slot {slot} is for port {port}, and PxCMD.PMA is 0")
@@ -153,6 +167,23 @@ pub fn broken_by(
         Register::PxCi => issues_wrongly(machine, value, may_be_busy),
         _ => None,
     }
+}
+
+/// The rule that the command FIS of a slot breaks. PxSACT may have had the slot as it was written to PxCI.
+pub fn broken_in(slot: u8, fis: &[u8], is_armed: bool) -> Option<Warning> {
+    let command = fis.get(2).copied().unwrap_or(0);
+    let tag = fis.get(12).copied().unwrap_or(0) >> 3;
+    match (is_queued(command), is_armed) {
+        (true, false) => Some(Warning::NotArmed(slot)),
+        (true, true) => (tag != slot).then_some(Warning::OtherTag { slot, tag }),
+        (false, true) => Some(Warning::ArmedUnqueued(slot)),
+        (false, false) => None,
+    }
+}
+
+/// READ and WRITE FPDMA QUEUED, and the other commands that are queued (ACS-3, 7).
+fn is_queued(command: u8) -> bool {
+    matches!(command, 0x60 | 0x61 | 0x63 | 0x64 | 0x65)
 }
 
 fn moves_list(machine: &Machine, register: Register, value: u32, bits: u32) -> Option<Warning> {
