@@ -156,3 +156,10 @@ mod OverAll
 mod Unheard
 mod SlotsTell
 mod Between
+mod IssuedWork
+mod Counts
+mod WriteNames
+mod BytesFed
+mod StoredSingles
+mod WholeQueued
+mod WholeSingles

@@ -49,7 +49,7 @@ pub record Laws : Type 0 where
 
 -- ---- what goes
 
-went_is : (dev : ℕ) (evs : List Event) → went_to dev evs ≡ data_sent dev evs
+pub went_is : (dev : ℕ) (evs : List Event) → went_to dev evs ≡ data_sent dev evs
 went_is dev [] = refl
 went_is dev (call.Gathered d number frame (fed_answer.Goes message line) ∷ later) = ap (λ (l : List (List ℕ)). if d == dev then frame ∷ l else l) (went_is dev later)
 went_is dev (call.Gathered d number frame other ∷ later) = went_is dev later
@@ -295,6 +295,11 @@ module _ (laws : Laws) (s : Stretch) (plain : AllKeepPlain s.many s.n s.dev s.at
         asked = c.asked;
         bytes = u.bytes;
         heard = c.is;
+        front = s.base ++ u.front;
+        later = u.later;
+        split = split;
+        asks = u.asks;
+        none = l.none;
         from = from;
         since = g.since;
         fises = c.came.fises;

@@ -49,3 +49,8 @@ pub mod StoredWrites
 pub mod OverAll
 pub mod Unheard
 pub mod Between
+pub mod IssuedWork
+pub mod CountedAlike
+pub mod StoredSingles
+pub mod WholeQueued
+pub mod WholeSingles

@@ -16,14 +16,14 @@ use Rattle.disk_pages.specs.declared.profile.Profile.{Profile}
 use Rattle.sata_disk.specs.State.{new_disk}
 use Rattle.sata_disk.specs.declared.out.Out.TheVariants as out
 use Rattle.sata_disk_books.specs.Books.{IsAskedFor, page_in}
-use Rattle.sata_disk_laws.specs.{Calls.{AreCalls, Call}, Laws.reached, Once.{host_of, new_host}}
+use Rattle.sata_disk_laws.specs.{Calls.{AreCalls, Call, Hears}, Laws.reached, Once.{host_of, new_host}}
 use Rattle.ahci_machine.specs.States.{HasRules, IsOpeningMachine, MachineState}
 use Rattle.ahci_machine.specs.declared.act.Act.TheVariants as act
 use Rattle.machine_laws.specs.{ControllerLaws.{RunsRuled, calls_in}, Controllers.deed_calls, Deeds.{Deed, Does, Moved, Wrote}, Falling.AllLast}
 use Rattle.machine_laws.specs.{Falling.HasLink, Feeding.{came_by, came_in, data_with}}
-use Rattle.machine_theorem.specs.{Commands.AreNotIssued, Crossing.Within, Identity.calls_of, InTurn.{AreKeptOn, IsIdle}, OwnSlots.AllKeepLine}
-use Rattle.machine_theorem.specs.{OwnSlots.is_of, OwnWrites.AreOwnData, SingleData.{GoesNext, went_in}, Singles.{BeginsIdle, IsDoneSingle}}
-use Rattle.machine_theorem.specs.{Singles.{IsFromSlot, IsOfDevice}, Waits.{HasPlain, waits_in}, Writes.payloads}
+use Rattle.machine_theorem.specs.{Commands.AreNotIssued, Crossing.Within, Identity.calls_of, InTurn.{AreKeptOn, IsIdle, heard_in, is_asking}}
+use Rattle.machine_theorem.specs.{OwnSlots.{AllKeepLine, is_of}, OwnWrites.AreOwnData, SingleData.{GoesNext, went_in}, Singles.BeginsIdle}
+use Rattle.machine_theorem.specs.{Singles.{IsDoneSingle, IsFromSlot, IsOfDevice}, Waits.{HasPlain, waits_in}, Writes.payloads}
 
 -- ---- what the guest keeps to
 
@@ -100,9 +100,9 @@ pub record IsFedSince (dev slot : ℕ) (order : List ℕ) (old : MachineState) (
   pub done_is : done ≡ before ++ (sooner ++ Moved (act.Turns (next.Order dev slot order)) ∷ [])
   pub fed : AllFed dev slot 0 (came_in dev [] old done sent until) sent later now rest
 
--- The books have a command that has earned its end; it is what a FIS of the slot asked for. What came for it is the payload of some of the Data FISes that
--- went since, in order, each unchanged but for its PM Port. As many bytes went as the slot's command moves, if it is a write; so what came is all of them,
--- if as many came.
+-- The books have a command that has earned its end; it is what a FIS of the slot asked for, and the disk heard no command since. What came for it is the
+-- payload of some of the Data FISes that went since, in order, each unchanged but for its PM Port. As many bytes went as the slot's command moves, if it is a
+-- write; so what came is all of them, if as many came.
 pub record IsFedWhole (n dev slot : ℕ) (old : MachineState) (before : List Deed) (at : MachineState) (first : RunsRuled old before at) (deeds : List Deed)
     (now : MachineState) (run : RunsRuled at deeds now) (p : Profile) (limit : ℕ) (calls : List Call) (issue : Issue) : Type 0 where
   pub page : Page
@@ -111,6 +111,11 @@ pub record IsFedWhole (n dev slot : ℕ) (old : MachineState) (before : List Dee
   pub asked : IsAskedFor p limit calls page.command
   pub bytes : List ℕ
   pub heard : asked.bytes ≡ bytes
+  pub front : List Call
+  pub later : List Call
+  pub split : calls ≡ front ++ Hears bytes ∷ later
+  pub asks : is_asking bytes ≡ true
+  pub none : heard_in later ≡ 0
   pub from : IsFromSlot dev slot old before at first deeds now run bytes
   pub since : IsFedSince dev slot from.order old before at first deeds now run
   pub fises : List (List ℕ)

@@ -14,6 +14,7 @@ mod flushes;
 mod follows;
 mod identity;
 mod in_turn;
+mod issued_work;
 mod moments;
 mod orders;
 mod over_all;
@@ -27,6 +28,7 @@ mod single_reads;
 mod single_writes;
 mod singles;
 mod standing;
+mod stored_singles;
 mod stored_writes;
 mod tags;
 mod transfers;
@@ -46,6 +48,10 @@ pub use flushes::{flushes_are_answered, flushes_are_of_their_slots, flushes_foll
 pub use follows::{data_follow_setups, data_go_as_asked, fed_data_follow_setups};
 pub use identity::slots_name_their_disks_commands;
 pub use in_turn::commands_go_in_turn;
+pub use issued_work::{
+    commands_are_counted_alike, issues_move_as_supplied, queued_completions_are_whole,
+    single_completions_are_whole, unqueued_completions_are_whole,
+};
 pub use moments::data_are_of_slots;
 pub use orders::commands_are_sent_once;
 pub use over_all::{
@@ -70,6 +76,7 @@ pub use single_writes::{
 };
 pub use singles::singles_are_of_their_slots;
 pub use standing::slots_have_one_command;
+pub use stored_singles::{completed_single_writes_are_stored, writes_are_named};
 pub use stored_writes::{
     completed_writes_are_stored, data_go_of_queued_writes, queued_commands_alone_are_served,
     queued_writes_are_as_supplied,

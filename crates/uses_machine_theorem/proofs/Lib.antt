@@ -6,5 +6,6 @@ mod FeedLemmas
 mod PioLemmas
 mod FlushLemmas
 mod StoredLemmas
+mod StoredSingleLemmas
 mod OverLemmas
 mod SingleReadLemmas

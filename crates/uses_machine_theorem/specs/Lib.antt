@@ -6,5 +6,6 @@ pub mod Feeding
 pub mod PioIn
 pub mod Flushes
 pub mod StoredWrites
+pub mod StoredSingles
 pub mod OverAll
 pub mod SingleReads

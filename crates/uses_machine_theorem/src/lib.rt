@@ -20,6 +20,7 @@ mod over_all;
 mod pio;
 mod single_reads;
 mod single_writes;
+mod stored_singles;
 mod stored_writes;
 
 use ahci_controller::Width;
@@ -32,6 +33,7 @@ use sata_disk::SataDisk;
 pub use single_reads::knows_single_reads;
 pub use single_writes::knows_single_writes;
 use std::alloc::{AllocError, Global};
+pub use stored_singles::knows_stored_singles;
 pub use stored_writes::knows_stored_writes;
 
 /// A machine with nothing at its ports.
