@@ -18,13 +18,14 @@ use Rattle.sata_disk.specs.declared.out.Out.TheVariants as out
 use Rattle.sata_disk_books.specs.Books.{IsAskedFor, page_in}
 use Rattle.sata_disk_laws.specs.{Awaited.{OutsAreUnderWay, SinglesAreAwaited}, Calls.{Answers, AreCalls, Asks, Call, Hears, Plugs, Sends, Starts}}
 use Rattle.sata_disk_laws.specs.{Calls.after_call, Laws.reached, Once.{AnswersAreSingle, ForAnswer, ForEnd, ForLast, ForNothing, ForSignature, Host}}
-use Rattle.sata_disk_laws.specs.Once.{IsAccepted, IsDue, IsOutDue, IsRefused, Wait, announced, command_given, control_given, data_got_by, fis_given}
-use Rattle.sata_disk_laws.specs.Once.{host_after, host_of, is_for_data, new_host, none_open, out_got, place_in, reply_got, unheard_of}
+use Rattle.sata_disk_laws.specs.Once.{IsAccepted, IsDue, IsFilling, IsOutDue, IsRefused, Wait, announced, command_given, control_given, data_got_by}
+use Rattle.sata_disk_laws.specs.Once.{fis_given, host_after, host_of, is_for_data, new_host, none_open, out_got, place_in, reply_got, unheard_of}
 use Rattle.sata_disk_laws.specs.Once.{waits_for_nothing}
 use Rattle.sata_disk_laws.proofs.Door.{calls_both}
-use Rattle.machine_theorem.specs.InTurn.{AreKeptOn, CommandsGoInTurn, IsIdle, IsInTurn, IsKeptOn, IsUnanswered, answered_in, answers_one, commands}
-use Rattle.machine_theorem.specs.{InTurn.{heard_in, hears_one, is_answer, is_asking, is_register, sets_reset}, SingleBytes.SingleDataGoInTurn}
-use Rattle.machine_theorem.specs.Tags.{once_if}
+use Rattle.ata_front.specs.declared.task.Page as own
+use Rattle.machine_theorem.specs.{OwnPages.PagesGoInTurn, InTurn.{AreKeptOn, CommandsGoInTurn, IsIdle, IsInTurn, IsKeptOn, IsUnanswered, answered_in}}
+use Rattle.machine_theorem.specs.InTurn.{answers_one, commands, heard_in, hears_one, is_answer, is_asking, is_register, sets_reset}
+use Rattle.machine_theorem.specs.{SingleBytes.SingleDataGoInTurn, Tags.once_if}
 use Rattle.machine_theorem.proofs.{TagAsked.{Outcome, outcome, Outcome.{Nothing, Taken}}, TagCounts.{due_at, first_calls, held_of_taken, host_then}}
 use Rattle.machine_theorem.proofs.{TagCounts.{none_held, one_call_more}, TagKept.{IsNoFis, call_held, call_takes, held_at, held_is, held_of}}
 use Rattle.machine_theorem.proofs.{TagKept.others_none, TagPages.page_same}
@@ -113,6 +114,11 @@ out_over h (out.Page p) due = data_over h h.waits
 out_over h (out.Data p n) due = data_over h h.waits
 
 -- the host behind a FIS that it sends
+some_waits : (h : Host) (w : Wait) → h.waits ≡ w → is_for_data w ≡ true → 1 ≤ waiting h
+some_waits h ForEnd e is = let one = one_waits h ForEnd e refl in omega (arith, one)
+some_waits h ForLast e is = let one = one_waits h ForLast e refl in omega (arith, one)
+some_waits h other e is = absurd (cc)
+
 record IsGiven (h k : Host) (asks : Bool) : Type 0 where
   clear : k.in_reset ≡ false
   few : waiting k ≤ waiting h + once_if asks
@@ -435,15 +441,10 @@ module _ (laws : Laws) (p : Profile) (limit : ℕ) (base : List Call) where
         last = λ few. omega (arith, all, behind, few);
       })
 
-  -- an answer is that of the command which was heard last
-  answers : (done : List Call) → AreCalls (new_disk p limit) (base ++ done) → Counted done → (o : Out) → IsOut (disk done) (Some o) → is_answer o ≡ true → IsUnanswered done
-  answers done are q o is answer =
-      let x : Call = Sends o in
-      let more : AreCalls (new_disk p limit) ((base ++ done) ++ x ∷ []) = calls_both (base ++ done) (x ∷ []) (new_disk p limit) are (is, tt) in
-      let due : IsOutDue (host done) o = due_at (base ++ done) x new_host (laws.single p limit ((base ++ done) ++ x ∷ []) more) in
-      let few = (out_over (host done) o due).few in
-      let one = ap once_if answer in
-      let l : Last done = q.last (omega (arith, few, one)) in
+  -- while the host waits, the command that was heard last is not answered
+  pub unanswered : (done : List Call) → Counted done → 1 ≤ waiting (host done) → IsUnanswered done
+  unanswered done q some =
+      let l : Last done = q.last some in
       let behind = l.behind in
       let all : heard_in done ≡ heard_in l.front + (once_if (is_asking l.bytes) + heard_in l.later) = ap heard_in l.split ∙ heard_both l.front (Hears l.bytes ∷ l.later) in
       let asks = ap once_if l.asks in
@@ -457,6 +458,32 @@ module _ (laws : Laws) (p : Profile) (limit : ℕ) (base : List Call) where
         quiet = l.quiet;
         last = λ some. omega (arith, all, asks, behind, some);
       }
+
+  -- an answer is that of the command which was heard last
+  answers : (done : List Call) → AreCalls (new_disk p limit) (base ++ done) → Counted done → (o : Out) → IsOut (disk done) (Some o)
+      → is_answer o ≡ true → IsUnanswered done
+  answers done are q o is answer =
+      let x : Call = Sends o in
+      let more : AreCalls (new_disk p limit) ((base ++ done) ++ x ∷ []) = calls_both (base ++ done) (x ∷ []) (new_disk p limit) are (is, tt) in
+      let due : IsOutDue (host done) o = due_at (base ++ done) x new_host (laws.single p limit ((base ++ done) ++ x ∷ []) more) in
+      let few = (out_over (host done) o due).few in
+      let one = ap once_if answer in
+      unanswered done q (omega (arith, few, one))
+
+  -- and so is a page
+  page_now : (done : List Call) → AreCalls (new_disk p limit) (base ++ done) → Counted done → (page : own.Page)
+      → IsOut (disk done) (Some (out.Page page))
+      → IsUnanswered done
+  page_now done are q page is =
+      let x : Call = Sends (out.Page page) in
+      let more : AreCalls (new_disk p limit) ((base ++ done) ++ x ∷ []) = calls_both (base ++ done) (x ∷ []) (new_disk p limit) are (is, tt) in
+      let due : IsFilling (host done) = due_at (base ++ done) x new_host (laws.single p limit ((base ++ done) ++ x ∷ []) more) in
+      unanswered done q (some_waits (host done) (host done).waits refl due.1)
+
+pub pages_go : Laws → PagesGoInTurn
+pages_go laws p limit base calls are idle on page is =
+    let q = walk laws p limit base calls [] are on (begins laws p limit base (first_calls base calls (new_disk p limit) are) idle) in
+    page_now laws p limit base calls are q page is
 
 pub single_data_go : Laws → SingleDataGoInTurn
 single_data_go laws p limit base calls are idle on len is page books =

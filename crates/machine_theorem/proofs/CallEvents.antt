@@ -31,10 +31,11 @@ abbrev pub AllOf : (Event → Type 0) → History → Type 0
 AllOf P [] = Unit {0}
 AllOf P (e ∷ h) = P e × AllOf P h
 
--- a command goes, or a block begins
+-- no command goes, no block begins, and no Data are carried
 abbrev pub IsPlain : Event → Type 0
 IsPlain (history.Sent slot) = ⊥
 IsPlain (history.PioSetUp count to_host ends) = ⊥
+IsPlain (history.Carried bytes) = ⊥
 IsPlain other = Unit {0}
 
 module _ (P : Event → Type 0) (plain : (e : Event) → IsPlain e → P e) where
@@ -70,17 +71,23 @@ module _ (P : Event → Type 0) (plain : (e : Event) → IsPlain e → P e) wher
   control_of slot true e = one_plain (history.SentControl slot) tt
   control_of slot false e = absurd (cc)
 
-  order_of : (n : ℕ) (port : Port) (dev slot : ℕ) (b : Bool) → (dev == n) ≡ b → (b && not (holds is_control_issue (issue_at port.slots slot))) ≡ false
+  pub order_of : (n : ℕ) (port : Port) (dev slot : ℕ) (b : Bool) → (dev == n) ≡ b
+      → (b && not (holds is_control_issue (issue_at port.slots slot))) ≡ false
       → AllOf P (if b then begun_by slot (issue_at port.slots slot) ++ event_sent port.slots slot ∷ [] else [])
   order_of n port dev slot true same unsent =
       both_of (begun_by slot (issue_at port.slots slot)) (event_sent port.slots slot ∷ []) (begun_of slot (issue_at port.slots slot))
       (control_of slot (holds is_control_issue (issue_at port.slots slot)) unsent)
   order_of n port dev slot false same unsent = tt
 
-  pub turn_of : (n : ℕ) (port : Port) (turn : Turn) (bytes : List ℕ) → IsUnsentTurn n port turn → AllOf P (turned_for n port turn bytes)
-  turn_of n port Rests bytes unsent = tt
-  turn_of n port (Feeds dev slot offset len) bytes unsent = if_of (dev == n) (history.Carried (drop 4 bytes) ∷ []) (λ e. one_plain (history.Carried (drop 4 bytes)) tt)
-  turn_of n port (Orders dev slot command) bytes unsent = order_of n port dev slot (dev == n) refl unsent
+  pub turn_of : ((bytes : List ℕ) → P (history.Carried bytes)) → (n : ℕ) (port : Port) (turn : Turn) (bytes : List ℕ) → IsUnsentTurn n port turn
+      → AllOf P (turned_for n port turn bytes)
+  turn_of carried n port Rests bytes unsent = tt
+  turn_of carried n port (Feeds dev slot offset len) bytes unsent = if_of (dev == n) (history.Carried (drop 4 bytes) ∷ []) (λ e. (
+    carried (drop 4
+        bytes),
+    tt,
+  ))
+  turn_of carried n port (Orders dev slot command) bytes unsent = order_of n port dev slot (dev == n) refl unsent
 
 -- the test holds of what goes by the turns that are allowed
 module _ (P : Event → Type 0) (plain : (e : Event) → IsPlain e → P e) (Goes : (n : ℕ) → Port → Turn → Type 0)
@@ -247,13 +254,14 @@ module _ (P : Event → Type 0) (plain : (e : Event) → IsPlain e → P e) (Goe
 
 -- ---- calls that send no command to the device
 
-pub unsent_goes : (P : Event → Type 0) (plain : (e : Event) → IsPlain e → P e) (n : ℕ) (e : Call) (old : ControllerState) → is_commanded n old e ≡ false
-    → CallGoes P plain IsUnsentTurn (turn_of P plain) n e old
-unsent_goes P plain n (call.Turned (next_step.Order dev slot fis)) old none =
+pub unsent_goes : (P : Event → Type 0) (plain : (e : Event) → IsPlain e → P e) (carried : (bytes : List ℕ)
+    → P (history.Carried bytes)) (n : ℕ) (e : Call)
+    (old : ControllerState) → is_commanded n old e ≡ false → CallGoes P plain IsUnsentTurn (turn_of P plain carried) n e old
+unsent_goes P plain carried n (call.Turned (next_step.Order dev slot fis)) old none =
     orders_unsent n slot old.core (issue_at old.core.slots slot) (last_command old.core.commands slot) refl none
-unsent_goes P plain n (call.Turned other) old none = tt
-unsent_goes P plain n (call.Gathered dev number frame fed) old none = feeds_unsent n old.core dev (payload (context_of old.core.slots dev))
-unsent_goes P plain n e old none = tt
+unsent_goes P plain carried n (call.Turned other) old none = tt
+unsent_goes P plain carried n (call.Gathered dev number frame fed) old none = feeds_unsent n old.core dev (payload (context_of old.core.slots dev))
+unsent_goes P plain carried n e old none = tt
 
 -- ---- any calls
 
@@ -268,7 +276,7 @@ no_block (history.PioSetUp count to_host ends) is = absurd is
 no_block (history.Issued slot t) is = tt
 no_block (history.SentControl slot) is = tt
 no_block (history.SetUp tag offset count to_host) is = tt
-no_block (history.Carried bytes) is = tt
+no_block (history.Carried bytes) is = absurd is
 no_block history.Answered is = tt
 no_block (history.Named mask) is = tt
 no_block history.Emptied is = tt

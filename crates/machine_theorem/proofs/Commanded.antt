@@ -14,8 +14,8 @@ use Rattle.sata_disk.specs.Hearing.{is_command}
 use Rattle.sata_disk_laws.specs.{Calls.{Answers, Asks, Call, Hears, Plugs, Sends, Starts}, Once.place_in}
 use Rattle.ahci_machine.specs.{Gathers.host_stamp, States.MachineState}
 use Rattle.machine_laws.specs.{ControllerLaws.{RunsRuled, calls_in}, Controllers.deed_calls, Deeds.Deed, Falling.{heard_by, sent_by, sent_in}}
-use Rattle.machine_theorem.specs.{Identity.{heard_as, is_for, picks}, InTurn.{commands, heard_in, is_asking}, Singles.AllOfDevice, Tags.asks_with}
-use Rattle.machine_theorem.specs.{Tags.once_if, Following.AllHeardWell, Waits.{AllKeepWaiting, AllPlain, commanded_in, is_commanded, taken_in}}
+use Rattle.machine_theorem.specs.{Ending.AllUnqueued, Identity.{heard_as, is_for, picks}, InTurn.{commands, heard_in, is_asking}, Singles.AllOfDevice}
+use Rattle.machine_theorem.specs.{Tags.{asks_with, once_if}, Following.AllHeardWell, Waits.{AllKeepWaiting, commanded_in, is_commanded, taken_in}}
 use Rattle.machine_theorem.proofs.{Asking.{AllDataAskNone, DataAskNone}, Fallen.{if_one, map_both}, OneConn.no_length, Within.picks_both}
 
 -- ---- what a disk heard
@@ -213,7 +213,8 @@ module _ (many : Bool) (n : ℕ) where
       pub keeps : AllKeepWaiting dev old before at led
       pub keeps_rest : AllKeepWaiting dev at (call.Turned (next.Order to slot fis) ∷ later) now rest
       pub well : AllHeardWell dev old events now run → AllHeardWell dev old before at led × AllHeardWell dev at (call.Turned (next.Order to slot fis) ∷ later) now rest
-      pub plain : AllPlain dev old events now run → AllPlain dev old before at led × AllPlain dev at (call.Turned (next.Order to slot fis) ∷ later) now rest
+      pub unqueued : AllUnqueued dev old events now run → AllUnqueued dev old before at led × AllUnqueued dev at (call.Turned (next.Order to slot fis)
+          ∷ later) now rest
 
     here_at : (to slot : ℕ) (fis : List ℕ) (later : List Event) (old now : ControllerState) (run : Runs old (call.Turned (next.Order to slot fis) ∷ later) now)
         → AllOfDevice many n dev old (call.Turned (next.Order to slot fis) ∷ later) now run → AllKeepWaiting dev old (call.Turned (next.Order to slot fis) ∷ later) now run
@@ -242,7 +243,7 @@ module _ (many : Bool) (n : ℕ) where
           keeps = tt;
           keeps_rest = keeps;
           well = λ w. (tt, w);
-          plain = λ w. (tt, w);
+          unqueued = λ w. (tt, w);
         }
 
     -- it is the first call
@@ -281,7 +282,7 @@ module _ (many : Bool) (n : ℕ) where
           keeps = (keeps.0, l.keeps);
           keeps_rest = l.keeps_rest;
           well = λ w. let r = l.well w.1 in ((w.0, r.0), r.1);
-          plain = λ w. let r = l.plain w.2 in ((w.0, w.1, r.0), r.1);
+          unqueued = λ w. let r = l.unqueued w.2 in ((w.0, w.1, r.0), r.1);
         }
 
     pub last_asked : (events : List Event) (old now : ControllerState) (run : Runs old events now) → AreNoCommands events → AllOfDevice many n dev old events now run

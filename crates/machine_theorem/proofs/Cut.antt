@@ -7,8 +7,8 @@ use Rattle.ahci_machine.specs.States.{MachineState}
 use Rattle.machine_laws.specs.{ControllerLaws.{RunsRuled, calls_in}, Controllers.deed_calls, Deeds.{Deed, Does}, Disks.calls_at, Falling.AllLast}
 use Rattle.machine_laws.specs.{Falling.{HasLink, Lasts}, Rising.sent_by}
 use Rattle.machine_theorem.specs.{Brought.{AllTakenWell, TakesWell}, Identity.{AllKeep, Keeps, calls_of}, Orders.{are_ordered, fallen_in, is_fallen}}
-use Rattle.machine_theorem.specs.{Orders.ordered_in, OwnSlots.{AllKeepLine, KeepsLine}, QueuedWrites.{AllQueued, HasQueued}, SingleBytes.AllKeepPlain}
-use Rattle.machine_theorem.specs.{SingleBytes.KeepsPlain, Tags.once_if}
+use Rattle.machine_theorem.specs.{Orders.ordered_in, OwnSlots.{AllKeepLine, KeepsLine}, PioReads.{AllKeepUnqueued, KeepsUnqueued}}
+use Rattle.machine_theorem.specs.{QueuedWrites.{AllQueued, HasQueued}, SingleBytes.{AllKeepPlain, KeepsPlain}, Tags.once_if}
 use Rattle.machine_theorem.proofs.EndsFew.{sent_of}
 
 pub record Cut (deed : Deed) (at : MachineState) (deeds : List Deed) (now : MachineState) (run : RunsRuled at deeds now) : Type 0 where
@@ -37,6 +37,8 @@ pub record Cut (deed : Deed) (at : MachineState) (deeds : List Deed) (now : Mach
   pub queued : (dev : ℕ) → AllQueued dev at deeds now run → AllQueued dev at sooner mid led × HasQueued dev mid.controller
   pub plain : (many : Bool) (n dev : ℕ) → AllKeepPlain many n dev at deeds now run
       → AllKeepPlain many n dev at sooner mid led × KeepsPlain many n dev mid deed next does × AllKeepPlain many n dev next later now rest
+  pub unqueued : (many : Bool) (n dev : ℕ) → AllKeepUnqueued many n dev at deeds now run
+      → AllKeepUnqueued many n dev at sooner mid led × KeepsUnqueued many n dev mid deed next does × AllKeepUnqueued many n dev next later now rest
 
 -- at its first deed
 unfoldable pub cut_here : (deed : Deed) (later : List Deed) (at now : MachineState) (run : RunsRuled at (deed ∷ later) now) → Cut deed at (deed ∷ later) now run
@@ -61,6 +63,7 @@ cut_here deed later at now run = record {
   taken = λ dev w. (tt, w.0, w.1);
   queued = λ dev q. (q.0, q.0);
   plain = λ many n dev k. (tt, k.0, k.1);
+  unqueued = λ many n dev k. (tt, k.0, k.1);
 }
 
 -- or at a later one
@@ -92,6 +95,7 @@ cut_more it deed later at now run c =
       taken = λ dev w. let r = c.taken dev w.1 in ((w.0, r.0), r.1, r.2);
       queued = λ dev q. let r = c.queued dev q.1 in ((q.0, r.0), r.1);
       plain = λ many n dev k. let r = c.plain many n dev k.1 in ((k.0, r.0), r.1, r.2);
+      unqueued = λ many n dev k. let r = c.unqueued many n dev k.1 in ((k.0, r.0), r.1, r.2);
     }
 
 -- ---- the last deed that counts

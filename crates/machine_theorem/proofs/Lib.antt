@@ -93,6 +93,12 @@ mod SingleNumbers
 mod SingleWell
 mod SingleSince
 mod SingleFollows
+mod DataHeard
+mod PioHistory
+mod PioNumbers
+mod WaitingRun
+mod TakenRead
+mod CameRead
 mod CompletedReads
 mod FirstDeeds
 mod FirstCalls
@@ -163,3 +169,5 @@ mod BytesFed
 mod StoredSingles
 mod WholeQueued
 mod WholeSingles
+mod BeginsFree
+mod PioRead

@@ -1,6 +1,6 @@
 -- The command that is not queued, and whose bit of PxCI falls, is the one that its disk ended, be it by a Register FIS or by the last Data of a PIO data-in.
-use Rattle.std.proofs.Common.{◌≡◌, ℕ, suc, ◌+◌, ◌<◌, ◌≤◌, ◌&&◌, Bool, true, false, not, List, [], ◌∷◌, ◌++◌, append_assoc, length, Option, Some, None}
-use Rattle.std.proofs.{Common.{refl, sym, ap, subst, ◌∙◌, inl, inr, arith}, lemmas.List.{length-append}}
+use Rattle.std.proofs.Common.{◌≡◌, ◌⊎◌, ℕ, suc, ◌+◌, ◌<◌, ◌≤◌, ◌&&◌, Bool, true, false, not, List, [], ◌∷◌, ◌++◌, append_assoc, length, Option, Some}
+use Rattle.std.proofs.{Common.{None, refl, sym, ap, subst, ◌∙◌, inl, inr, arith}, lemmas.{Bool.{eq-eqb}, List.{length-append}}}
 use Rattle.std.specs.{Prelude.{◌==◌, ◌||◌, if◌then◌else◌, nat_lt, MatchOption}, List.flat_map}
 use Rattle.fis_view.specs.{Frames.{Stamped, marked}, Seen.seen}
 use Rattle.multiplier.specs.Passing.{of_conn}
@@ -18,9 +18,9 @@ use Rattle.sata_disk.specs.{Sending.IsOut, State.{DiskState, new_disk}, declared
 use Rattle.sata_disk.specs.declared.out.Out.TheVariants as out
 use Rattle.sata_disk_books.specs.{Books.page_in, Ended.SinglesAreOfPages, LastData.sets_up_last}
 use Rattle.sata_disk_laws.specs.{Calls.{AreCalls, Call, Hears, Sends, after_calls}, Laws.reached, Once.{AnswersAreSingle, ForLast, ForNothing, Host}}
-use Rattle.sata_disk_laws.specs.Once.{IsDataAt, IsOutDue, host_of, new_host}
+use Rattle.sata_disk_laws.specs.Once.{IsDataAt, IsOutDue, Wait, data_got_by, host_after, host_of, new_host}
 use Rattle.sata_disk_laws.proofs.Door.{calls_after, calls_both}
-use Rattle.ahci_machine.specs.States.{IsOpeningMachine, MachineState, bay_at}
+use Rattle.ahci_machine.specs.{States.{IsOpeningMachine, MachineState, bay_at}, declared.bay.Unit.TheVariants.Disk}
 use Rattle.ahci_machine.specs.declared.act.Act.TheVariants as act
 use Rattle.machine_laws.specs.{ControllerLaws.{ControllerRuns, OpensSo, RunsRuled, calls_in}, Controllers.GathersDue, Deeds.{Deed, Does}}
 use Rattle.machine_laws.specs.{Deeds.{FrameOffered, Moved}, Disks.{DisksGoOn, calls_at}, Falling.{AllLast, HasLink, heard_by}, Feeding.IsOrderOf}
@@ -29,10 +29,11 @@ use Rattle.machine_laws.specs.Rising.{no_frames, risen, sent_by}
 use Rattle.machine_theorem.specs.{Completed.CompletionsAreOfDevices, Given.IsWhole, Ending.{AllKeepEnding, SentLastWait, UnqueuedCommandsWait}}
 use Rattle.machine_theorem.specs.{Ending.carries, Identity.{calls_of, picks}, InTurn.{AreKeptOn, IsIdle, heard_in, is_answer, is_answering}}
 use Rattle.machine_theorem.specs.{InTurn.is_asking, OwnSlots.{AllKeepLine, KeepsLine, is_of}, PioIn.{IsAnsweredThere, IsDoneThere, IsEndedThere}}
-use Rattle.machine_theorem.specs.{PioIn.{IsWholeThere, PlainUnqueuedAreOfSlots, UnqueuedAreOfSlots}, Settled.{AreSettled, CommandsAreSettledInTurn}}
-use Rattle.machine_theorem.specs.Settled.{IsAskedInTurn, IsBehindLastBlock, IsSettledLast, IsUnsettled, SectorsEndByData, IsWholeInTurn, is_data}
-use Rattle.machine_theorem.specs.{Settled.settled_in, Singles.{AllOfDevice, BeginsIdle, IsFromSlot, IsSlots}, Tags.once_if, Transfers.TransfersEndSo}
-use Rattle.machine_theorem.specs.{Transfers.is_transferring, Waits.{IsWaitingAlone, commanded_in, is_commanded, waits_in}, Crossing.Within}
+use Rattle.machine_theorem.specs.{PioIn.{IsLeftIdle, IsWholeThere, PlainUnqueuedAreOfSlots, UnqueuedAreOfSlots}, Settled.AreSettled}
+use Rattle.machine_theorem.specs.Settled.{CommandsAreSettledInTurn, IsAskedInTurn, IsBehindLastBlock, IsSettledLast, IsUnsettled, SectorsEndByData}
+use Rattle.machine_theorem.specs.{Settled.{IsWholeInTurn, is_data, settled_in}, Singles.{AllOfDevice, BeginsIdle, IsFromSlot, IsSlots}, Tags.once_if}
+use Rattle.machine_theorem.specs.{Transfers.{TransfersEndSo, is_transferring}, Waits.{IsWaitingAlone, commanded_in, is_commanded, waits_in}}
+use Rattle.machine_theorem.specs.Crossing.{Within}
 use Rattle.machine_theorem.proofs.{Answered.heard_both, AsSupplied.supplied_in, Asking.all_none as data_none, Closing.{EndsTrue, await_settled, due}}
 use Rattle.machine_theorem.proofs.{Closing.{due_shut, settled_last, taken_kinds}, Commanded.{AreNoCommands, all_none, asked, asked_few, heard_long}}
 use Rattle.machine_theorem.proofs.{EndsFew.{disk_same, sent_of}, ErrorNone.{IsErrorFis, fails_with}, Fallen.{heard_among, line_stays}, Falls.Told}
@@ -41,8 +42,8 @@ use Rattle.machine_theorem.proofs.{KindsSent.{sent_within, taken_within}, LastSe
 use Rattle.machine_theorem.proofs.{Own.last_ruled, OwnPlace.{Found, InOrder, came_one, find, frames_are, head_or, in_order, linked, port_is}}
 use Rattle.machine_theorem.proofs.{OwnPlace.untaken_is, RegistersSent.says, SentFises.{GoneOn, offers_none, sender_is, stretch_made}, Still.fis_of}
 use Rattle.machine_theorem.proofs.{Stretch.whole_run, Shutting.is_shut, SinglesOwn.{completed_by, completed_waits, earns, kept_behind, kept_first}}
-use Rattle.machine_theorem.proofs.{SinglesOwn.{last_heard, no_error, owner_is}, TagCounts.due_at, Waiting.{low_slot, some_waits}, Within.all_of}
-use Rattle.machine_theorem.proofs.{Within.{fewer, within_picks, within_then}, EndedByData.{answered_less, behind_block, data_ends, says_data}}
+use Rattle.machine_theorem.proofs.{SinglesOwn.{last_heard, no_error, owner_is}, TagCounts.{due_at, host_then}, Waiting.{low_slot, some_waits}}
+use Rattle.machine_theorem.proofs.{Within.{all_of, fewer, within_picks, within_then}, EndedByData.{answered_less, behind_block, data_ends, says_data}}
 use Rattle.machine_theorem.proofs.Asking as asking
 use Rattle.machine_theorem.proofs.Fallen as fallen
 use Rattle.machine_theorem.proofs.Falls as falls
@@ -437,6 +438,7 @@ module _ (laws : Laws) (s : Stretch) where
     record IsAllSettled : Type 0 where
       all : heard_in then' ≤ settled_in then'
       last : IsBehindLastBlock then'
+      none : heard_in behind ≡ 0
 
     all_settled : AreSettled s.p s.limit s.base then' → is_shut s.dev end ≡ true → IsAllSettled
     all_settled turn shuts =
@@ -451,10 +453,11 @@ module _ (laws : Laws) (s : Stretch) where
         let c = q.ordered in
         let less = turn.fewer in
         let all : heard_in then' ≤ settled_in then' = omega (arith, among, said_many, sum, free, a, b, c) in
+        let none : heard_in behind ≡ 0 = omega (arith, among, said_many, sum, free, a, b, c, less) in
         let full : length (said_kinds then') ≤ length (taken_kinds s.dev (events s)) = omega (arith, said_many, sum, free, a, b, c, less) in
         let same : taken_kinds s.dev (events s) ≡ said_kinds then' = all_of (taken_kinds s.dev (events s)) (said_kinds then') said full in
         elim (settled_last (waiting_laws laws) s.dev s.dev_low start end (events s) s.runs.calls s.waiting (t.past s.dev) (t.told s.dev s.dev_low) s.clear some_wait shuts) [
-          | inl ends ↦ record { all = all; last = behind_block then' (subst EndsTrue same ends) }
+          | inl ends ↦ record { all = all; last = behind_block then' (subst EndsTrue same ends); none = none }
           | inr strict ↦ absurd (omega (arith, strict, among, said_many, sum, a, b, less))
         ]
 
@@ -514,6 +517,78 @@ module _ (laws : Laws) (s : Stretch) where
             }) in
             record { read = r; slots = it.slots }
 
+    -- ---- behind the last Data
+
+    idle_over : (h : Host) (w : Wait) → w ≡ ForLast → h.in_reset ≡ false → IsIdle (data_got_by h w)
+    idle_over h ForLast is clear = record { waits = refl; clear = clear }
+    idle_over h other is clear = absurd (cc)
+
+    -- they are the last ones that the host waits for
+    data_over : (h : Host) (o : Out) → is_data o ≡ true → h.waits ≡ ForLast → h.in_reset ≡ false → IsIdle (host_after h (Sends o))
+    data_over h (out.Page page) is waits_last clear = idle_over h h.waits waits_last clear
+    data_over h (out.Data place n) is waits_last clear = idle_over h h.waits waits_last clear
+    data_over h other is waits_last clear = absurd (cc)
+
+    abbrev Over : Host → Type 0
+    Over h = (h.waits ≡ ForNothing) ⊎ (h.waits ≡ ForLast)
+
+    -- what follows them while no command is heard
+    is_left : (o : Out) (does : Does found.cut.mid (Moved (act.Speaks s.n o)) found.cut.next)
+        → sent_by found.cut.mid (Moved (act.Speaks s.n o)) found.cut.next does ≡ f ∷ []
+        → found.deed ≡ Moved (act.Speaks s.n o) → carries (seen f.bytes) ≡ true → is_shut s.dev end ≡ true
+        → IsLeftIdle s.n s.p s.limit s.now (s.base ++ calls s)
+    is_left o does sent spoke data' shuts =
+        let t : IsThen o = is_then s.n o does sent in
+        let turn : AreSettled s.p s.limit s.base then' = settled t.whole in
+        let g : IsAllSettled = all_settled turn shuts in
+        let is : is_data o ≡ true =
+        says_data found.cut.mid s.n o found.cut.next does
+        (subst (λ (y : Stamped). carries (seen y.bytes) ≡ true) (sym (risen_is s.n o does sent)) data') in
+        let waits_last : (host_of new_host (s.base ++ then')).waits ≡ ForLast = turn.alone o t.says is g.all g.last in
+        let x : Call = Sends o in
+        let rest : List Call = calls_of s.n found.cut.next found.cut.later s.now found.cut.rest in
+        let then2 : List Call = (s.base ++ then') ++ x ∷ [] in
+        let idle : IsIdle (host_of new_host then2) =
+        subst IsIdle (sym (host_then (s.base ++ then') x new_host))
+        (data_over (host_of new_host (s.base ++ then')) o is waits_last (turn.idle g.all).0) in
+        let behind_is : behind ≡ x ∷ rest = calls_by_now spoke in
+        let split : calls s ≡ then' ++ x ∷ rest = all_calls ∙ ap (λ (l : List Call). then' ++ l) behind_is in
+        let whole_is : s.base ++ calls s ≡ then2 ++ rest =
+        ap (λ (l : List Call). s.base ++ l) split ∙ sym (append_assoc s.base then' (x ∷ rest)) ∙ sym (append_assoc (s.base ++ then') (x ∷ []) rest) in
+        let gone : GoneOn s.many s.n s.c s.dev s.begins.disk (calls s) (of_conn s.n s.c (sent_of s.at s.deeds s.now s.run)) (bay_at s.now s.n).unit =
+        stretch_made s.many s.n s.c s.dev laws.disks s.deeds s.at s.now s.run s.keeps s.begins.disk s.begins.there in
+        let are : AreCalls (new_disk s.p s.limit) (s.base ++ calls s) =
+        calls_both s.base (calls s) (new_disk s.p s.limit) s.are (subst (λ (y : DiskState). AreCalls y (calls s)) s.same gone.are) in
+        let on : AreKeptOn rest = kept_behind then' x rest (subst AreKeptOn split s.on) in
+        let same : 0 + heard_in rest ≡ 0 = sym (ap heard_in behind_is) ∙ g.none in
+        let quiet : heard_in rest ≡ 0 = omega (arith, same) in
+        let turn2 : AreSettled s.p s.limit then2 rest =
+        laws.turn s.p s.limit then2 rest (subst (AreCalls (new_disk s.p s.limit)) whole_is are) idle on in
+        let over = turn2.idle (omega (arith, quiet)) in
+        record {
+          are = are;
+          there = gone.is
+              ∙ ap Disk (ap (λ (y : DiskState). after_calls y (calls s)) s.same ∙ sym (calls_after s.base (calls s) (new_disk s.p s.limit)));
+          idle = subst (λ (l : List Call). IsIdle (host_of new_host l)) (sym whole_is)
+              (record { waits = waits_none rest quiet turn2 over.1; clear = over.0 });
+        }
+      where
+        calls_by_now : found.deed ≡ Moved (act.Speaks s.n o) → behind ≡ Sends o ∷ calls_of s.n found.cut.next found.cut.later s.now found.cut.rest
+        calls_by_now is =
+            ap (λ (l : List Call). l ++ calls_of s.n found.cut.next found.cut.later s.now found.cut.rest)
+            (ap (λ (d : Deed). calls_at found.cut.mid d s.n) is ∙ ap (λ (b : Bool). if b then Sends o ∷ [] else []) (eq-eqb s.n s.n refl))
+
+        waits_none : (rest : List Call) → heard_in rest ≡ 0 → AreSettled s.p s.limit ((s.base ++ then') ++ Sends o ∷ []) rest
+            → Over (host_of new_host (((s.base ++ then') ++ Sends o ∷ []) ++ rest))
+            → (host_of new_host (((s.base ++ then') ++ Sends o ∷ []) ++ rest)).waits ≡ ForNothing
+        waits_none rest quiet turn2 (inl none) = none
+        waits_none rest quiet turn2 (inr last) =
+            let u : IsSettledLast rest = turn2.lasts last in
+            let sum : heard_in rest ≡ heard_in u.front + (once_if (is_asking u.bytes) + heard_in u.later) =
+            ap heard_in u.split ∙ heard_both u.front (Hears u.bytes ∷ u.later) in
+            let one : once_if (is_asking u.bytes) ≡ 1 = ap once_if u.asks in
+            absurd (omega (arith, quiet, sum, one))
+
     -- all of it
     is_done : (spoke : IsSpoken found.deed) → (is_pio issue.work.kind ≡ false → is_answering f.bytes ≡ true)
         → (is_answering f.bytes ≡ false → (is_shut s.dev end ≡ true) × (carries (seen f.bytes) ≡ true))
@@ -531,6 +606,7 @@ module _ (laws : Laws) (s : Stretch) where
       sent = spoke.sent;
       answers = λ answering. is_answers s.n spoke.o spoke.does spoke.sent answering;
       ends = λ other. is_ended s.n spoke.o spoke.does spoke.sent (ends other).1 (ends other).0;
+      left = λ other. is_left spoke.o spoke.does spoke.sent spoke.is (ends other).1 (ends other).0;
       slots = λ is. done_slots spoke.o spoke.does spoke.sent is;
     }
 

@@ -304,6 +304,20 @@ module _ (laws : Laws) (n : ℕ) (low : n < 16) where
   hears_case at frame report new past wrote false k own hears told is =
       absurd (let both = sym is ∙ greeted_none at.core new (port_of frame) _ report hears in cc)
 
+-- and it is that of Data
+pub hears_event : (laws : Laws) (n : ℕ) (at : ControllerState) (frame : List ℕ) (report : TakeReport) (new : Port) (past : History) (wrote : Wrote)
+    (started : Bool)
+    → IsController at → port_of frame ≡ n → CoreHearsIf started at frame report new → IsTold (view_of n at.core) past → report.wrote ≡ Some wrote
+    → event_by at.core (room_for at (port_of frame)) frame ≡ Some (Carried (drop 4 frame))
+hears_event laws n at frame report new past wrote true k own hears told is =
+    let told_own : IsTold (view_of (port_of frame) at.core) past = subst (λ (j : ℕ). IsTold (view_of j at.core) past) (sym own) told in
+    let all = laws.filled at.core at.core new [] refl (record { cores = record { port = k.port; slots = k.slots }; frames = tt }) frame (room_for at
+    (port_of frame)) report past told_own
+    (record { ignored = hears.ignored; heard = hears.heard }) in
+    (subst (λ (o : Option Wrote). ReportsFilled o (drop 4 frame) (event_by at.core (room_for at (port_of frame)) frame) past) is all).is
+hears_event laws n at frame report new past wrote false k own hears told is =
+    absurd (let both = sym is ∙ greeted_none at.core new (port_of frame) _ report hears in cc)
+
 pub data_follow : Laws → DataFollowSetups
 data_follow laws n low old at new events run past told none well frame took takes own calm wrote brought issue there kind =
     let now : Beside QueuedRead n at.core (told_calls n None events) =

@@ -43,7 +43,7 @@ plain_sent (history.PioSetUp count to_host ends) is = tt
 plain_sent (history.Issued slot t) is = tt
 plain_sent (history.SentControl slot) is = tt
 plain_sent (history.SetUp tag offset count to_host) is = tt
-plain_sent (history.Carried bytes) is = tt
+plain_sent (history.Carried bytes) is = absurd is
 plain_sent history.Answered is = tt
 plain_sent (history.Named mask) is = tt
 plain_sent history.Emptied is = tt
@@ -54,7 +54,7 @@ plain_still (history.PioSetUp count to_host ends) is = absurd is
 plain_still (history.Issued slot t) is = tt
 plain_still (history.SentControl slot) is = tt
 plain_still (history.SetUp tag offset count to_host) is = tt
-plain_still (history.Carried bytes) is = tt
+plain_still (history.Carried bytes) is = absurd is
 plain_still history.Answered is = tt
 plain_still (history.Named mask) is = tt
 plain_still history.Emptied is = tt
@@ -166,11 +166,11 @@ second_off : (a b : Bool) → (a && b) ≡ false → a ≡ true → b ≡ false
 second_off true b e f = e
 second_off false b e f = absurd (cc)
 
-frame_sent : (n : ℕ) (e : Call) → FrameIs NotSent plain_sent IsUnsentTurn (turn_of NotSent plain_sent) n e
+frame_sent : (n : ℕ) (e : Call) → FrameIs NotSent plain_sent IsUnsentTurn (turn_of NotSent plain_sent (λ b. tt)) n e
 frame_sent n (call.Took frame took) = λ same port room. fis_not port room frame
 frame_sent n other = tt
 
-frame_still : (n : ℕ) (e : Call) → is_closing n e ≡ false → FrameIs IsStill plain_still IsUnsentTurn (turn_of IsStill plain_still) n e
+frame_still : (n : ℕ) (e : Call) → is_closing n e ≡ false → FrameIs IsStill plain_still IsUnsentTurn (turn_of IsStill plain_still (λ b. tt)) n e
 frame_still n (call.Took frame took) stands =
     λ same port room. some_still (event_by port room frame) (fis_not port room frame) (fis_open port room frame (second_off (port_of frame == n) (closes (seen frame)) stands same))
 frame_still n other stands = tt
@@ -329,7 +329,8 @@ module _ (laws : Laws) (n : ℕ) (below : n < 16) (e : Call) (old new : Controll
       by : (o : Option Issue) → own_issue (slots_of n old.core.slots) w.slot ≡ o
           → (i : Issue) × (own_issue (slots_of n old.core.slots) w.slot ≡ Some i) × (is_waiting i ≡ true)
       by None is =
-          let g = grown NotSent plain_sent IsUnsentTurn (turn_of NotSent plain_sent) n e old new does (core_events laws n below old new e k l does).run (unsent_goes NotSent plain_sent n e old none)
+          let g = grown NotSent plain_sent IsUnsentTurn (turn_of NotSent plain_sent (λ b. tt)) n e old new does (core_events laws n below old new e k
+          l does).run (unsent_goes NotSent plain_sent (λ b. tt) n e old none)
           (frame_sent n e) past in
           let first : issued w.slot past ≡ None = none_of (issued w.slot past) (own_issue (slots_of n old.core.slots) w.slot) (told.issued w.slot) is in
           let now : issued w.slot then' ≡ None =
@@ -347,6 +348,7 @@ module _ (laws : Laws) (n : ℕ) (below : n < 16) (e : Call) (old new : Controll
   shut_back none stands is shuts =
       let w = one_waits n new is in
       let it = waited none w in
-      let g = grown IsStill plain_still IsUnsentTurn (turn_of IsStill plain_still) n e old new does (core_events laws n below old new e k l does).run (unsent_goes IsStill plain_still n e old none)
+      let g = grown IsStill plain_still IsUnsentTurn (turn_of IsStill plain_still (λ b. tt)) n e old new does (core_events laws n below old new e k l
+      does).run (unsent_goes IsStill plain_still (λ b. tt) n e old none)
       (frame_still n e stands) past in
       shut_view n old k past told w.slot it.0 it.1 it.2 (all_open g.more past g.all (ap shut (sym g.is) ∙ shut_told n new l then' told_then shuts))

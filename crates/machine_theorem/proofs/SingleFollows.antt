@@ -19,7 +19,7 @@ use Rattle.ahci_controller.specs.declared.next.Next.TheVariants as next_step
 use Rattle.controller_laws.specs.{CoreEvents.{AreCoreEvents, of_event, of_next, of_turn}, Events.{Does, Event, IsController, Runs, Takes}}
 use Rattle.controller_laws.specs.Events as call
 use Rattle.sata_disk_books.specs.Counted.{Counted, more_by}
-use Rattle.machine_theorem.specs.{Following.{AllHeardWell, HearsWell, told_call, told_calls}, Tags.once_if, Waits.{HasPlain, commanded_in}}
+use Rattle.machine_theorem.specs.{Ending.HasNoQueued, Following.{AllHeardWell, HearsWell, told_call, told_calls}, Tags.once_if, Waits.commanded_in}
 use Rattle.machine_theorem.specs.Waits.{is_command_issue, is_commanded, waits_in}
 use Rattle.machine_theorem.proofs.{Ordered.last_kept, SetupHistory.{Follows, IsMild, NoneUp, carried_follows, mild_follows, nothing_up}}
 use Rattle.machine_theorem.proofs.{SetupHistory.set_up_follows, SetupFrames.has_up, SetupCores.{Beside, first_core, told_next}, SetupCalls.CarriesAt}
@@ -207,7 +207,8 @@ module _ (laws : Laws) (n : ℕ) (low : n < 16) (slot : ℕ) where
       (call_beside e old run.1.0 run.1.1 run.0 (first_kept later run.1.0 new run.1.2) well.0 both.0 t was)
 
   -- while no slot of the device waits, no READ DMA is set up
-  none_up : (c : ControllerState) → IsController c → HasPlain n c → waits_in n c ≡ false → (past : History) → IsTold (view_of n c.core) past → NoneUp DmaIn past
+  none_up : (c : ControllerState) → IsController c → HasNoQueued n c → waits_in n c ≡ false → (past : History) → IsTold (view_of n c.core) past
+      → NoneUp DmaIn past
   none_up c k plain free past told s up =
       let h = has_up DmaIn (view_of n c.core) past s told up in
       false≢true (sym free ∙ set_up_waits n c k plain h.context h.set)
@@ -215,7 +216,7 @@ module _ (laws : Laws) (n : ℕ) (low : n < 16) (slot : ℕ) where
   -- ---- the stretch from the command on
 
   pub follows : (at : ControllerState) (dev : ℕ) (fis : List ℕ) (later : List Event) (now after : ControllerState)
-      (run : Runs at (call.Turned (next_step.Order dev slot fis) ∷ later) now) → HasPlain n at → waits_in n at ≡ false
+      (run : Runs at (call.Turned (next_step.Order dev slot fis) ∷ later) now) → HasNoQueued n at → waits_in n at ≡ false
       → (past : History) → IsTold (view_of n at.core) past → AllHeardWell n run.1.0 later now run.1.2 → commanded_in n run.1.0 later now run.1.2 ≡ 0
       → (frame : List ℕ) (took : Took) → Takes now frame took after → port_of frame ≡ n → is_overflow took.report.fault ≡ false
       → (wrote : Wrote) → took.brought ≡ Some wrote → (issue : Issue) → issue_at now.core.slots wrote.slot ≡ Some issue → issue.work.kind ≡ DmaIn

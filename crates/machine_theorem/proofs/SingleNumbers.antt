@@ -76,7 +76,7 @@ out_says d (out.Data p n) b t is fis =
 
 -- ---- no queued command is open
 
-abbrev IsShut : Host → Type 0
+abbrev pub IsShut : Host → Type 0
 IsShut h = (tag : ℕ) → tag < 32 → h.open_at tag ≡ false
 
 announced_shut : (h : Host) (last : Bool) → IsShut h → IsShut (announced h last)
@@ -147,6 +147,25 @@ fis_shut : (h : Host) (r : Result Fis FisFault) → asks_queued r ≡ false → 
 fis_shut h (Ok (view.RegH2D f)) none shut = register_shut h f (is_command f) none shut
 fis_shut h (Ok other) none shut = shut
 fis_shut h (Err fault) none shut = shut
+
+-- nor behind calls by which none is heard
+pub calls_shut : (calls : List Call) (h : Host) → AllHearSingle calls → IsShut h → IsShut (host_of h calls)
+unfolding host_of
+calls_shut [] h single shut = shut
+calls_shut (Hears f ∷ later) h single shut = calls_shut later (fis_given h (seen f)) single.1 (fis_shut h (seen f) single.0 shut)
+calls_shut (Sends o ∷ later) h single shut = calls_shut later (out_got h o) single.1 (out_shut h o shut)
+calls_shut (Plugs ∷ later) h single shut = calls_shut later (host_after h Plugs) single.1 (λ tag low. refl)
+calls_shut (Starts x ∷ later) h single shut = calls_shut later h single.1 shut
+calls_shut (Asks r ∷ later) h single shut = calls_shut later h single.1 shut
+calls_shut (Answers n a ∷ later) h single shut = calls_shut later h single.1 shut
+
+-- Data are of the command that is not queued
+pub data_place : (h : Host) (place n : ℕ) → IsShut h → IsOutDue h (out.Data place n) → place ≡ 32
+data_place h place n shut due = by (nat_lt place 32) due
+  where
+    by : (b : Bool) → IsDataAt h place b → place ≡ 32
+    by true queued = absurd (false≢true (sym (shut place queued.0) ∙ queued.1))
+    by false single = single.0
 
 -- so nothing goes of one
 none_tagged : (h : Host) (tag : ℕ) → IsShut h → tag < 32 → h.open_at tag ≡ true → ⊥

@@ -11,9 +11,9 @@ use Rattle.controller_laws.specs.Events as call
 use Rattle.controller_laws.specs.Events.{Does, Event, IsController, Runs}
 use Rattle.sata_disk_books.specs.{Counted.Counted, Fises.told_by}
 use Rattle.machine_laws.specs.Rising.{bytes_of, frames_of}
-use Rattle.machine_theorem.specs.{Following.{AllHeardWell, HearsWell, told_call, told_calls}, InTurn.{answers, is_answering}, OwnSlots.AreOne}
-use Rattle.machine_theorem.specs.{OwnSlots.{NoneLost, is_of}, SingleNumbers.{since_after, since_by, since_call, since_calls}, Tags.once_if}
-use Rattle.machine_theorem.specs.Waits.{AllKeepWaiting, AllPlain, HasPlain, KeepsWaiting, is_answered, taken_in, waits_in}
+use Rattle.machine_theorem.specs.{Ending.{AllUnqueued, HasNoQueued}, Following.{AllHeardWell, HearsWell, told_call, told_calls}, InTurn.answers}
+use Rattle.machine_theorem.specs.{InTurn.is_answering, OwnSlots.{AreOne, NoneLost, is_of}, SingleNumbers.{since_after, since_by, since_call}}
+use Rattle.machine_theorem.specs.{SingleNumbers.since_calls, Tags.once_if, Waits.{AllKeepWaiting, KeepsWaiting, is_answered, taken_in, waits_in}}
 use Rattle.machine_theorem.proofs.SingleWell.{Needs, none_queued, set_up_waits, well_needs}
 
 -- ---- lists of calls
@@ -49,7 +49,7 @@ module _ (n t : ℕ) where
       both false = refl
 
   taken_free : (frame : List ℕ) (took : Took) (old mid : ControllerState) → IsController old → call.Takes old frame took mid → HearsWell n old (call.Took frame took)
-      → HasPlain n old → KeepsWaiting n old (call.Took frame took) mid → (waits_in n old ≡ false → t ≡ 0) → waits_in n mid ≡ false → (own : Bool)
+      → HasNoQueued n old → KeepsWaiting n old (call.Took frame took) mid → (waits_in n old ≡ false → t ≡ 0) → waits_in n mid ≡ false → (own : Bool)
       → (port_of frame == n) ≡ own → (r : Result Fis FisFault) → seen frame ≡ r → (if own then since_by r t else t) ≡ 0
   taken_free frame took old mid k takes well plain keeps was free false e r is =
       still (call.Took frame took) old mid keeps (ap (λ (b : Bool). b && is_answering frame) e) was free
@@ -73,7 +73,8 @@ module _ (n t : ℕ) where
   taken_free frame took old mid k takes well plain keeps was free true e (Err fault) is =
       still (call.Took frame took) old mid keeps (answered_by frame took true e (Err fault) is refl) was free
 
-  call_free : (e : Event) (old mid : ControllerState) → IsController old → Does old e mid → HearsWell n old e → HasPlain n old → KeepsWaiting n old e mid
+  call_free : (e : Event) (old mid : ControllerState) → IsController old → Does old e mid → HearsWell n old e → HasNoQueued n old
+      → KeepsWaiting n old e mid
       → (waits_in n old ≡ false → t ≡ 0) → waits_in n mid ≡ false → since_call n e t ≡ 0
   call_free (call.Took frame took) old mid k does well plain keeps was free =
       taken_free frame took old mid k does well plain keeps was free (port_of frame == n) refl (seen frame) refl
@@ -90,7 +91,7 @@ module _ (n t : ℕ) where
   call_free (call.NotThere d number fed) old mid k does well plain keeps was free = still (call.NotThere d number fed) old mid keeps refl was free
 
 pub since_free : (n : ℕ) (events : List Event) (old new : ControllerState) (run : Runs old events new) → AllHeardWell n old events new run
-    → AllPlain n old events new run → AllKeepWaiting n old events new run → (t : ℕ) → (waits_in n old ≡ false → t ≡ 0) → waits_in n new ≡ false
+    → AllUnqueued n old events new run → AllKeepWaiting n old events new run → (t : ℕ) → (waits_in n old ≡ false → t ≡ 0) → waits_in n new ≡ false
     → since_calls n t events ≡ 0
 unfolding since_calls
 since_free n [] old new run well plain keeps t was free = was (ap (waits_in n) (sym run.1) ∙ free)
@@ -105,7 +106,7 @@ at tag count = Some (record { tag = tag; count = count })
 
 module _ (n tag t : ℕ) where
   taken_told : (frame : List ℕ) (took : Took) (old mid : ControllerState) → IsController old → call.Takes old frame took mid → HearsWell n old (call.Took frame took)
-      → HasPlain n old → (own : Bool) → (port_of frame == n) ≡ own → (r : Result Fis FisFault) → seen frame ≡ r → (own && answers r) ≡ false
+      → HasNoQueued n old → (own : Bool) → (port_of frame == n) ≡ own → (r : Result Fis FisFault) → seen frame ≡ r → (own && answers r) ≡ false
       → (if own then told_by r (at tag t) else at tag t) ≡ at tag (if own then since_by r t else t)
   taken_told frame took old mid k takes well plain false e r is none = refl
   taken_told frame took old mid k takes well plain true e (Ok (view.RegD2H f)) is none = absurd (cc)
@@ -121,7 +122,8 @@ module _ (n tag t : ℕ) where
   taken_told frame took old mid k takes well plain true e (Ok (view.Unknown f)) is none = refl
   taken_told frame took old mid k takes well plain true e (Err fault) is none = refl
 
-  call_told : (e : Event) (old mid : ControllerState) → IsController old → Does old e mid → HearsWell n old e → HasPlain n old → is_answered n e ≡ false
+  call_told : (e : Event) (old mid : ControllerState) → IsController old → Does old e mid → HearsWell n old e → HasNoQueued n old
+      → is_answered n e ≡ false
       → told_call n e (at tag t) ≡ at tag (since_call n e t)
   call_told (call.Took frame took) old mid k does well plain none =
       taken_told frame took old mid k does well plain (port_of frame == n) refl (seen frame) refl none
@@ -140,7 +142,7 @@ none_once true m e = absurd (omega (arith, e))
 none_once false m e = (refl, omega (arith, e))
 
 pub since_told : (n tag : ℕ) (events : List Event) (old new : ControllerState) (run : Runs old events new) → AllHeardWell n old events new run
-    → AllPlain n old events new run → taken_in n events ≡ 0 → (t : ℕ) → told_calls n (at tag t) events ≡ at tag (since_calls n t events)
+    → AllUnqueued n old events new run → taken_in n events ≡ 0 → (t : ℕ) → told_calls n (at tag t) events ≡ at tag (since_calls n t events)
 unfolding since_calls told_calls
 since_told n tag [] old new run well plain none t = refl
 since_told n tag (e ∷ later) old new run well plain none t =

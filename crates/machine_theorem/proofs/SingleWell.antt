@@ -17,7 +17,7 @@ use Rattle.hba_laws.proofs.Door.{own_in}
 use Rattle.ahci_controller.specs.{States.ControllerState, Taking.{CoreHearsIf, room_for}, declared.taking.Took.Took}
 use Rattle.controller_laws.specs.Events as call
 use Rattle.controller_laws.specs.Events.{IsController}
-use Rattle.machine_theorem.specs.{Following.IsHeardWell, Waits.{HasPlain, waits_in}}
+use Rattle.machine_theorem.specs.{Following.IsHeardWell, Ending.HasNoQueued, Waits.waits_in}
 use Rattle.slots.proofs.Door.{own_at}
 use Rattle.machine_theorem.proofs.{SetupCores.{context_is, match_is, no_fault}, SinglesOwn.{issue_is, mine, sent_waits, set_up_sent}, Waiting.owner}
 use Rattle.machine_theorem.proofs.Waiting.{some_waits}
@@ -97,25 +97,28 @@ well_needs old new frame took takes well fis viewed =
     hears_needs (ignores (port_of frame) old.core frame) old frame took.report new.core refl
     (subst (λ (b : Bool). CoreHearsIf b old frame took.report new.core) well.started takes.hears.core) well.heard well.well well.runs fis viewed
 
--- ---- while the device has plain commands alone
+-- ---- while the device has no queued commands
 
-module _ (n : ℕ) (c : ControllerState) (kept : IsController c) (plain : HasPlain n c) where
+module _ (n : ℕ) (c : ControllerState) (kept : IsController c) (plain : HasNoQueued n c) where
   -- a slot that is set up waits
-  pub set_up_waits : (x : Context) → context_of c.core.slots n ≡ Some x → waits_in n c ≡ true
-  set_up_waits x is =
+  pub set_up_issue : (x : Context) → context_of c.core.slots n ≡ Some x
+      → (i : Issue) × ((own_issue (slots_of n c.core.slots) x.slot ≡ Some i) × (is_waiting i ≡ true))
+  set_up_issue x is =
       let there : IsContext n c.core.slots x = context_is n c.core x kept.slots is in
       let of = match_is (IsContextOf n x) (issue_at c.core.slots x.slot) there.1 in
       let i : Issue = of.0 in
-      let queued : is_queued_issue i ≡ false = (plain x.slot i of.1.0 of.1.1.of_dev).0 in
+      let queued : is_queued_issue i ≡ false = plain x.slot i of.1.0 of.1.1.of_dev in
       let set : context_of c.core.slots i.dev ≡ Some x = ap (context_of c.core.slots) of.1.1.of_dev ∙ is in
       let sent : i.sent ≡ true = set_up_sent x.slot there.0 c kept i of.1.0 queued x set refl in
       let waits : is_waiting i ≡ true = sent_waits i (issue_is x.slot there.0 c kept i of.1.0 queued) queued sent in
-      some_waits n x.slot c kept i
-      (subst (λ (j : ℕ). own_issue (slots_of j c.core.slots) x.slot ≡ Some i) of.1.1.of_dev (mine x.slot there.0 c kept i of.1.0 queued)) waits
+      (i, (subst (λ (j : ℕ). own_issue (slots_of j c.core.slots) x.slot ≡ Some i) of.1.1.of_dev (mine x.slot there.0 c kept i of.1.0 queued), waits))
+
+  pub set_up_waits : (x : Context) → context_of c.core.slots n ≡ Some x → waits_in n c ≡ true
+  set_up_waits x is = let it = set_up_issue x is in some_waits n x.slot c kept it.0 it.1.0 it.1.1
 
   -- none is queued
   pub none_queued : (s : ℕ) (i : Issue) → own_issue (slots_of n c.core.slots) s ≡ Some i → is_queued_issue i ≡ true → ⊥
   none_queued s i is queued =
       let it = own_in n s c.core.slots i is in
       let dev : i.dev ≡ n = owner n i (issue_at c.core.slots s) (sym (own_at n c.core.slots s it.0) ∙ is) in
-      false≢true (sym (plain s i it.1 dev).0 ∙ queued)
+      false≢true (sym (plain s i it.1 dev) ∙ queued)

@@ -21,7 +21,7 @@ use Rattle.ata_front.specs.declared.task.Owed.TheVariants as owe
 use Rattle.ata_front.specs.declared.task.Task.TheVariants as tasks
 use Rattle.ata_reply.specs.declared.reply.{AtaError.TheVariants.NotFound, Reply.Reply}
 use Rattle.ata_reply.specs.declared.reply.Reply.TheVariants as replies
-use Rattle.disk_pages.specs.Profiles.{facts_of}
+use Rattle.disk_pages.specs.{Profiles.facts_of, declared.profile.Profile.Profile}
 use Rattle.sata_disk.specs.Hearing.{asked_of, command_told, command_unheard, data_by, fis_heard, is_command, register_heard, register_unheard}
 use Rattle.sata_disk.specs.{Hearing.with_logs, Sending.{IsOut, after_sent, front_sent, is_done, single_front, trouble_at}, State.DiskState}
 use Rattle.sata_disk.specs.{State.{IsBeside, commands, new_disk, tags_of}, declared.{out.Out.Out, unheard.Unheard.TheVariants.{Busy, InReset}}}
@@ -30,8 +30,9 @@ use Rattle.sata_disk_laws.specs.{Awaited.AsidesAreAwaited, Calls.{Answers, AreCa
 use Rattle.sata_disk_laws.specs.{Calls.after_calls, Laws.reached, Once.{AnswersAreSingle, Host, IsOutDue, OpenIsUnderWay, Wait, host_of, new_host}}
 use Rattle.sata_disk_laws.specs.Once.{unheard_of, waits_for_nothing}
 use Rattle.sata_disk_laws.proofs.Door.{calls_after, calls_both}
-use Rattle.machine_theorem.specs.InTurn.{AreKeptOn, IsKeptOn, answered_in, answers_one, commands as asks_one, heard_in, hears_one, is_answer}
-use Rattle.machine_theorem.specs.{InTurn.{is_register, sets_reset}, Tags.once_if, Transfers.{TransfersEndSo, fails, fails_by, is_transfer, transfers}}
+use Rattle.machine_theorem.specs.InTurn.{AreKeptOn, IsIdle, IsKeptOn, answered_in, answers_one, commands as asks_one, heard_in, hears_one, is_answer}
+use Rattle.machine_theorem.specs.{InTurn.{is_register, sets_reset}, Tags.once_if, OwnPages.TransfersSendNoPage, Transfers.{TransfersEndSo, fails}}
+use Rattle.machine_theorem.specs.Transfers.{fails_by, is_transfer, is_transferring, transfers}
 use Rattle.machine_theorem.proofs.TagCounts.{due_at, first_calls}
 
 pub record Laws : Type 0 where
@@ -278,18 +279,31 @@ pub one_then : (d : DiskState) (x : Call) (later : List Call) → after_calls d 
 unfolding after_calls
 one_then d x later = refl
 
-pub end_so : Laws → TransfersEndSo
-end_so laws p limit before bytes later are is idle on heard said o says answer =
-    let all : List Call = before ++ Hears bytes ∷ later in
+-- the front behind the command, and behind calls by which no other is heard or answered
+pub works_behind : OpenIsUnderWay → (p : Profile) (limit : ℕ) (before : List Call) (bytes : List ℕ) (later : List Call)
+    → AreCalls (new_disk p limit) (before ++ Hears bytes ∷ later) → is_transferring bytes ≡ true → IsIdle (host_of new_host before) → AreKeptOn later
+    → heard_in later ≡ 0 → answered_in later ≡ 0 → Works (reached p limit (before ++ Hears bytes ∷ later)).front
+works_behind under_way p limit before bytes later are is idle on heard said =
     let d : DiskState = reached p limit before in
     let first : AreCalls (new_disk p limit) before = first_calls before (Hears bytes ∷ later) (new_disk p limit) are in
     let rest : AreCalls d (Hears bytes ∷ later) = rest_calls before (Hears bytes ∷ later) (new_disk p limit) are in
     let h : Host = host_of new_host before in
     let free : unheard_of h ≡ None = ap (λ (b : Bool). if b then Some InReset else (if waits_for_nothing h.waits then None else Some Busy)) idle.clear ∙ ap (λ (w : Wait). if waits_for_nothing w then None else Some Busy) idle.waits in
-    let works : Works (after_call d (Hears bytes)).front = hears_transfer d (seen bytes) is (λ f c. (laws.under_way p limit before first).heard f c ∙ free) in
+    let works : Works (after_call d (Hears bytes)).front = hears_transfer d (seen bytes) is (λ f c. (under_way p limit before first).heard f c
+    ∙ free) in
     let then' : Works (after_calls (after_call d (Hears bytes)) later).front = calls_so later (after_call d (Hears bytes)) rest.1 on heard said works in
-    let now : Works (reached p limit all).front =
-    subst (λ (x : DiskState). Works x.front) (sym (calls_after before (Hears bytes ∷ later) (new_disk p limit) ∙ one_then d (Hears bytes) later)) then' in
+    subst (λ (x : DiskState). Works x.front) (sym (calls_after before (Hears bytes ∷ later) (new_disk p limit)
+    ∙ one_then d (Hears bytes) later)) then'
+
+pub no_page : OpenIsUnderWay → TransfersSendNoPage
+no_page under_way p limit before bytes later are is idle on heard said page says =
+    owes_no_page (reached p limit (before ++ Hears bytes ∷ later)).front.task page
+    (works_behind under_way p limit before bytes later are is idle on heard said).task says
+
+pub end_so : Laws → TransfersEndSo
+end_so laws p limit before bytes later are is idle on heard said o says answer =
+    let all : List Call = before ++ Hears bytes ∷ later in
+    let now : Works (reached p limit all).front = works_behind laws.under_way p limit before bytes later are is idle on heard said in
     let more : AreCalls (new_disk p limit) (all ++ Sends o ∷ []) = calls_both all (Sends o ∷ []) (new_disk p limit) are (says, tt) in
     let due : IsOutDue (host_of new_host all) o = due_at all (Sends o) new_host (laws.single p limit (all ++ Sends o ∷ []) more) in
     answer_so (host_of new_host all) (reached p limit all) o now (laws.asides p limit all are) due says answer

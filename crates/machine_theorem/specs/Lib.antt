@@ -54,3 +54,5 @@ pub mod CountedAlike
 pub mod StoredSingles
 pub mod WholeQueued
 pub mod WholeSingles
+pub mod OwnPages
+pub mod PioReads

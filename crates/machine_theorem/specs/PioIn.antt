@@ -14,7 +14,7 @@ use Rattle.disk_pages.specs.declared.profile.Profile.{Profile}
 use Rattle.sata_disk.specs.{State.new_disk, declared.out.Out.Out}
 use Rattle.sata_disk.specs.declared.out.Out.TheVariants as out
 use Rattle.sata_disk_laws.specs.{Calls.{AreCalls, Call}, Laws.reached, Once.{ForLast, host_of, new_host}}
-use Rattle.ahci_machine.specs.States.{HasRules, IsOpeningMachine, MachineState}
+use Rattle.ahci_machine.specs.{States.{HasRules, IsOpeningMachine, MachineState, bay_at}, declared.bay.Unit.TheVariants.Disk}
 use Rattle.ahci_machine.specs.declared.act.Act.TheVariants as act
 use Rattle.machine_laws.specs.{ControllerLaws.{ControllerRuns, RunsRuled, calls_in}, Deeds.{Deed, Does, Moved}, Falling.{AllLast, HasLink}}
 use Rattle.machine_laws.specs.Rising.{sent_by}
@@ -54,6 +54,12 @@ pub record IsEndedThere (dev slot : ℕ) (old : MachineState) (before : List Dee
   pub place : (place n : ℕ) → o ≡ out.Data place n → place ≡ 32
   pub read : (n : ℕ) → o ≡ out.Data 32 n → IsWholeThere dev slot old before at first deeds now run p limit base calls n
 
+-- The disk at the port, as these calls of a new one led to it: its host waits for nothing, so another stretch may begin there.
+pub record IsLeftIdle (n : ℕ) (p : Profile) (limit : ℕ) (now : MachineState) (calls : List Call) : Type 0 where
+  pub are : AreCalls (new_disk p limit) calls
+  pub there : (bay_at now n).unit ≡ Disk (reached p limit calls)
+  pub idle : IsIdle (host_of new_host calls)
+
 -- The disk at the port sent the FIS at a moment of the stretch. Some calls of a new one led to it, and then those of the stretch until then.
 pub record IsDoneThere (n dev slot : ℕ) (old : MachineState) (before : List Deed) (at : MachineState) (first : RunsRuled old before at) (deeds : List Deed)
     (now : MachineState) (run : RunsRuled at deeds now) (p : Profile) (limit : ℕ) (base : List Call) (issue : Issue) (f : Stamped) : Type 0 where
@@ -71,6 +77,8 @@ pub record IsDoneThere (n dev slot : ℕ) (old : MachineState) (before : List De
   -- A Register FIS answers the command that the guest had supplied for the slot, any other FIS is its last Data.
   pub answers : is_answering f.bytes ≡ true → IsAnsweredThere dev slot old before at first deeds now run base (calls_of n at sooner mid led) said
   pub ends : is_answering f.bytes ≡ false → IsEndedThere dev slot old before at first deeds now run p limit base (calls_of n at sooner mid led) said
+  -- Behind the last Data the disk did nothing for its host to wait for.
+  pub left : is_answering f.bytes ≡ false → IsLeftIdle n p limit now (base ++ calls_of n at deeds now run)
   -- If it says that a command ended well, the disk did all of it.
   pub slots : said ≡ out.Of 32 replies.Done → IsSlots dev slot old before at first deeds now run p limit (base ++ calls_of n at sooner mid led)
 

@@ -22,6 +22,7 @@ mod own_slots;
 mod own_writes;
 mod parts;
 mod pio;
+mod pio_reads;
 mod read_back;
 mod reads;
 mod single_reads;
@@ -64,6 +65,7 @@ pub use parts::payload_comes_from_devices;
 pub use pio::{
     commands_are_settled_in_turn, commands_await_their_ends, unqueued_commands_are_of_their_slots,
 };
+pub use pio_reads::{pages_go_in_turn, unqueued_reads_are_read};
 pub use read_back::{completed_reads_follow_writes, guests_read_back};
 pub use reads::reads_are_as_supplied;
 pub use single_reads::{

@@ -9,3 +9,4 @@ mod StoredLemmas
 mod StoredSingleLemmas
 mod OverLemmas
 mod SingleReadLemmas
+mod PioReadLemmas

@@ -9,3 +9,4 @@ pub mod StoredWrites
 pub mod StoredSingles
 pub mod OverAll
 pub mod SingleReads
+pub mod PioReads

@@ -18,6 +18,7 @@ ghost use Rattle.uses_machine_theorem.specs.Standing.{BeginsToStand, GoesOnStand
 mod flushes;
 mod over_all;
 mod pio;
+mod pio_reads;
 mod single_reads;
 mod single_writes;
 mod stored_singles;
@@ -29,6 +30,7 @@ use disk_pages::Profile;
 pub use flushes::{knows_flushed_writes, knows_flushes};
 pub use over_all::{knows_reads_over_all, knows_what_is_spared};
 pub use pio::knows_unqueued;
+pub use pio_reads::knows_unqueued_reads;
 use sata_disk::SataDisk;
 pub use single_reads::knows_single_reads;
 pub use single_writes::knows_single_writes;
