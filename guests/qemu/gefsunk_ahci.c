@@ -363,8 +363,6 @@ static void leave(PCIDevice *dev)
     qemu_bh_delete(s->later);
     gef_machine_free(&s->machine);
     gefsunk_faults_load(s, "", NULL);
-    g_free(s->faults);
-    s->faults = NULL;
     g_free(s->state);
     g_free(s->works);
     g_free(s->bytes);
@@ -425,6 +423,11 @@ static void set_faults(Object *obj, const char *file, Error **errp)
     }
 }
 
+static void finalize(Object *obj)
+{
+    g_free(GEFSUNK_AHCI(obj)->faults);
+}
+
 static Property properties[] = {
     DEFINE_PROP_UINT8("ports", GefsunkAhci, ports, MOST_PORTS),
     DEFINE_PROP_BOOL("port0-open", GefsunkAhci, port0_open, true),
@@ -456,6 +459,7 @@ static const TypeInfo types[] = {
         .name = TYPE_GEFSUNK_AHCI,
         .parent = TYPE_PCI_DEVICE,
         .instance_size = sizeof(GefsunkAhci),
+        .instance_finalize = finalize,
         .class_init = init_class,
         .interfaces = (InterfaceInfo[]) { { INTERFACE_CONVENTIONAL_PCI_DEVICE }, { } },
     },
