@@ -73,7 +73,7 @@ class Emulator:
             env=dict(os.environ, MALLOC_PERTURB_="165"))
         for arriving in arrives:
             os.close(arriving)
-        self.socket = self.monitor = None
+        self.socket, self.monitor, self.events = None, None, []
 
     def __enter__(self):
         return self
@@ -121,16 +121,27 @@ class Emulator:
         if not self.monitor:
             self.connect()
         line = json.dumps({"execute": command, "arguments": arguments}).encode() + b"\n"
-        socket.send_fds(self.socket, [line], [file.fileno() for file in files])
-        while True:
-            line = self.monitor.readline()
-            if not line:
-                raise NotSo(f"the emulator ended at {command}: {self.said()[-400:]}")
-            answer = json.loads(line)
-            if "error" in answer:
-                raise Refused(answer["error"]["desc"])
-            if "return" in answer:
-                return answer["return"]
+        try:
+            socket.send_fds(self.socket, [line], [file.fileno() for file in files])
+            while line:
+                line = self.monitor.readline()
+                answer = json.loads(line or "{}")
+                if "error" in answer:
+                    raise Refused(answer["error"]["desc"])
+                if "return" in answer:
+                    return answer["return"]
+                self.events.append(answer)
+        except ConnectionError:
+            pass
+        raise NotSo(f"the emulator ended at {command}: {self.said()[-400:]}")
+
+    def removed(self, device):
+        """Nothing of a device is left: the monitor says so."""
+        def is_so():
+            self.state()
+            return any(it.get("event") == "DEVICE_DELETED" and it["data"].get("device") == device for it in self.events)
+        self.wait(f"the end of {device}", is_so)
+        self.events = []
 
     def hmp(self, line):
         """What a line of the monitor for people says."""

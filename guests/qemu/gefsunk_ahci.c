@@ -76,7 +76,9 @@ static void note_bytes(GefsunkAhci *s, const char *what, uint64_t at, const uint
     char text[GEF_TEXT_ROOM];
     bool is_wanted = s->log || trace_event_get_state_backends(TRACE_GEFSUNK_FIS);
     if (is_wanted && len <= 64 && gef_fis_text(bytes, len, text, sizeof text) == GEF_OK) {
-        trace_gefsunk_fis(text);
+        if (!g_str_has_prefix(text, "unknown")) { /* as other bytes are */
+            trace_gefsunk_fis(text);
+        }
         note_time(s);
         gefsunk_note(s, "# %s\n", text);
     }
