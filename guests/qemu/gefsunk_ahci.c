@@ -30,14 +30,19 @@
 #include "hw/qdev-properties.h"
 #include "migration/vmstate.h"
 #include "gefsunk_ahci.h"
-#ifdef __GLIBC__
-#include <malloc.h>
-#endif
+#include "trace.h"
 
-#define EVENTS 256           /* that are done before others have their turn */
+#define EVENTS 256 /* that are done before others have their turn */
 #define MSI 0x80   /* where capabilities stand */
 #define POWER 0x70
-enum { CAP_FBSS = 0x10000, D3HOT = 3 };
+#define D3HOT 3
+#define PX_FBS 0x140
+
+/* What FIS-based switching has of the registers: CAP.FBSS, PxCMD.FBSCP and PxFBS (AHCI 1.3.1, 3.1.1, 3.3.7 and 3.3.16). */
+static const struct {
+    hwaddr at;
+    uint64_t bits;
+} SWITCHING[] = { { 0, 0x10000 }, { 0x118, 0x400000 }, { PX_FBS, UINT32_MAX } };
 
 void gefsunk_must(gef_status status)
 {
@@ -69,7 +74,11 @@ static void note_time(GefsunkAhci *s)
 static void note_bytes(GefsunkAhci *s, const char *what, uint64_t at, const uint8_t *bytes, size_t len)
 {
     char text[GEF_TEXT_ROOM];
-    if (s->log && len <= 64 && gef_fis_text(bytes, len, text, sizeof text) == GEF_OK) {
+    bool is_wanted = s->log || trace_event_get_state_backends(TRACE_GEFSUNK_FIS);
+    if (is_wanted && len <= 64 && gef_fis_text(bytes, len, text, sizeof text) == GEF_OK) {
+        if (!g_str_has_prefix(text, "unknown")) { /* as other bytes are */
+            trace_gefsunk_fis(text);
+        }
         note_time(s);
         gefsunk_note(s, "# %s\n", text);
     }
@@ -88,6 +97,7 @@ static void read_guest(GefsunkAhci *s, const gef_event *event)
     g_autofree uint8_t *bytes = g_malloc(event->u.read.len);
     gef_status status;
     bool is_there = pci_dma_read(PCI_DEVICE(s), event->u.read.at, bytes, event->u.read.len) == MEMTX_OK;
+    trace_gefsunk_read_guest(event->u.read.at, event->u.read.len, is_there);
     if (is_there) {
         note_bytes(s, "guest", event->u.read.at, bytes, event->u.read.len);
     }
@@ -98,20 +108,34 @@ static void read_guest(GefsunkAhci *s, const gef_event *event)
     }
 }
 
-/* There is nothing to write any more where a reset of the link came between. */
+/*
+ * There is nothing to write any more where a reset of the link came between. The machine takes no word of bytes that went to no memory: the
+ * command ends as any other.
+ */
 static void write_guest(GefsunkAhci *s, const gef_event *event)
 {
     uint8_t bytes[GEF_FIS_ROOM];
     size_t len;
-    if (gef_machine_lent(&s->machine, bytes, sizeof bytes, &len) == GEF_OK) {
-        pci_dma_write(PCI_DEVICE(s), event->u.write.at, bytes, len);
-        note_bytes(s, "show", event->u.write.at, bytes, len);
+    bool is_there;
+    if (gef_machine_lent(&s->machine, bytes, sizeof bytes, &len) != GEF_OK) {
+        return;
     }
+    is_there = pci_dma_write(PCI_DEVICE(s), event->u.write.at, bytes, len) == MEMTX_OK;
+    trace_gefsunk_write_guest(event->u.write.at, len, is_there);
+    if (!is_there) {
+        warn_report_once("gefsunk-ahci: the guest has no memory at 0x%" PRIx64 " for what a disk sent; this is said once", event->u.write.at);
+    }
+    note_bytes(s, "show", event->u.write.at, bytes, len);
+}
+
+static bool is_asleep(GefsunkAhci *s)
+{
+    return pci_get_word(PCI_DEVICE(s)->config + POWER + PCI_PM_CTRL) & PCI_PM_CTRL_STATE_MASK;
 }
 
 static void set_line(GefsunkAhci *s)
 {
-    pci_set_irq(PCI_DEVICE(s), s->is_up && !msi_enabled(PCI_DEVICE(s)));
+    pci_set_irq(PCI_DEVICE(s), s->is_up && !msi_enabled(PCI_DEVICE(s)) && !is_asleep(s));
 }
 
 static void do_event(GefsunkAhci *s, const gef_event *event)
@@ -125,12 +149,14 @@ static void do_event(GefsunkAhci *s, const gef_event *event)
         break;
     case GEF_EVENT_LINE:
         s->is_up = event->u.up;
+        trace_gefsunk_line(s->is_up);
         set_line(s);
         note_time(s);
         gefsunk_note(s, "line %s\n", s->is_up ? "up" : "down");
         break;
     case GEF_EVENT_MESSAGE:
-        if (msi_enabled(PCI_DEVICE(s))) {
+        if (msi_enabled(PCI_DEVICE(s)) && !is_asleep(s)) {
+            trace_gefsunk_message();
             msi_notify(PCI_DEVICE(s), 0);
         }
         break;
@@ -138,6 +164,7 @@ static void do_event(GefsunkAhci *s, const gef_event *event)
         gefsunk_fis_hear(s, s->disks[event->port]);
         break;
     case GEF_EVENT_BEGINS:
+        trace_gefsunk_begins(event->port);
         if (s->disks[event->port] && s->disks[event->port]->fis) {
             gefsunk_fis_begin(s->disks[event->port]);
         }
@@ -149,11 +176,6 @@ static void do_event(GefsunkAhci *s, const gef_event *event)
     }
 }
 
-static bool is_asleep(GefsunkAhci *s)
-{
-    return pci_get_word(PCI_DEVICE(s)->config + POWER + PCI_PM_CTRL) & PCI_PM_CTRL_STATE_MASK;
-}
-
 static bool may_master(GefsunkAhci *s)
 {
     return !is_asleep(s) && pci_get_word(PCI_DEVICE(s)->config + PCI_COMMAND) & PCI_COMMAND_MASTER;
@@ -162,11 +184,15 @@ static bool may_master(GefsunkAhci *s)
 /* The next event, if there is one that can be done. What is of the guest's memory waits for bus mastering, and for power. */
 static bool has_next(GefsunkAhci *s)
 {
-    if (!s->has_event) {
+    bool waited = s->has_event;
+    if (!waited) {
         gefsunk_must(gef_machine_next(&s->machine, &s->event));
     }
     s->has_event = (s->event.kind == GEF_EVENT_READ_GUEST || s->event.kind == GEF_EVENT_WRITE_GUEST) &&
                    !may_master(s);
+    if (s->has_event && !waited) {
+        trace_gefsunk_waits();
+    }
     return s->event.kind != GEF_EVENT_NOTHING && !s->has_event;
 }
 
@@ -211,23 +237,37 @@ static void run_later(void *opaque)
     gefsunk_run(opaque);
 }
 
+/* A value without what fbs=off hides. */
+static uint64_t without_switching(hwaddr at, unsigned size, uint64_t value)
+{
+    for (size_t i = 0; i < ARRAY_SIZE(SWITCHING); i++) {
+        if (at < SWITCHING[i].at + 4 && SWITCHING[i].at < at + size) {
+            value &= ~(at < SWITCHING[i].at ? SWITCHING[i].bits << 8 * (SWITCHING[i].at - at) : SWITCHING[i].bits >> 8 * (at - SWITCHING[i].at));
+        }
+    }
+    return value;
+}
+
 static uint64_t read_register(void *opaque, hwaddr at, unsigned size)
 {
     GefsunkAhci *s = opaque;
     uint64_t value;
     gefsunk_must(gef_machine_read(&s->machine, at, size, &value));
+    trace_gefsunk_read(size, at, value);
     note_time(s);
     gefsunk_note(s, "read %u %" PRIx64 " %0*" PRIx64 "\n", size, at, (int)(2 * size), value);
     if (is_asleep(s)) {
         return UINT64_MAX; /* as where nobody answers */
     }
-    return at < 4 && !s->fbs ? value & ~((uint64_t)CAP_FBSS >> 8 * at) : value;
+    return s->fbs ? value : without_switching(at, size, value);
 }
 
 static void write_register(void *opaque, hwaddr at, uint64_t value, unsigned size)
 {
     GefsunkAhci *s = opaque;
-    if (!s->is_busy && !is_asleep(s)) {
+    bool is_hidden = !s->fbs && at >= PX_FBS && at < PX_FBS + 4;
+    trace_gefsunk_write(size, at, value);
+    if (!s->is_busy && !is_asleep(s) && !is_hidden) {
         note_time(s);
         gefsunk_note(s, "write %u %" PRIx64 " %" PRIx64 "\n", size, at, value);
         gefsunk_must(gef_machine_write(&s->machine, at, size, value));
@@ -251,6 +291,7 @@ static void held(void *opaque, bool is_running, RunState state)
 {
     GefsunkAhci *s = opaque;
     s->is_held = !is_running;
+    trace_gefsunk_held(s->is_held);
     gefsunk_run(s);
 }
 
@@ -285,6 +326,7 @@ static void make(GefsunkAhci *s)
 static void reset(DeviceState *dev)
 {
     GefsunkAhci *s = GEFSUNK_AHCI(dev);
+    trace_gefsunk_reset();
     for (unsigned port = 0; port < MOST_PORTS; port++) {
         if (s->disks[port]) {
             gefsunk_settle(s, s->disks[port]);
@@ -316,18 +358,6 @@ static void write_config(PCIDevice *dev, uint32_t at, uint32_t value, int len)
     qemu_bh_schedule(s->later);
 }
 
-/*
- * Blocks as long as a transfer come and go with each command. By itself glibc gives their pages back to the system whenever the last
- * ones are freed, and new ones then take half of the time of a transfer.
- */
-static void keep_pages(void)
-{
-#ifdef __GLIBC__
-    mallopt(M_MMAP_THRESHOLD, DISK_LIMIT);
-    mallopt(M_TRIM_THRESHOLD, MOST_PORTS * DISK_LIMIT);
-#endif
-}
-
 static void leave(PCIDevice *dev)
 {
     GefsunkAhci *s = GEFSUNK_AHCI(dev);
@@ -335,10 +365,9 @@ static void leave(PCIDevice *dev)
     qemu_bh_delete(s->later);
     gef_machine_free(&s->machine);
     gefsunk_faults_load(s, "", NULL);
-    g_free(s->faults);
-    s->faults = NULL;
     g_free(s->state);
     g_free(s->works);
+    g_free(s->bytes);
     if (s->log) {
         fclose(s->log);
     }
@@ -349,7 +378,6 @@ static void realize(PCIDevice *dev, Error **errp)
 {
     GefsunkAhci *s = GEFSUNK_AHCI(dev);
     const char *file;
-    keep_pages();
     if (s->ports > MOST_PORTS) {
         error_setg(errp, "ports is 0 to %d: 0 for one disk and no multiplier", MOST_PORTS);
         return;
@@ -397,6 +425,11 @@ static void set_faults(Object *obj, const char *file, Error **errp)
     }
 }
 
+static void finalize(Object *obj)
+{
+    g_free(GEFSUNK_AHCI(obj)->faults);
+}
+
 static Property properties[] = {
     DEFINE_PROP_UINT8("ports", GefsunkAhci, ports, MOST_PORTS),
     DEFINE_PROP_BOOL("port0-open", GefsunkAhci, port0_open, true),
@@ -428,6 +461,7 @@ static const TypeInfo types[] = {
         .name = TYPE_GEFSUNK_AHCI,
         .parent = TYPE_PCI_DEVICE,
         .instance_size = sizeof(GefsunkAhci),
+        .instance_finalize = finalize,
         .class_init = init_class,
         .interfaces = (InterfaceInfo[]) { { INTERFACE_CONVENTIONAL_PCI_DEVICE }, { } },
     },

@@ -69,6 +69,7 @@ struct GefsunkDisk {
     Works stopped; /* what goes on as the machine does, after an error */
     unsigned works; /* what its medium has to do */
     uint64_t sectors; /* as its port was told */
+    uint64_t there;   /* sectors of the medium now: a resize is told as the machine is reset */
     struct {
         uint8_t *bytes;
         size_t room;
@@ -87,6 +88,14 @@ struct GefsunkDisk {
 
 typedef struct GefsunkFaults GefsunkFaults;
 
+/* An event as it is saved, with the numbers by which the machine knows it again. */
+typedef struct GefsunkSaved {
+    uint32_t kind, port;
+    uint64_t at, count;  /* a sector and how many; or an address and how many bytes */
+    uint32_t of[2];      /* its request's port and place; or of what is wanted the kind and the owner */
+    uint64_t numbers[2]; /* its request's disk and number; or of what is wanted the number and what is done */
+} GefsunkSaved;
+
 struct GefsunkAhci {
     PCIDevice parent_obj;
     BusState bus;
@@ -100,10 +109,12 @@ struct GefsunkAhci {
     bool is_up;            /* the interrupt line */
     unsigned crowded;      /* disks whose media have too much to do: nothing moves meanwhile */
     VMChangeStateEntry *changes;
-    /* as it is saved: the machine, and what its media have to do still */
-    uint8_t *state, *works;
-    uint32_t state_size, works_size;
-    uint64_t media[MOST_PORTS]; /* the sectors of each disk */
+    /* as it is saved: the machine, the event that waits, what its media have to do still, and the bytes of all stores of that */
+    uint8_t *state, *bytes;
+    uint32_t state_size, bytes_size;
+    GefsunkSaved waiting, *works;
+    int32_t works_count;
+    uint64_t told[MOST_PORTS], media[MOST_PORTS]; /* the sectors of each disk, as its port was told, and of its medium */
     FILE *log;             /* of a recording, or of accesses */
     GefsunkFaults *script; /* of faults, if there is one */
     /* properties */
@@ -130,10 +141,11 @@ GefsunkAhci *gefsunk_controller_of(GefsunkDisk *disk);
 /* A disk is put at its port, and plugged in. */
 gef_status gefsunk_put(GefsunkAhci *s, GefsunkDisk *disk);
 
-/* What is asked of a medium: made of an event, begun, and answered: it was done, or failed at a sector. */
+/* What is asked of a medium: made of an event, begun, and answered: it was done, or failed at a sector, by an error or by that of its kind. */
 Work *gefsunk_new_work(GefsunkAhci *s, const gef_event *event);
 void gefsunk_begin_work(Work *work);
-void gefsunk_answer(Work *work, bool is_done, uint64_t lba);
+void gefsunk_answer(Work *work, uint32_t error, uint64_t lba);
+void gefsunk_fail(Work *work, uint64_t lba);
 
 /* A disk asks its medium. */
 void gefsunk_ask_medium(GefsunkAhci *s, const gef_event *event);

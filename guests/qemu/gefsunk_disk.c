@@ -3,6 +3,7 @@
  */
 #include "qemu/osdep.h"
 #include "qapi/error.h"
+#include "qemu/error-report.h"
 #include "qemu/main-loop.h"
 #include "qemu/memalign.h"
 #include "qemu/module.h"
@@ -11,6 +12,7 @@
 #include "migration/blocker.h"
 #include "sysemu/sysemu.h"
 #include "gefsunk_ahci.h"
+#include "trace.h"
 
 GefsunkAhci *gefsunk_controller_of(GefsunkDisk *disk)
 {
@@ -70,18 +72,17 @@ static void end_work(Work *work)
 }
 
 /* The same of a disk of the machine, and of one by itself. */
-static gef_status told(GefsunkAhci *s, Work *work, bool is_done, uint64_t lba)
+static gef_status told(GefsunkAhci *s, Work *work, uint32_t error, uint64_t lba)
 {
     const gef_request *request = &work->event.u.medium.request;
     bool is_load = work->event.kind == GEF_EVENT_LOAD;
-    uint32_t error = is_load ? GEF_UNC : GEF_ABRT;
     gef_disk *own = &work->disk->link.disk;
     if (work->disk->fis) {
-        return !is_done ? gef_disk_answer_failed(own, request, error, lba) :
+        return error ? gef_disk_answer_failed(own, request, error, lba) :
                is_load ? gef_disk_answer_loaded(own, request, work->bytes, work->vector.size) :
                gef_disk_answer_done(own, request);
     }
-    return !is_done ? gef_machine_answer_failed(&s->machine, request, error, lba) :
+    return error ? gef_machine_answer_failed(&s->machine, request, error, lba) :
            is_load ? gef_machine_answer_loaded(&s->machine, request, work->bytes, work->vector.size) :
            gef_machine_answer_done(&s->machine, request);
 }
@@ -90,10 +91,11 @@ static gef_status told(GefsunkAhci *s, Work *work, bool is_done, uint64_t lba)
  * The disk may refuse an answer, since a reset ends requests, or since it is of somebody's stream: then nobody waits for it. What follows
  * is done later, and not within the backend's own turn: the guest may have it reset this function, which waits for the backend.
  */
-void gefsunk_answer(Work *work, bool is_done, uint64_t lba)
+void gefsunk_answer(Work *work, uint32_t error, uint64_t lba)
 {
     GefsunkAhci *s = gefsunk_controller_of(work->disk);
-    gef_status status = told(s, work, is_done, lba);
+    gef_status status = told(s, work, error, lba);
+    trace_gefsunk_answer(work->disk->port, work->event.u.medium.lba, work->event.u.medium.count, error, status);
     if (status == GEF_NO_MEMORY) {
         gefsunk_must(status);
     }
@@ -101,6 +103,11 @@ void gefsunk_answer(Work *work, bool is_done, uint64_t lba)
     if (!s->is_busy) {
         qemu_bh_schedule(s->later);
     }
+}
+
+void gefsunk_fail(Work *work, uint64_t lba)
+{
+    gefsunk_answer(work, work->event.kind == GEF_EVENT_LOAD ? GEF_UNC : GEF_ABRT, lba);
 }
 
 /* A discard goes on with its next range. What begins while the backend is drained would wait, and end behind that. */
@@ -134,36 +141,51 @@ static void worked(void *opaque, int ret)
         } else if (is_read) {
             memset(work->bytes, 0, work->vector.size);
         }
+        trace_gefsunk_error(work->disk->port, work->event.u.medium.lba, -ret, action);
         blk_error_action(blk, action, is_read, -ret);
     } else {
         block_acct_done(blk_get_stats(blk), &work->account);
     }
     if (action == BLOCK_ERROR_ACTION_REPORT) {
-        gefsunk_answer(work, false, work->event.u.medium.lba);
+        gefsunk_fail(work, work->event.u.medium.lba);
     } else if (action == BLOCK_ERROR_ACTION_IGNORE && work->event.kind == GEF_EVENT_DISCARD) {
         go_on(work);
     } else if (action == BLOCK_ERROR_ACTION_IGNORE) {
-        gefsunk_answer(work, true, 0);
+        gefsunk_answer(work, 0, 0);
     }
 }
 
-/* The next range of a discard, if there is one. */
+/* The next range of a discard, if there is one. Of sectors that a resize took away there is nothing to discard. */
 static void begin_discard(Work *work)
 {
     BlockBackend *blk = work->disk->conf.blk;
     GefsunkAhci *s = gefsunk_controller_of(work->disk);
     gef_range range;
-    int64_t at, len;
-    gef_status status = work->disk->fis ? gef_disk_discarded(&work->disk->link.disk, &work->event.u.medium.request, work->at, &range) :
-                        gef_machine_discarded(&s->machine, &work->event.u.medium.request, work->at, &range);
+    uint64_t lba, count;
+    const gef_request *request = &work->event.u.medium.request;
+    gef_status status = work->disk->fis ? gef_disk_discarded(&work->disk->link.disk, request, work->at, &range) :
+                        gef_machine_discarded(&s->machine, request, work->at, &range);
     if (status != GEF_OK) {
-        gefsunk_answer(work, status == GEF_NOTHING, 0);
+        gefsunk_answer(work, status == GEF_NOTHING ? 0 : GEF_ABRT, 0);
         return;
     }
-    at = range.lba * BDRV_SECTOR_SIZE;
-    len = range.count * BDRV_SECTOR_SIZE;
-    block_acct_start(blk_get_stats(blk), &work->account, len, BLOCK_ACCT_UNMAP);
-    blk_aio_pdiscard(blk, at, len, worked, work);
+    lba = MIN(range.lba, work->disk->there);
+    count = MIN(range.count, work->disk->there - lba);
+    trace_gefsunk_discard(work->disk->port, lba, count);
+    block_acct_start(blk_get_stats(blk), &work->account, count * BDRV_SECTOR_SIZE, BLOCK_ACCT_UNMAP);
+    blk_aio_pdiscard(blk, lba * BDRV_SECTOR_SIZE, count * BDRV_SECTOR_SIZE, worked, work);
+}
+
+/* Sectors that the guest was told of, and that a resize took away: there are none of these. */
+static bool is_past_end(Work *work)
+{
+    uint64_t lba = work->event.u.medium.lba, there = work->disk->there;
+    if (!work->event.u.medium.count || lba + work->event.u.medium.count <= there) {
+        return false;
+    }
+    block_acct_invalid(blk_get_stats(work->disk->conf.blk), work->event.kind == GEF_EVENT_LOAD ? BLOCK_ACCT_READ : BLOCK_ACCT_WRITE);
+    gefsunk_answer(work, GEF_IDNF, MAX(lba, there));
+    return true;
 }
 
 void gefsunk_begin_work(Work *work)
@@ -178,14 +200,20 @@ void gefsunk_begin_work(Work *work)
         begin_discard(work);
         return;
     }
+    if (is_past_end(work)) {
+        return;
+    }
     block_acct_start(blk_get_stats(blk), &work->account, work->vector.size,
                      kind == GEF_EVENT_LOAD ? BLOCK_ACCT_READ :
                      kind == GEF_EVENT_STORE ? BLOCK_ACCT_WRITE : BLOCK_ACCT_FLUSH);
     if (kind == GEF_EVENT_LOAD) {
+        trace_gefsunk_load(work->disk->port, work->event.u.medium.lba, work->event.u.medium.count);
         blk_aio_preadv(blk, at, &work->vector, 0, worked, work);
     } else if (kind == GEF_EVENT_STORE) {
+        trace_gefsunk_store(work->disk->port, work->event.u.medium.lba, work->event.u.medium.count);
         blk_aio_pwritev(blk, at, &work->vector, 0, worked, work);
     } else {
+        trace_gefsunk_flush(work->disk->port);
         blk_aio_flush(blk, worked, work);
     }
 }
@@ -193,7 +221,7 @@ void gefsunk_begin_work(Work *work)
 Work *gefsunk_new_work(GefsunkAhci *s, const gef_event *event)
 {
     Work *work = g_new0(Work, 1);
-    size_t len = (size_t)event->u.medium.count * BDRV_SECTOR_SIZE, filled = 0;
+    size_t len = (size_t)event->u.medium.count * BDRV_SECTOR_SIZE;
     work->disk = s->disks[event->port];
     work->event = *event;
     if (++work->disk->works == MOST_WORKS) {
@@ -203,33 +231,66 @@ Work *gefsunk_new_work(GefsunkAhci *s, const gef_event *event)
         take_bytes(work, len);
         qemu_iovec_init_buf(&work->vector, work->bytes, len);
     }
-    if (event->kind == GEF_EVENT_STORE) {
-        gefsunk_must(work->disk->fis ?
-                     gef_disk_stored(&work->disk->link.disk, &event->u.medium.request, 0, work->bytes, len, &filled) :
-                     gef_machine_stored(&s->machine, &event->u.medium.request, 0, work->bytes, len, &filled));
-        assert(filled == len);
-    }
     return work;
+}
+
+/* The bytes of a store, as its disk has them. */
+static void fill(GefsunkAhci *s, Work *work)
+{
+    const gef_request *request = &work->event.u.medium.request;
+    size_t len = work->vector.size, filled = 0;
+    gefsunk_must(work->disk->fis ? gef_disk_stored(&work->disk->link.disk, request, 0, work->bytes, len, &filled) :
+                 gef_machine_stored(&s->machine, request, 0, work->bytes, len, &filled));
+    assert(filled == len);
 }
 
 /* A disk that came by migration may have no medium. */
 void gefsunk_ask_medium(GefsunkAhci *s, const gef_event *event)
 {
+    Work *work;
     if (!s->disks[event->port]) {
         gefsunk_must(gef_machine_answer_failed(&s->machine, &event->u.medium.request, GEF_ABRT, event->u.medium.lba));
         return;
     }
-    gefsunk_begin_work(gefsunk_new_work(s, event));
+    work = gefsunk_new_work(s, event);
+    if (event->kind == GEF_EVENT_STORE) {
+        fill(s, work);
+    }
+    gefsunk_begin_work(work);
     if (s->record) {
         blk_drain(s->disks[event->port]->conf.blk);
     }
 }
 
+static uint64_t sectors_of(GefsunkDisk *disk)
+{
+    return MAX(blk_getlength(disk->conf.blk), 0) / BDRV_SECTOR_SIZE;
+}
+
+/*
+ * The image was resized. A disk does not change its size while it is in use, and the guest would lose what is on it if it were pulled: so
+ * it is told of the size as the machine is reset, or as the disk comes anew. Until then sectors that are gone are an error.
+ */
+static void resized(void *opaque)
+{
+    GefsunkDisk *disk = opaque;
+    disk->there = sectors_of(disk);
+    trace_gefsunk_resize(disk->port, disk->there, disk->sectors);
+    if (disk->there != disk->sectors) {
+        warn_report("gefsunk-disk: the medium of port %d has %" PRIu64 " sectors now; the guest sees %" PRIu64 " until its machine is reset",
+                    disk->port, disk->there, disk->sectors);
+    }
+}
+
+static const BlockDevOps medium_ops = {
+    .resize_cb = resized,
+};
+
 static gef_disk_profile profile_of(GefsunkDisk *disk)
 {
     return (gef_disk_profile) {
         .model = disk->model, .serial = disk->serial, .firmware = disk->firmware, .wwn = disk->wwn,
-        .sectors = MAX(blk_getlength(disk->conf.blk), 0) / BDRV_SECTOR_SIZE,
+        .sectors = sectors_of(disk),
         .physical = disk->conf.physical_block_size, .rotation = disk->rotation_rate, .depth = disk->depth,
         .trim = disk->conf.discard_granularity != 0, .limit = DISK_LIMIT,
     };
@@ -240,8 +301,12 @@ gef_status gefsunk_put(GefsunkAhci *s, GefsunkDisk *disk)
     gef_disk_profile profile = profile_of(disk);
     gef_status status = disk->fis ? gef_machine_put_device(&s->machine, disk->port) :
                         gef_machine_put_disk(&s->machine, disk->port, &profile);
-    disk->sectors = profile.sectors;
+    disk->there = profile.sectors;
+    if (!disk->fis || !disk->sectors) { /* one by itself is made once */
+        disk->sectors = profile.sectors;
+    }
     if (status == GEF_OK) {
+        trace_gefsunk_plug(disk->port, disk->sectors);
         gefsunk_note(s, "disk %d sectors %" PRIu64 "\n", disk->port, profile.sectors);
         gefsunk_must(gef_machine_plug(&s->machine, disk->port));
     }
@@ -356,6 +421,7 @@ static void realize_disk(DeviceState *dev, Error **errp)
     disk->medium.timer = timer_new_ns(QEMU_CLOCK_VIRTUAL, gefsunk_faults_wake, disk);
     disk->changes = qdev_add_vm_change_state_handler(dev, changed, disk);
     blk_iostatus_enable(disk->conf.blk);
+    blk_set_dev_ops(disk->conf.blk, &medium_ops, disk);
     add_boot_device_path(disk->conf.bootindex, dev, "/disk@0");
     gefsunk_run(s);
 }
@@ -366,9 +432,11 @@ static void unrealize_disk(DeviceState *dev)
     GefsunkAhci *s = gefsunk_controller_of(disk);
     gef_status status;
     gefsunk_settle(s, disk);
+    blk_set_dev_ops(disk->conf.blk, NULL, NULL);
     qemu_del_vm_change_state_handler(disk->changes);
     del_boot_device_path(dev, "/disk@0");
     s->disks[disk->port] = NULL;
+    trace_gefsunk_gone(disk->port);
     gefsunk_note(s, "gone %d\n", disk->port);
     status = gef_machine_remove(&s->machine, disk->port);
     if (status != GEF_NOT_THERE) { /* as where its medium had gone before a reset */

@@ -477,11 +477,11 @@ bool gefsunk_faults_take(Work *work)
         return true;
     }
     if (medium->fails) {
-        gefsunk_answer(work, false, lba);
+        gefsunk_fail(work, lba);
         return true;
     }
     if (work->event.kind == GEF_EVENT_LOAD && lba < medium->bad + medium->bad_count && medium->bad < lba + count) {
-        gefsunk_answer(work, false, MAX(lba, medium->bad));
+        gefsunk_fail(work, MAX(lba, medium->bad));
         return true;
     }
     return false;

@@ -56,8 +56,8 @@ void gefsunk_fis_hear(GefsunkAhci *s, GefsunkDisk *disk)
     uint8_t fis[GEF_FIS_ROOM];
     size_t len;
     GefsunkPassage passage;
-    if (!disk || gef_machine_take_frame(&s->machine, disk->port, fis, sizeof fis, &len) != GEF_OK) {
-        return;
+    if (!disk || gef_machine_take_frame(&s->machine, disk->port, fis, sizeof fis, &len) != GEF_OK || !disk->fis) {
+        return; /* the last as a machine of somebody's stream may have it */
     }
     passage = gefsunk_faults_meet(s, disk, false, fis, &len);
     for (int times = passage.is_twice ? 2 : 1; times && !passage.is_lost && !disk->link.is_deaf; times--) {
