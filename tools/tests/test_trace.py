@@ -15,7 +15,7 @@ class Warnings(unittest.TestCase):
     def test_the_table_has_what_the_case_prints(self) -> None:
         printed = set(re.findall(r"warning: (.*) \(AHCI 1.3.1, (.*)\)", (TOP / "cases/guest/warnings.out").read_text()))
         table = re.findall(r"^\| `(.*?)`.* \| (\d+\.\d+\.\d+) \|$", (TOP / "docs/SCENARIOS.md").read_text(), re.MULTILINE)
-        told = {(re.sub(r"\b[NPD]\b", r"\\d+", rule), section) for rule, section in table}
+        told = {(re.sub(r"\b[NPDT]\b", r"\\d+", rule), section) for rule, section in table}
         self.assertEqual(len(printed), len(told))
         for rule, section in printed:
             self.assertTrue(any(re.fullmatch(words, rule) and section == other for words, other in told), rule)
