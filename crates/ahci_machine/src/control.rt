@@ -102,7 +102,8 @@ impl Machine {
 
     // The bytes of a Data FIS are to be read.
     fn feed(&mut self, alloc: Global, feed: Feed) -> Result<(), AllocError>
-        ensures ok { OnOk result (self.new ≡ record self.old { gathering = feeding self.old feed.dev feed.number feed.slot feed.offset feed.len }) }
+        ensures ok { OnOk result
+            (self.new ≡ record self.old { gathering = feeding self.old feed.dev feed.number feed.slot feed.offset feed.len }) }
         ensures err { OnErr result (self.new ≡ self.old) }
     {
         if feed.dev < 16 {
@@ -217,7 +218,9 @@ impl Machine {
     // These bytes of it are asked for.
     fn want(&mut self, dev: u8, read: GuestRead)
         requires { dev < 16 }
-        ensures { self.new ≡ record self.old { gathering = slice_set self.old.gathering dev (option_map (λ g. asked_for g read.len) (gathering_at self.old dev)) } }
+        ensures { self.new ≡ record self.old {
+          gathering = slice_set self.old.gathering dev (option_map (λ g. asked_for g read.len) (gathering_at self.old dev));
+        } }
     {
         if let Some(gathering) = &mut self.gathering[usize::from(dev)] {
             gathering.ask(read.len);

@@ -174,7 +174,8 @@ impl SataDisk {
     }
 
     /// The request that is next is asked, for sectors that are there. None where there is none, or where 2^63 were asked. The bytes
-    /// of a store are [`SataDisk::bytes`] of its place, and the sectors of a discard [`SataDisk::ranges`], until they are answered.
+    /// of a store are [`SataDisk::stored`], and the sectors of a discard [`SataDisk::discarded`], by its number, until they are
+    /// answered.
     pub fn next_request(&mut self) -> Option<Request>
         ensures asked { IsRequested self.old.engine self.new.engine result }
         ensures others { self.new ≡ record self.old { engine = self.new.engine } }
@@ -334,20 +335,13 @@ impl SataDisk {
         self.engine.stored(place, number)
     }
 
-    /// The sectors of the discard of this number, while it is out. Of one that a reset dropped there are none.
+    /// The sectors of the discard of this number, while it is out: all are there. Of one that a reset dropped there are none.
     pub fn discarded(&self, number: u64) -> Option<&[Range]>
         ensures some { IfSome result (λ ranges. discarded_at self.now.engine number ≡ Some ranges.now) }
         ensures none { IfNone result (discarded_at self.now.engine number ≡ None) }
+        ensures within { IfSome result (λ ranges. All (IsWithin (sectors_of self.now)) ranges.now) }
     {
         self.engine.discarded(number)
-    }
-
-    /// The sectors that the last DATA SET MANAGEMENT discards: all are there.
-    pub fn ranges(&self) -> &[Range]
-        ensures value { result.now ≡ self.now.engine.ranges }
-        ensures within { All (IsWithin (sectors_of self.now)) result.now }
-    {
-        self.engine.ranges()
     }
 
     /// What it is to its host.

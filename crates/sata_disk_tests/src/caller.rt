@@ -57,7 +57,7 @@ impl Bench {
             What::Store { lba, .. } => put_sectors(rt, &mut self.medium, lba, &pending.bytes),
             What::Flush => self.flushes = self.flushes.saturating_add(1),
             What::Discard => {
-                for range in self.disk.ranges() {
+                for range in self.disk.discarded(pending.request.number).unwrap_or(&[]) {
                     let Range { lba, count } = *range;
                     clear_sectors(rt, &mut self.medium, lba, count);
                 }
