@@ -25,7 +25,8 @@
  *   - Ports are numbered from 0. 15 is the control port of the multiplier.
  *   - No call waits, starts a thread, or calls back. Two handles share nothing. Only one thread may use a handle at a
  *     time. You may hand it to another thread if your program orders the two, for example by a lock or a join.
- *   - Memory comes from malloc and is returned by free.
+ *   - Memory comes from malloc and is returned by free. Of blocks of 32 KiB and more the last few that were freed wait for the next, for all
+ *     handles of the process, 8 MiB at most.
  *   - Make no call from a signal handler, or in a forked child of a process with threads.
  */
 #ifndef GEFSUNK_H
@@ -621,8 +622,8 @@ gef_status gef_machine_restore(gef_machine *machine, const uint8_t *bytes, size_
  *     could not be.
  *   - What GEF_EVENT_WRITE_GUEST lends is written before the guest goes on.
  *
- * What is trusted: the prover; the two compilers (the library's and yours); malloc and free; memcpy and the like; and the file
- * c/gefsunk.c, which tests pointers for null, passes each call on, and puts what an event has into its union.
+ * What is trusted: the prover; the two compilers (the library's and yours); malloc and free; memcpy and the like; the file c/gefsunk.c,
+ * which tests pointers for null, passes each call on, and puts what an event has into its union; and c/large.c, the heap over malloc.
  */
 
 #ifdef __cplusplus

@@ -1,0 +1,131 @@
+/*
+ * The heap of a host (c/large.c) under threads that do anything: large SECONDS
+ *
+ * Blocks of random sizes come and grow in four threads, and go in any of them. Each has bytes of its own, which must stay, and lies at a
+ * multiple of 16. Then, alone: a large block that was freed comes again for one of its size, not for one that is twice as large or less
+ * than half, and what waits for that is bounded.
+ */
+#define _DEFAULT_SOURCE
+#include <malloc.h>
+#include <pthread.h>
+#include <stdint.h>
+#include <stdio.h>
+#include <stdlib.h>
+#include <string.h>
+#include <time.h>
+
+struct tried {
+    _Bool is_there;
+    void *at;
+};
+struct tried rattle_alloc(size_t bytes, size_t alignment);
+struct tried rattle_realloc(void *block, size_t kept, size_t bytes, size_t alignment);
+void rattle_dealloc(void *block);
+
+enum { BLOCKS = 64, THREADS = 4, LARGEST = 300000 };
+
+/* A block is of the thread that took it from here. */
+static struct {
+    unsigned char *at;
+    size_t bytes;
+    unsigned char mark;
+} blocks[BLOCKS];
+static pthread_mutex_t lock = PTHREAD_MUTEX_INITIALIZER;
+static time_t end;
+
+static void must(int holds, const char *what) {
+    if (!holds) {
+        puts(what);
+        exit(1);
+    }
+}
+
+static unsigned char *block_of(size_t bytes) {
+    struct tried tried = rattle_alloc(bytes, 16);
+    must(tried.is_there && (uintptr_t)tried.at % 16 == 0, "a block is not there, or lies where none may");
+    return tried.at;
+}
+
+/* Whether a block has its bytes still: the first, the last, and some between. */
+static int has_its_bytes(const unsigned char *at, size_t bytes, unsigned char mark) {
+    for (size_t i = 0; i < bytes; i += i + 64 < bytes ? 64 : 1) {
+        if (at[i] != mark) return 0;
+    }
+    return 1;
+}
+
+static void *plays(void *seed) {
+    uint64_t state = 88172645463325252u + (uintptr_t)seed;
+    while (time(NULL) < end) {
+        size_t place, bytes;
+        unsigned char *at, mark;
+        state ^= state << 13;
+        state ^= state >> 7;
+        state ^= state << 17;
+        place = state % BLOCKS;
+        pthread_mutex_lock(&lock);
+        at = blocks[place].at;
+        bytes = blocks[place].bytes;
+        mark = blocks[place].mark;
+        blocks[place].at = NULL;
+        pthread_mutex_unlock(&lock);
+        if (at) {
+            must(has_its_bytes(at, bytes, mark), "a block has other bytes");
+            if (state >> 32 & 1) {
+                rattle_dealloc(at);
+                continue;
+            }
+            at = rattle_realloc(at, bytes, bytes + 5000, 16).at;
+            must(at && has_its_bytes(at, bytes, mark), "a block that grew has other bytes");
+            bytes += 5000;
+        } else {
+            bytes = (state >> 33) % LARGEST + 1;
+            at = block_of(bytes);
+        }
+        mark = (unsigned char)(state >> 24);
+        memset(at, mark, bytes);
+        pthread_mutex_lock(&lock);
+        if (!blocks[place].at) {
+            blocks[place].at = at;
+            blocks[place].bytes = bytes;
+            blocks[place].mark = mark;
+            at = NULL;
+        }
+        pthread_mutex_unlock(&lock);
+        rattle_dealloc(at);
+    }
+    return NULL;
+}
+
+/* What a C library holds for the blocks that wait. */
+static void is_bounded(void) {
+    enum { MANY = 40, SIZE = 1 << 20 };
+    unsigned char *many[MANY], *one = block_of(100000), *again;
+    size_t before;
+    rattle_dealloc(one);
+    again = block_of(100000);
+    must(again == one, "a large block does not come again");
+    rattle_dealloc(again);
+    again = block_of(40000);
+    must(again != one, "a block comes for one that is less than half");
+    rattle_dealloc(again);
+    again = block_of(150000);
+    must(again != one, "a block comes for one that is larger");
+    rattle_dealloc(again);
+    before = mallinfo2().uordblks + mallinfo2().hblkhd;
+    for (int i = 0; i < MANY; i++) many[i] = block_of(SIZE);
+    for (int i = 0; i < MANY; i++) rattle_dealloc(many[i]);
+    must(mallinfo2().uordblks + mallinfo2().hblkhd < before + (9u << 20), "more waits than 8 MiB");
+    one = block_of(1000);
+    rattle_dealloc(one);
+}
+
+int main(int argc, char **argv) {
+    pthread_t threads[THREADS];
+    end = time(NULL) + (argc > 1 ? atoi(argv[1]) : 3);
+    for (uintptr_t i = 0; i < THREADS; i++) must(!pthread_create(&threads[i], NULL, plays, (void *)(i * 12345)), "no thread");
+    for (int i = 0; i < THREADS; i++) pthread_join(threads[i], NULL);
+    for (int i = 0; i < BLOCKS; i++) rattle_dealloc(blocks[i].at);
+    is_bounded();
+    return 0;
+}
