@@ -128,7 +128,7 @@ gef_status gef_pm_new(gef_pm *pm, uint8_t ports);
 
 /*
  * The same for a host that knows no multipliers, as firmware that boots: port 0 is open from the start (Serial ATA 3.x,
- * 16.3.3, booting with legacy software). Where is_there is not 0, a device is at port 0 already, and FISes pass it at
+ * 16.3.3, booting with legacy software). If is_there is nonzero, a device is at port 0 already, and FISes pass it at
  * once: its signature goes up, and FISes with PM Port 0 go down to it. A device that comes to port 0 later is announced
  * as any other (gef_pm_plug): its FISes wait until the host has cleared SError of the port.
  * Can return GEF_OPEN, GEF_BAD_PORTS, GEF_NO_MEMORY.
@@ -160,8 +160,12 @@ gef_status gef_pm_unplug(gef_pm *pm, uint8_t port);
  * GEF_OK: it was taken. GEF_DROPPED: there is no such port, or the port does not forward (no device, or not opened by
  * the host): the FIS is gone, and counted. GEF_FULL: the control port must give an answer first, or a FIS waits for the
  * device: you still own the FIS.
+ * A FIS to port 15 with Command E4h reads a register, and one with E8h writes it: its port, 15 for a general register, is in
+ * Device 3:0, its number in Features, the value, low byte first, in Count 7:0, LBA 7:0, LBA 15:8 and LBA 23:16.
  * A write of SControl (2) with DET 1, and then 0, is no COMRESET of the device: the port closes and opens, what the device
- * sent before goes up afterwards, and the device is not reset. A software reset of the host does that.
+ * sent before goes up afterwards, and the device is not reset. A software reset of the host does that. Firmware that has the
+ * device's link reads SControl (gef_pm_read) after each FIS to port 15: when DET becomes 1, it resets the link and calls
+ * gef_pm_unplug, and when the link is up again, gef_pm_plug.
  * Can return GEF_CLOSED, GEF_BAD_LENGTH, GEF_FULL, GEF_DROPPED, GEF_NO_MEMORY.
  */
 gef_status gef_pm_from_host(gef_pm *pm, const uint8_t *fis, size_t len);
@@ -170,7 +174,7 @@ gef_status gef_pm_from_host(gef_pm *pm, const uint8_t *fis, size_t len);
  * A FIS arrives from the device at a port. GEF_OK: it waits at the port, and goes up in its turn once the port
  * forwards. GEF_FULL: another one waits there; you still own the FIS. GEF_NOT_THERE: no device is there.
  * The library takes each FIS for one of the device that is there now, so it cannot tell one that an earlier device sent:
- * drop what is left of that before gef_pm_plug. GEF_DROPPED, for a FIS of a device that went, is not to be expected.
+ * drop what is left of that before gef_pm_plug. GEF_DROPPED, for a FIS of a device that went, never happens in practice.
  * Can return GEF_CLOSED, GEF_NO_PORT, GEF_NOT_THERE, GEF_BAD_LENGTH, GEF_FULL, GEF_DROPPED, GEF_NO_MEMORY.
  */
 gef_status gef_pm_from_device(gef_pm *pm, uint8_t port, const uint8_t *fis, size_t len);
@@ -193,7 +197,9 @@ gef_status gef_pm_to_device(gef_pm *pm, uint8_t port, uint8_t *fis, size_t room,
 
 /*
  * Reads a register as the host sees it. A device port has 0 (SStatus), 1 (SError) and 2 (SControl). The control port,
- * 15, has its general registers 0, 1, 2, 32, 33, 64 and 96. The call changes nothing.
+ * 15, has its general registers 0, 1, 2, 32, 33, 64 and 96. The call changes nothing. What the host is told of hardware is
+ * fixed: product, vendor and revision (0 and 1), 133h in SStatus whatever the speed of the link; of SError only bits 16 and
+ * 26 are ever set.
  * Can return GEF_CLOSED, GEF_NO_PORT, GEF_NO_REGISTER.
  */
 gef_status gef_pm_read(gef_pm *pm, uint8_t port, uint16_t number, uint32_t *value);
