@@ -19,7 +19,7 @@ answered law now led n d there lived p limit new before bytes later is flushing 
     law p limit before bytes later it.0 flushing idle on heard none o fis (subst (λ (x : DiskState). IsOut x (Some o)) it.1 next)
     (subst (λ (x : DiskState). IsFis x o fis) it.1 is_fis) answer
 
-abbrev Keeping : Type 1
+abbrev pub Keeping : Type 1
 Keeping = (dev : ℕ) → (old : ControllerState) → (events : List Event) → (now : ControllerState) → Runs old events now → Type 0
 
 pub flushes : (Waits : Keeping) → OfSingles Waits IsFlushDone → (now : MachineState) → KnowsFlushes Waits now
@@ -29,7 +29,7 @@ flushes Waits law now at led many n c dev slot below dev_low low begins p limit 
 
 -- ---- from the write to the flush
 
-keeps_left : (many : Bool) (n tag : ℕ) (deeds : List Deed) (old now : MachineState) (run : RunsRuled old deeds now) → AllKeep many n tag old deeds now run → AreLeft n deeds
+pub keeps_left : (many : Bool) (n tag : ℕ) (deeds : List Deed) (old now : MachineState) (run : RunsRuled old deeds now) → AllKeep many n tag old deeds now run → AreLeft n deeds
 keeps_left many n tag [] old now run keeps = tt
 keeps_left many n tag (deed ∷ later) old now run keeps = (keeps.0.left, keeps_left many n tag later run.1.0 now run.1.2 keeps.1)
 
@@ -37,7 +37,7 @@ last_ruled : (deeds : List Deed) (old now : MachineState) (run : RunsRuled old d
 last_ruled [] old now run = subst (λ (m : MachineState). RunsRuled m [] m) (sym run.1) (run.0, refl)
 last_ruled (deed ∷ later) old now run = last_ruled later run.1.0 now run.1.2
 
-disk_is : (a b : DiskState) → Disk a ≡ Disk b → a ≡ b
+pub disk_is : (a b : DiskState) → Disk a ≡ Disk b → a ≡ b
 disk_is a b e = cc
 
 pub flushed_writes : (Waits : Keeping) → CompletionsAreOfSlots → OfSingles Waits FlushesWrites → DisksAreReachedStill → (now : MachineState) → KnowsFlushedWrites Waits now

@@ -5,6 +5,7 @@ mod SingleFeedLemmas
 mod FeedLemmas
 mod PioLemmas
 mod FlushLemmas
+mod SeenLemmas
 mod StoredLemmas
 mod StoredSingleLemmas
 mod OverLemmas

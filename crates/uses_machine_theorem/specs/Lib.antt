@@ -8,5 +8,6 @@ pub mod Flushes
 pub mod StoredWrites
 pub mod StoredSingles
 pub mod OverAll
+pub mod Seen
 pub mod SingleReads
 pub mod PioReads
