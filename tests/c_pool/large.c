@@ -107,10 +107,10 @@ static void is_bounded(void) {
     must(again == one, "a large block does not come again");
     rattle_dealloc(again);
     again = block_of(40000);
-    must(again != one, "a block comes for one that is less than half");
+    must(malloc_usable_size(again) / 2 <= 40000, "a block comes for one of less than half of its size");
     rattle_dealloc(again);
     again = block_of(150000);
-    must(again != one, "a block comes for one that is larger");
+    must(malloc_usable_size(again) >= 150000, "a block comes for a larger one");
     rattle_dealloc(again);
     before = mallinfo2().uordblks + mallinfo2().hblkhd;
     for (int i = 0; i < MANY; i++) many[i] = block_of(SIZE);
