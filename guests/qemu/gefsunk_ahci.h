@@ -21,7 +21,7 @@ OBJECT_DECLARE_SIMPLE_TYPE(GefsunkDisk, GEFSUNK_DISK)
 #define MOST_PORTS 15
 #define DISK_LIMIT (4u << 20) /* the most bytes that the commands of a disk hold */
 #define MOST_WORKS 256         /* that a medium has to do at once, with what resets dropped */
-#define SPARES 4              /* buffers that a disk keeps, for at most 2,048 sectors each */
+#define SPARES 32             /* buffers that a disk keeps, DISK_LIMIT bytes at most */
 
 /* Something that a disk's medium is to do. */
 typedef struct Work {
@@ -74,6 +74,8 @@ struct GefsunkDisk {
         uint8_t *bytes;
         size_t room;
     } spares[SPARES];
+    size_t spare_bytes;
+    unsigned turn; /* which one goes next */
     GefsunkMedium medium;
     GefsunkLink link; /* where `fis` is on */
     Error *stays;     /* why it is not migrated */

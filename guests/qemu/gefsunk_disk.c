@@ -19,32 +19,52 @@ GefsunkAhci *gefsunk_controller_of(GefsunkDisk *disk)
     return GEFSUNK_AHCI(qdev_get_parent_bus(DEVICE(disk))->parent);
 }
 
-/* Bytes for some work: a spare buffer, or a new one. New pages for each would take half of the time of a long transfer. */
+/* A spare buffer goes. */
+static void lose_spare(GefsunkDisk *disk, unsigned at)
+{
+    qemu_vfree(disk->spares[at].bytes);
+    disk->spare_bytes -= disk->spares[at].room;
+    disk->spares[at].room = 0;
+}
+
+/*
+ * Bytes for some work: the spare buffer that is just long enough, or a new one, since new pages for each would take half of the time of
+ * a long transfer. Where none is, another goes, so that those stay which are used.
+ */
 static void take_bytes(Work *work, size_t len)
 {
     GefsunkDisk *disk = work->disk;
+    unsigned best = SPARES;
     for (unsigned at = 0; at < SPARES; at++) {
-        if (disk->spares[at].room >= len) {
-            work->bytes = disk->spares[at].bytes;
-            work->room = disk->spares[at].room;
-            disk->spares[at].room = 0;
-            return;
+        size_t room = disk->spares[at].room;
+        if (room >= len && (best == SPARES || room < disk->spares[best].room)) {
+            best = at;
         }
+    }
+    if (best < SPARES) {
+        work->bytes = disk->spares[best].bytes;
+        work->room = disk->spares[best].room;
+        disk->spare_bytes -= work->room;
+        disk->spares[best].room = 0;
+        return;
+    }
+    disk->turn = (disk->turn + 1) % SPARES;
+    if (disk->spares[disk->turn].room) {
+        lose_spare(disk, disk->turn);
     }
     work->bytes = blk_blockalign(disk->conf.blk, len);
     work->room = len;
 }
 
-/* They are spare, if they are more than those of another buffer. */
+/* They are spare, where there is a place for them. */
 static void give_bytes(Work *work)
 {
     GefsunkDisk *disk = work->disk;
-    for (unsigned at = 0; at < SPARES; at++) {
-        if (disk->spares[at].room < work->room) {
-            uint8_t *less = disk->spares[at].room ? disk->spares[at].bytes : NULL;
+    for (unsigned at = 0; at < SPARES && disk->spare_bytes + work->room <= DISK_LIMIT; at++) {
+        if (!disk->spares[at].room) {
             disk->spares[at].bytes = work->bytes;
             disk->spares[at].room = work->room;
-            qemu_vfree(less);
+            disk->spare_bytes += work->room;
             return;
         }
     }
@@ -55,7 +75,7 @@ static void free_spares(GefsunkDisk *disk)
 {
     for (unsigned at = 0; at < SPARES; at++) {
         if (disk->spares[at].room) {
-            qemu_vfree(disk->spares[at].bytes);
+            lose_spare(disk, at);
         }
     }
 }

@@ -378,6 +378,8 @@ impl BlockCommand {
         let done = self.done + count_from(self.command, self.done);
         self.done = done;
         self.bytes.clear();
+        // (the next part comes with memory of its own)
+        self.bytes.shrink_to_fit();
         self.sent = 0;
         self.stage = if done < self.command.count {
             Stage::Load
@@ -439,6 +441,9 @@ impl BlockCommand {
         let done = self.done + count_from(self.command, self.done);
         self.done = done;
         self.bytes.clear();
+        if done >= self.command.count {
+            self.bytes.shrink_to_fit();
+        }
         self.sent = 0;
         self.stage = if done < self.command.count {
             Stage::Activate
