@@ -62,6 +62,14 @@ static int freed(gef_status status, int *is_open) {
     return 1;
 }
 
+/* Whether a text has no byte that was there before, and comes where the room just holds it with its 0, but in none shorter. */
+static int is_just(const uint8_t *fis, size_t len, const char *text, char before) {
+    char room[GEF_TEXT_ROOM];
+    size_t need = strlen(text) + 1;
+    if (strchr(text, before) || gef_fis_text(fis, len, room, need) != GEF_OK || strcmp(room, text)) return 0;
+    return gef_fis_text(fis, len, room, need - 1) == GEF_TOO_SHORT;
+}
+
 /* One call; 0 where its answer is none that the header allows. */
 static int call(gef_pm *pm, int *is_open) {
     static uint8_t room[GEF_FIS_ROOM];
@@ -71,6 +79,7 @@ static int call(gef_pm *pm, int *is_open) {
     size_t len = 0, room_len = next() & 1 ? sizeof room : next();
     gef_status status = GEF_OK;
     uint8_t *fis;
+    int is_right;
     switch (what % 12) {
     case 0:
         status = room_len & 1 ? gef_pm_new_with_port_0_open(pm, port, what / 12) : gef_pm_new(pm, port);
@@ -113,9 +122,11 @@ static int call(gef_pm *pm, int *is_open) {
     default:
         fis = fis_of(&len);
         room_len = room_len > sizeof text ? sizeof text : room_len;
+        memset(text, 1, sizeof text);
         status = gef_fis_text(fis, len, text, room_len);
+        is_right = !room_len || (strlen(text) < room_len && (status != GEF_OK || is_just(fis, len, text, 1)));
         free(fis);
-        if (room_len && strlen(text) >= room_len) return 0;
+        if (!is_right) return 0;
         return allowed(status, BIT(GEF_OK) | BIT(GEF_BAD_LENGTH) | BIT(GEF_WRONG_LENGTH) | BIT(GEF_TOO_SHORT))
             && (status != GEF_TOO_SHORT || room_len < GEF_TEXT_ROOM);
     }
@@ -463,42 +474,113 @@ static int crossed(gef_pm *pm, gef_disk *disk, gef_machine *machine) {
     return 1;
 }
 
-/* A null pointer is found out by each call that has one, even where a length is 0. */
-static int nulls(void) {
+/* What calls said that each had one null pointer. */
+static int are_null(const char *of, const gef_status *said, size_t count) {
+    size_t at;
+    for (at = 0; at < count; at++)
+        if (said[at] != GEF_NULL) return printf("call %u of %s with a null pointer: %s\n", (unsigned)at, of, gef_status_text(said[at])), 0;
+    return 1;
+}
+
+static int nulls_of_pm(void) {
     gef_pm pm = GEF_PM_CLOSED;
+    uint8_t bytes[GEF_FIS_ROOM] = {0}, port;
+    char text[GEF_TEXT_ROOM];
+    uint32_t value;
+    size_t len;
+    const gef_status said[] = {
+        gef_pm_new(0, 1), gef_pm_new_with_port_0_open(0, 1, 1), gef_pm_free(0), gef_pm_plug(0, 0), gef_pm_unplug(0, 0),
+        gef_pm_from_host(0, bytes, 20), gef_pm_from_host(&pm, 0, 0), gef_pm_from_device(0, 0, bytes, 20),
+        gef_pm_from_device(&pm, 0, 0, 20), gef_pm_to_host(0, bytes, sizeof bytes, &len, &port),
+        gef_pm_to_host(&pm, 0, 0, &len, &port), gef_pm_to_host(&pm, bytes, sizeof bytes, 0, &port),
+        gef_pm_to_host(&pm, bytes, sizeof bytes, &len, 0), gef_pm_to_device(0, 0, bytes, sizeof bytes, &len),
+        gef_pm_to_device(&pm, 0, 0, 0, &len), gef_pm_to_device(&pm, 0, bytes, sizeof bytes, 0), gef_pm_read(0, 0, 0, &value),
+        gef_pm_read(&pm, 0, 0, 0), gef_pm_dropped(0, &value), gef_pm_dropped(&pm, 0), gef_fis_text(0, 0, text, 1),
+        gef_fis_text(bytes, 20, 0, 0),
+    };
+    return are_null("a multiplier", said, sizeof said / sizeof *said);
+}
+
+/* Profiles that lack a text each, in the order of the texts. */
+static gef_disk_profile textless(unsigned text) {
+    gef_disk_profile profile = {"A", "B", "C", 1, 0, 512, 0, 32, 0, GEF_LEAST_LIMIT};
+    if (text == 0) profile.model = 0;
+    if (text == 1) profile.serial = 0;
+    if (text == 2) profile.firmware = 0;
+    return profile;
+}
+
+static int nulls_of_disk(void) {
     gef_disk disk = GEF_DISK_CLOSED;
-    gef_machine machine = GEF_MACHINE_CLOSED;
+    const gef_disk_profile model = textless(0), serial = textless(1), firmware = textless(2), whole = textless(3);
     gef_request request = {0};
-    gef_disk_profile profile = {0};
+    gef_event event;
     gef_range range;
-    uint8_t bytes[GEF_FIS_ROOM], port;
+    uint8_t bytes[GEF_FIS_ROOM] = {0};
+    size_t len;
+    const gef_status said[] = {
+        gef_disk_new(0, &whole), gef_disk_new(&disk, 0), gef_disk_new(&disk, &model), gef_disk_new(&disk, &serial),
+        gef_disk_new(&disk, &firmware), gef_disk_free(0), gef_disk_plug(0), gef_disk_from_host(0, bytes, 20),
+        gef_disk_from_host(&disk, 0, 0), gef_disk_to_host(0, bytes, sizeof bytes, &len), gef_disk_to_host(&disk, 0, 0, &len),
+        gef_disk_to_host(&disk, bytes, sizeof bytes, 0), gef_disk_next(0, &event), gef_disk_next(&disk, 0),
+        gef_disk_answer_loaded(0, &request, bytes, 512), gef_disk_answer_loaded(&disk, 0, bytes, 512),
+        gef_disk_answer_loaded(&disk, &request, 0, 0), gef_disk_answer_done(0, &request), gef_disk_answer_done(&disk, 0),
+        gef_disk_answer_failed(0, &request, GEF_ABRT, 0), gef_disk_answer_failed(&disk, 0, GEF_ABRT, 0),
+        gef_disk_stored(0, &request, 0, bytes, 0, &len), gef_disk_stored(&disk, 0, 0, bytes, 0, &len),
+        gef_disk_stored(&disk, &request, 0, 0, 0, &len), gef_disk_stored(&disk, &request, 0, bytes, 0, 0),
+        gef_disk_discarded(0, &request, 0, &range), gef_disk_discarded(&disk, 0, 0, &range),
+        gef_disk_discarded(&disk, &request, 0, 0),
+    };
+    return are_null("a disk", said, sizeof said / sizeof *said);
+}
+
+static int nulls_of_machine(void) {
+    gef_machine machine = GEF_MACHINE_CLOSED;
+    const gef_disk_profile model = textless(0), serial = textless(1), firmware = textless(2), whole = textless(3);
+    gef_wanted wanted = {1, 0, 0, 0};
+    gef_event event;
+    uint8_t bytes[GEF_FIS_ROOM] = {0};
     uint64_t value;
     size_t len;
     const gef_status said[] = {
-        gef_pm_new(0, 1), gef_pm_free(0), gef_pm_from_host(&pm, 0, 0), gef_pm_from_device(&pm, 0, 0, 20),
-        gef_pm_to_host(&pm, 0, 0, &len, &port), gef_pm_to_host(&pm, bytes, sizeof bytes, 0, &port),
-        gef_pm_to_host(&pm, bytes, sizeof bytes, &len, 0), gef_pm_to_device(&pm, 0, bytes, sizeof bytes, 0),
-        gef_pm_read(&pm, 0, 0, 0), gef_pm_dropped(&pm, 0), gef_fis_text(0, 0, (char *)bytes, 1),
-        gef_disk_new(0, &profile), gef_disk_new(&disk, 0), gef_disk_new(&disk, &profile), gef_disk_free(0),
-        gef_disk_from_host(&disk, 0, 0), gef_disk_to_host(&disk, bytes, sizeof bytes, 0),
-        gef_disk_to_host(&disk, 0, sizeof bytes, &len), gef_disk_next(&disk, 0), gef_disk_answer_loaded(&disk, 0, bytes, 0),
-        gef_disk_answer_loaded(&disk, &request, 0, 0), gef_disk_answer_done(&disk, 0),
-        gef_disk_answer_failed(&disk, 0, GEF_ABRT, 0), gef_disk_stored(&disk, 0, 0, bytes, 0, &len),
-        gef_disk_stored(&disk, &request, 0, 0, 0, &len), gef_disk_stored(&disk, &request, 0, bytes, 0, 0),
-        gef_disk_discarded(&disk, 0, 0, &range), gef_disk_discarded(&disk, &request, 0, 0), gef_machine_new(0, 0, 0),
-        gef_machine_free(0), gef_machine_read(&machine, 0, 4, 0),
-        gef_machine_read(0, 0, 4, &value), gef_machine_write(0, 0, 4, 0), gef_machine_put_disk(&machine, 0, 0),
-        gef_machine_put_disk(&machine, 0, &profile), gef_machine_next(&machine, 0), gef_machine_lent(&machine, 0, 0, &len),
-        gef_machine_lent(&machine, bytes, 0, 0), gef_machine_supply(&machine, 0, bytes, 0), gef_machine_no_memory(&machine, 0),
-        gef_machine_answer_done(&machine, 0), gef_machine_answer_loaded(&machine, &request, 0, 0),
-        gef_machine_answer_failed(&machine, 0, GEF_ABRT, 0), gef_machine_stored(&machine, &request, 0, 0, 0, &len),
-        gef_machine_discarded(&machine, 0, 0, 0), gef_machine_offer(&machine, 0, 0, 0),
+        gef_machine_new(0, 0, 0), gef_machine_free(0), gef_machine_read(0, 0, 4, &value), gef_machine_read(&machine, 0, 4, 0),
+        gef_machine_write(0, 0, 4, 0), gef_machine_put_disk(0, 0, &whole), gef_machine_put_disk(&machine, 0, 0),
+        gef_machine_put_disk(&machine, 0, &model), gef_machine_put_disk(&machine, 0, &serial),
+        gef_machine_put_disk(&machine, 0, &firmware), gef_machine_put_device(0, 0), gef_machine_plug(0, 0), gef_machine_power_on(0),
+        gef_machine_pull(0, 0), gef_machine_remove(0, 0), gef_machine_next(0, &event), gef_machine_next(&machine, 0),
+        gef_machine_lent(0, bytes, sizeof bytes, &len), gef_machine_lent(&machine, 0, 0, &len),
+        gef_machine_lent(&machine, bytes, 0, 0), gef_machine_supply(0, &wanted, bytes, 1),
+        gef_machine_supply(&machine, 0, bytes, 0), gef_machine_supply(&machine, &wanted, 0, 0), gef_machine_no_memory(0, &wanted),
+        gef_machine_no_memory(&machine, 0), gef_machine_take_frame(0, 0, bytes, sizeof bytes, &len),
         gef_machine_take_frame(&machine, 0, 0, 0, &len), gef_machine_take_frame(&machine, 0, bytes, sizeof bytes, 0),
+        gef_machine_offer(0, 0, bytes, 20), gef_machine_offer(&machine, 0, 0, 0), gef_machine_state_size(0, &len),
+        gef_machine_state_size(&machine, 0), gef_machine_save(0, bytes, sizeof bytes, &len), gef_machine_save(&machine, 0, 0, &len),
+        gef_machine_save(&machine, bytes, sizeof bytes, 0), gef_machine_restore(0, bytes, 8), gef_machine_restore(&machine, 0, 0),
     };
-    size_t at;
-    for (at = 0; at < sizeof said / sizeof *said; at++)
-        if (said[at] != GEF_NULL) return printf("call %u with a null pointer: %s\n", (unsigned)at, gef_status_text(said[at])), 0;
-    return 1;
+    return are_null("a machine", said, sizeof said / sizeof *said);
+}
+
+static int nulls_of_media(void) {
+    gef_machine machine = GEF_MACHINE_CLOSED;
+    gef_request request = {0};
+    gef_range range;
+    uint8_t bytes[512] = {0};
+    size_t len;
+    const gef_status said[] = {
+        gef_machine_answer_loaded(0, &request, bytes, 512), gef_machine_answer_loaded(&machine, 0, bytes, 512),
+        gef_machine_answer_loaded(&machine, &request, 0, 0), gef_machine_answer_done(0, &request),
+        gef_machine_answer_done(&machine, 0), gef_machine_answer_failed(0, &request, GEF_ABRT, 0),
+        gef_machine_answer_failed(&machine, 0, GEF_ABRT, 0), gef_machine_stored(0, &request, 0, bytes, 0, &len),
+        gef_machine_stored(&machine, 0, 0, bytes, 0, &len), gef_machine_stored(&machine, &request, 0, 0, 0, &len),
+        gef_machine_stored(&machine, &request, 0, bytes, 0, 0), gef_machine_discarded(0, &request, 0, &range),
+        gef_machine_discarded(&machine, 0, 0, &range), gef_machine_discarded(&machine, &request, 0, 0),
+    };
+    return are_null("the media of a machine", said, sizeof said / sizeof *said);
+}
+
+/* A null pointer is found out by each call that has one, each alone, even where a length is 0. */
+static int nulls(void) {
+    return nulls_of_pm() && nulls_of_disk() && nulls_of_machine() && nulls_of_media();
 }
 
 /* Plays a list of calls; 0 where one answers what it may not. */

@@ -3,7 +3,7 @@
  *
  *     machine refused           plays a scene again and again, and refuses memory once each time: at the first allocation, at the
  *                               second, and so on. A call that says so is made again; guest and media must end as if it had
- *                               been given.
+ *                               been given. Then all memory is refused before each event: that is told.
  *     machine errors            plays a list in which a disk asks for sectors between the error of another command and the FIS that
  *                               says so: they are wanted no more then, but a store is out until it is answered.
  *     machine power             has power come to the disks while the bytes of a read are written: the rest of them comes.
@@ -117,6 +117,16 @@ static void begin(unsigned ports, uint32_t devices) {
 
 static unsigned long saved_seen, states_refused, states_taken, unknown_asked; /* the last: what was asked of media by unknown machines */
 
+/* Bytes that are no state are refused by what is wrong with them. */
+static void refuse_damaged(uint8_t *state, size_t len) {
+    state[0] ^= 1;
+    if (gef_machine_restore(&machine, state, len) != GEF_NOT_A_STATE) fail("a state with another mark", (unsigned long)len);
+    state[0] ^= 1, state[8] ^= 1;
+    if (gef_machine_restore(&machine, state, len) != GEF_OTHER_VERSION) fail("a state of another version", (unsigned long)len);
+    state[8] ^= 1;
+    if (gef_machine_restore(&machine, state, len - 8) != GEF_BAD_STATE) fail("a state that ends too early", (unsigned long)len);
+}
+
 /* The machine is saved and freed; the one that is restored has the same state, and goes on. */
 static void save_and_restore(void) {
     size_t len, again;
@@ -124,6 +134,7 @@ static void save_and_restore(void) {
     gef_status status;
     if (gef_machine_restore(&machine, one, len) != GEF_OPEN) fail("restored over another", 0);
     must("free", gef_machine_free(&machine));
+    refuse_damaged(one, len);
     CALL(status, gef_machine_restore(&machine, one, len));
     must("restore", status);
     other = state_of(&again);
@@ -701,6 +712,43 @@ static void play_refused(unsigned ports) {
     printf("%lu allocations refused, one at a time\n", all);
 }
 
+/* Asks for the next event while all memory is refused. That is told, or the event needs none; it is not put off again and again. */
+static int step_dry(unsigned long *told) {
+    gef_event event;
+    gef_status status;
+    unsigned asked_again = 0;
+    is_dry = 1;
+    do status = gef_machine_next(&machine, &event);
+    while (status == GEF_OK && event.kind == GEF_EVENT_AGAIN && ++asked_again < 100);
+    is_dry = 0;
+    if (asked_again == 100) fail("refused memory is not told", asked_again);
+    if (status == GEF_NO_MEMORY) {
+        ++*told;
+        return step();
+    }
+    must("next", status);
+    do_event(&event);
+    return event.kind != GEF_EVENT_NOTHING;
+}
+
+/* A read and a write are served though all memory is refused before each event. */
+static void play_dry(unsigned ports) {
+    unsigned long told = 0, steps = 0;
+    begin_honestly(ports, 0);
+    queue(1, 0, 0, 1, 2);
+    queue(2, 0, 1, 8, 1);
+    do {
+        while (step_dry(&told))
+            if (++steps > 100000) fail("still moves", steps);
+        if (request_count) answer(0, 0);
+    } while (request_count);
+    while (step_dry(&told)) continue;
+    if (read_register(CI) | read_register(SACT)) fail("not all commands ended", read_register(SACT));
+    look(1);
+    if (!told) fail("no memory was refused", steps);
+    must("free", gef_machine_free(&machine));
+}
+
 int main(int count, char **words) {
     if (count == 2 && !strcmp(words[1], "power")) {
         play_power(0);
@@ -711,6 +759,9 @@ int main(int count, char **words) {
     } else if (count == 2 && !strcmp(words[1], "refused")) {
         play_refused(3);
         play_refused(0);
+        refused = 0;
+        play_dry(0);
+        play_dry(2);
     } else if (count == 3 && !strcmp(words[1], "random")) {
         play_random(strtod(words[2], 0));
     } else {

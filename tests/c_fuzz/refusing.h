@@ -1,5 +1,5 @@
 /*
- * refusing.h - memory that is refused once. Include it first, and link with -Wl,--wrap=malloc,--wrap=realloc.
+ * refusing.h - memory that is refused once, or as long as one says. Include it first, and link with -Wl,--wrap=malloc,--wrap=realloc.
  */
 #ifndef REFUSING_H
 #define REFUSING_H
@@ -8,6 +8,7 @@
 
 static int is_watched;
 static unsigned long asked, refused; /* how often memory was asked for; the one that is refused */
+static int is_dry;                   /* all is refused */
 
 /* A call, and the same once more where memory was refused. */
 #define CALL(status, call) \
@@ -24,11 +25,11 @@ void *__wrap_malloc(size_t len);
 void *__wrap_realloc(void *at, size_t len);
 
 void *__wrap_malloc(size_t len) {
-    return is_watched && ++asked == refused ? 0 : __real_malloc(len);
+    return is_dry || (is_watched && ++asked == refused) ? 0 : __real_malloc(len);
 }
 
 void *__wrap_realloc(void *at, size_t len) {
-    return is_watched && ++asked == refused ? 0 : __real_realloc(at, len);
+    return is_dry || (is_watched && ++asked == refused) ? 0 : __real_realloc(at, len);
 }
 
 #endif
