@@ -80,8 +80,10 @@ static void settle_all(void) {
     }
 }
 
+#define NAME 0x5000C50012345678u /* the world wide name of each disk */
+
 static void put(unsigned port, int is_device) {
-    gef_disk_profile profile = {"ANY DISK", "1", "1", SECTORS, 0, 512, 1, 32, 1, GEF_LEAST_LIMIT};
+    gef_disk_profile profile = {"ANY DISK", "1", "1", SECTORS, NAME, 512, 1, 32, 1, GEF_LEAST_LIMIT};
     gef_status status;
     if (is_device)
         status = gef_machine_put_device(&machine, (uint8_t)port);
@@ -559,6 +561,18 @@ static void play_random(double seconds) {
     if (!reads_seen || !writes_seen) fail("nothing ended", lists);
 }
 
+/* ---- a disk says its name ----------------------------------------------------------------------------------------- */
+
+/* IDENTIFY DEVICE gives the world wide name (ACS-3, words 108 to 111, the highest first). */
+static void identify(unsigned disk) {
+    const uint8_t *page = memory + data_of(0);
+    uint64_t name = 0;
+    unsigned word;
+    plain(disk, 0xEC, 0, 0, 1, 512, 0);
+    for (word = 108; word < 112; word++) name = name << 16 | (uint64_t)page[2 * word + 1] << 8 | page[2 * word];
+    if (name != NAME) fail("a disk has another name", disk);
+}
+
 /* ---- an error goes late ------------------------------------------------------------------------------------------- */
 
 enum { OF_DATA = 2 };       /* a kind of gef_wanted */
@@ -592,6 +606,7 @@ static size_t asked_at(uint32_t kind, uint64_t lba) {
 static void play_errors(unsigned ports) {
     gef_event data, late, store;
     begin_honestly(ports, 0);
+    identify(0);
     queue(4, 0, 1, 40, 2);
     settle();
     outdate(1);
@@ -670,7 +685,7 @@ static void scene(found *now, unsigned ports) {
     settle_all();
     for (disk = 3; disk < 3 + disks; disk++) look(disk);
     for (disk = 0; disk < disks; disk++) {
-        plain(disk, 0xEC, 0, 0, 1, 512, 0);
+        identify(disk);
         plain(disk, 0xEA, 0, 0, 0, 0, 0);
         settle_all();
         memset(memory + data_of(0), 0, 512);
