@@ -1,8 +1,7 @@
 -- A byte of a read that is not queued was brought before the bit of its slot falls: the disk sent it for the command of the slot, and it is the one
 -- of its number.
-use Rattle.std.proofs.Common.{◌≡◌, ℕ, ◌+◌, ◌<◌, Bool, true, false, List, [], ◌∷◌, ◌++◌, append_assoc, drop, length, refl, sym, ap, subst, ◌∙◌, arith}
+use Rattle.std.proofs.Common.{◌≡◌, ℕ, ◌<◌, Bool, true, false, List, ◌∷◌, ◌++◌, append_assoc, drop, refl, sym, ap, subst, ◌∙◌, arith}
 use Rattle.std.proofs.lemmas.Bool.{eq-eqb}
-use Rattle.std.specs.Prelude.{◌==◌}
 use Rattle.fis_view.specs.Frames.{Stamped}
 use Rattle.slots.specs.{Slots.Issue, declared.work.Kind.Kind}
 use Rattle.hba_fbs.specs.{Taking.port_of, declared.report.Wrote.Wrote}
@@ -14,15 +13,15 @@ use Rattle.sata_disk.specs.declared.out.Out.TheVariants as out
 use Rattle.sata_disk_laws.specs.{Calls.{AreCalls, Call}, Laws.reached, Once.{host_of, new_host}}
 use Rattle.ahci_machine.specs.States.{IsOpeningMachine, MachineState}
 use Rattle.ahci_machine.specs.declared.act.Act.TheVariants as act
-use Rattle.machine_laws.specs.{ControllerLaws.calls_in, Deeds.{Deed, Does, Moved}, Falling.{AllLast, HasLink}, Rising.sent_by}
-use Rattle.machine_theorem.specs.{Brought.DiskStretch, Following.AllHeardWell, Given.IsWhole, Identity.calls_of, InTurn.{AreKeptOn, IsIdle}}
-use Rattle.machine_theorem.specs.{OwnSlots.{AllKeepLine, NoneLost, is_of}, OwnPages.{PagesGoInTurn, TransfersSendNoPage}, PioReads.CameIsRead}
-use Rattle.machine_theorem.specs.{PioReads.IsItsData, SingleBytes.{IsSentFor, OfItsSectors, SingleIsSent}, SingleNumbers.AllHearSingle}
+use Rattle.machine_laws.specs.{ControllerLaws.calls_in, Deeds.{Moved}, Falling.{AllLast, HasLink}}
+use Rattle.machine_theorem.specs.{Brought.{AllTakenWell, DiskStretch}, Given.IsWhole, Identity.calls_of, InTurn.{AreKeptOn, IsIdle}}
+use Rattle.machine_theorem.specs.{OwnSlots.{AllKeepLine, NoneLost, is_of}, OwnPages.{PagesGoInTurn, TransfersSendNoPage}, PioReads.AllKeepUnqueued}
+use Rattle.machine_theorem.specs.{PioReads.{CameIsRead, IsItsData}, SingleBytes.{IsSentFor, OfItsSectors, SingleIsSent}, SingleNumbers.AllHearSingle}
 use Rattle.machine_theorem.specs.{SingleNumbers.{IsSingleByte, OfSingleByte, SingleDataAreCounted, SingleIsRead}, SingleReads.IsSingleDone}
 use Rattle.machine_theorem.specs.{SingleReads.IsWrittenThen, Singles.{BeginsIdle, IsFromSlot}}
-use Rattle.machine_theorem.proofs.{AsSupplied.supplied_in, BroughtAt.Brought, BroughtRead.byte_of, SinglesBrought.single_is, SinglesOwn.kept_first}
+use Rattle.machine_theorem.proofs.{Anew.{Keeps, first_keeps}, AsSupplied.supplied_in, BroughtAt.Brought, BroughtRead.byte_of, SinglesBrought.single_is}
 use Rattle.machine_theorem.proofs.{StillStands.none_both, Stretch.whole_run, TakenRead.{IsNumberedHere, IsOwnHere, IsSentHere, OfHere, OfNumber}}
-use Rattle.machine_theorem.proofs.{TakenRead.{OfOwn, SentThen, taken_numbered, taken_own, taken_sent}, WaitingRun.WaitingRun, WrittenBytes.table_is}
+use Rattle.machine_theorem.proofs.{TakenRead.{OfOwn, SentThen, taken_own, taken_sent}, WrittenBytes.table_is}
 use Rattle.machine_theorem.proofs.WrittenBytes.{written_then}
 use Rattle.machine_theorem.proofs.SinglesBrought as brought
 use Rattle.machine_theorem.proofs.TakenRead as taken
@@ -35,9 +34,8 @@ module _ (laws : Laws) (ports : ℕ) (legacy : Bool) (d : DiskStretch) (opening 
     (dev_low : dev < 16) (low : d.tag < 32) (begins : BeginsIdle d.n c d.at) (are : AreCalls (new_disk d.p d.limit) d.base)
     (same : begins.disk ≡ reached d.p d.limit d.base) (idle : IsIdle (host_of new_host d.base)) (linked : HasLink d.deeds)
     (lasts : AllLast d.n d.at d.deeds d.now d.run) (line : AllKeepLine d.many d.n c dev d.at d.deeds d.now d.run)
-    (on : AreKeptOn (calls_of d.n d.at d.deeds d.now d.run)) (issue : Issue) (done : IsSingleDone d.now d.tag issue) (is_dev : issue.dev ≡ dev)
-    (k : ℕ) (b : Brought issue.work.kind issue.dev d.tag k d.at d.deeds d.now d.run)
-    (w : WaitingRun d.many d.n dev d.at b.cut.sooner b.cut.mid b.cut.led) where
+    (on : AreKeptOn (calls_of d.n d.at d.deeds d.now d.run)) (keeps : AllKeepUnqueued d.many d.n dev d.at d.deeds d.now d.run) (issue : Issue)
+    (done : IsSingleDone d.now d.tag issue) (is_dev : issue.dev ≡ dev) (k : ℕ) (b : Brought issue.work.kind issue.dev d.tag k d.at d.deeds d.now d.run) where
   abbrev kind : Kind
   kind = issue.work.kind
 
@@ -53,17 +51,10 @@ module _ (laws : Laws) (ports : ℕ) (legacy : Bool) (d : DiskStretch) (opening 
   whole : IsWhole d.old d.before d.at d.first d.deeds d.now d.run
   whole = whole_run d.before d.old d.at d.first d.deeds d.now d.run
 
-  linked_then : HasLink b.cut.sooner
-  linked_then = (b.cut.links linked).0
-
-  lasts_then : AllLast d.n d.at b.cut.sooner mid b.cut.led
-  lasts_then = (b.cut.lasts d.n lasts).0
-
-  line_then : AllKeepLine d.many d.n c dev d.at b.cut.sooner mid b.cut.led
-  line_then = (b.cut.line d.many d.n c dev line).0
-
-  on_then : AreKeptOn (calls_of d.n d.at b.cut.sooner mid b.cut.led)
-  on_then = kept_first (calls_of d.n d.at b.cut.sooner mid b.cut.led) _ (subst AreKeptOn (b.cut.own d.n) on)
+  kept_then : Keeps d.many d.n c dev d.at b.cut.sooner mid b.cut.led
+  kept_then =
+      first_keeps d.many d.n c dev d.at d.deeds d.now d.run (Moved (act.Takes b.took)) b.cut
+      (record { linked = linked; lasts = lasts; line = line; on = on; unqueued = keeps })
 
   of_conn_is : is_of d.n c f ≡ true
   of_conn_is = sym (b.cut.line d.many d.n c dev line).1.came.0 ∙ eq-eqb (port_of f.bytes) dev (b.brings.own ∙ is_dev)
@@ -85,7 +76,7 @@ module _ (laws : Laws) (ports : ℕ) (legacy : Bool) (d : DiskStretch) (opening 
         alone = alone;
         whole = whole;
         supplied =
-            supplied_in laws.taken.singles.falls laws.taken.singles.kept ports legacy d.old opening d.before d.at d.first d.deeds d.now d.run d.tag
+            supplied_in laws.taken.anew.own.falls laws.taken.anew.own.kept ports legacy d.old opening d.before d.at d.first d.deeds d.now d.run d.tag
             low issue
             done.is whole dev it.order (record { before = o.before; later = o.later ++ behind; is = is; alone = alone });
       })
@@ -115,9 +106,8 @@ module _ (laws : Laws) (ports : ℕ) (legacy : Bool) (d : DiskStretch) (opening 
 
   pub all_sent : SingleIsSent d issue k
   all_sent =
-      came_sent (taken_sent laws.taken ports legacy d opening c dev below dev_low low begins are same idle b.cut.sooner mid b.cut.led linked_then
-      lasts_then line_then
-      on_then w b.took b.cut.next b.cut.does of_conn_is kind done.kind issue.dev k is_dev b.brings)
+      came_sent (taken_sent laws.taken ports legacy d opening c dev below dev_low low begins are same idle b.cut.sooner mid b.cut.led kept_then
+      b.took b.cut.next b.cut.does of_conn_is kind done.kind issue.dev k is_dev b.brings)
 
   -- ---- its number
 
@@ -174,14 +164,6 @@ module _ (laws : Laws) (ports : ℕ) (legacy : Bool) (d : DiskStretch) (opening 
     read = of_byte (calls_of d.n d.at s.before s.at s.first) s.said s.for;
   }
 
-  pub all_read : SingleDataAreCounted → AllHeardWell dev d.at.controller (calls_in d.at b.cut.sooner mid b.cut.led) mid.controller w.runs.calls
-      → NoneLost dev (calls_in d.at b.cut.sooner mid b.cut.led) → ((tag : ℕ) → tag < 32 → (host_of new_host d.base).open_at tag ≡ false)
-      → AllHearSingle (calls_of d.n d.at b.cut.sooner mid b.cut.led) → SingleIsRead d issue k
-  all_read counted well lost shut hear =
-      came_read (taken_numbered laws.taken ports legacy d opening c dev below dev_low low begins are same idle b.cut.sooner mid b.cut.led linked_then
-      lasts_then
-      line_then on_then w b.took b.cut.next b.cut.does of_conn_is kind done.kind issue.dev k is_dev b.brings counted well lost shut hear)
-
   -- and what kind of Data it is
 
   numbered_of : SentThen d b.cut.sooner mid f (OfOwn d dev b.cut.sooner mid b.cut.led f wrote)
@@ -205,10 +187,8 @@ module _ (laws : Laws) (ports : ℕ) (legacy : Bool) (d : DiskStretch) (opening 
   came_own s = record { came = came_read (numbered_of s); data' = own_data s.said s.for.1 }
 
   pub all_own : PagesGoInTurn → TransfersSendNoPage → SingleDataAreCounted
-      → AllHeardWell dev d.at.controller (calls_in d.at b.cut.sooner mid b.cut.led) mid.controller w.runs.calls
-      → NoneLost dev (calls_in d.at b.cut.sooner mid b.cut.led) → ((tag : ℕ) → tag < 32 → (host_of new_host d.base).open_at tag ≡ false)
+      → AllTakenWell dev d.at b.cut.sooner mid b.cut.led → NoneLost dev (calls_in d.at b.cut.sooner mid b.cut.led) → ((tag : ℕ) → tag < 32 → (host_of new_host d.base).open_at tag ≡ false)
       → AllHearSingle (calls_of d.n d.at b.cut.sooner mid b.cut.led) → CameIsRead d issue k
-  all_own pages none counted well lost shut hear =
-      came_own (taken_own laws.taken ports legacy d opening c dev below dev_low low begins are same idle b.cut.sooner mid b.cut.led linked_then
-      lasts_then
-      line_then on_then w b.took b.cut.next b.cut.does of_conn_is kind done.kind issue.dev k is_dev b.brings counted well lost shut hear pages none)
+  all_own pages none counted taken lost shut hear =
+      came_own (taken_own laws.taken ports legacy d opening c dev below dev_low low begins are same idle b.cut.sooner mid b.cut.led kept_then
+      b.took b.cut.next b.cut.does of_conn_is kind done.kind issue.dev k is_dev b.brings counted taken lost shut hear pages none)

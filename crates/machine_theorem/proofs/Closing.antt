@@ -212,7 +212,7 @@ not_true false off = refl
 
 module _ (laws : Laws) (n : ℕ) (below : n < 16) where
   -- it waits still
-  data_keeps : (frame : List ℕ) (took : Took) (old new : ControllerState) (k : IsController old) (l : IsController new) (does : Does old (call.Took frame took) new) (past : History)
+  pub data_keeps : (frame : List ℕ) (took : Took) (old new : ControllerState) (k : IsController old) (l : IsController new) (does : Does old (call.Took frame took) new) (past : History)
       → (told : IsTold (view_of n old.core) past) → carries (seen frame) ≡ true → waits_in n old ≡ true → is_shut n old ≡ false → waits_in n new ≡ true
   data_keeps frame took old new k l does past told data' waits stands =
       let w : OneWaits n old = one_waits n old waits in

@@ -1,6 +1,6 @@
 -- A command that a FIS ends which is no Register FIS is a PIO data-in whose last block is set up, and the FIS is its Data. Among the calls of a disk the PIO Setup FIS
 -- of this block is found by what settles.
-use Rattle.std.proofs.Common.{◌≡◌, ◌⊎◌, ℕ, ◌+◌, ◌<◌, ◌≤◌, ◌&&◌, Bool, true, false, List, [], ◌∷◌, ◌++◌, append-nil, length, Option, Some, None, refl}
+use Rattle.std.proofs.Common.{◌≡◌, ◌⊎◌, ℕ, ◌<◌, ◌≤◌, ◌&&◌, Bool, true, false, List, [], ◌∷◌, ◌++◌, append-nil, length, Option, Some, None, refl}
 use Rattle.std.proofs.Common.{sym, ap, subst, ◌∙◌, inl, inr, arith}
 use Rattle.std.specs.Prelude.{◌==◌, ◌||◌, if◌then◌else◌, slice_index, IfSome, MatchOption, Result, Ok}
 use Rattle.fis_view.specs.{Seen.{kind_of, seen}, declared.view.{Fis.Fis, FisFault.FisFault}}

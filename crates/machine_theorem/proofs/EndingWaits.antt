@@ -13,7 +13,7 @@ use Rattle.controller_laws.specs.Events.{Does, Event, IsController, Runs}
 use Rattle.machine_theorem.specs.{Commands.{AreNotIssued, issues_in}, Ending.{CommandsAwaitEnds, KeepsEnding, SentLastWait, is_data_of, is_ended}}
 use Rattle.machine_theorem.specs.{Tags.once_if, Waits.{commanded_in, is_answered, is_commanded, waits_in}}
 use Rattle.machine_theorem.proofs.{Shutting.{OneWaits, one_waits, then', told_then, waited, waits_back}, Ordered.last_kept, Unread.is_alone}
-use Rattle.machine_theorem.proofs.Waiting.{IsSent, Laws, commanded_free, first_kept, low_slot, owner, sent_now, some_waits}
+use Rattle.machine_theorem.proofs.Waiting.{IsSent, Laws, commanded_free, commanded_waits, first_kept, owner, sent_now}
 
 -- ---- counts
 
@@ -52,16 +52,10 @@ record Step (n : ℕ) (e : Event) (old new : ControllerState) : Type 0 where
 step : (n : ℕ) (e : Event) (old new : ControllerState) → IsController old → IsController new → Does old e new → KeepsEnding n old e new → Step n e old new
 step n e old new k l does keeps = by (is_commanded n old e) (is_ended n old e new) refl refl
   where
-    goes : (e : Event) → Does old e new → is_commanded n old e ≡ true → waits_in n new ≡ true
-    goes (call.Turned (next.Order dev slot fis)) does is =
-        let it : IsSent n slot old new = sent_now n dev slot fis old new (low_slot n slot old k is) k l does is in
-        some_waits n slot new l it.issue it.mine it.waits
-    goes other does is = absurd (false≢true is)
-
     by : (b d : Bool) → is_commanded n old e ≡ b → is_ended n old e new ≡ d → Step n e old new
     by true d is ends =
         let none = ap once_if (commanded_free n e old new k l does is) in
-        let now = ap once_if (goes e does is) in
+        let now = ap once_if (commanded_waits n e old new k l does is) in
         let one = ap once_if is in
         record { most = omega (arith, none, now, one) }
     by false true is ends =

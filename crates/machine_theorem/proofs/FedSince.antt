@@ -6,7 +6,7 @@ use Rattle.slots.specs.{Data.{payload, payload_len}, Setup.is_outstanding, Slots
 use Rattle.slots.specs.{Slots.{own_issue, slots_of}, Table.{IsContext, IsContextOf, IsIssue}, Work.needs_all, declared.table.Context.Context}
 use Rattle.slots.specs.declared.work.{Kind.TheVariants.QueuedWrite, Work.Work}
 use Rattle.hba_fbs.specs.Views.{view_of}
-use Rattle.hba_laws.specs.{Agreement.{is_for, work_of_issue, work_of_transfer}, History.{Transfer, is_set_up, issued}}
+use Rattle.hba_laws.specs.{Agreement.{is_for, work_of_transfer}, History.{Transfer, is_set_up}}
 use Rattle.hba_laws.proofs.Door.{own_here}
 use Rattle.ahci_controller.specs.{Next.is_fed, States.ControllerState, declared.next.Next.Next}
 use Rattle.ahci_controller.specs.declared.next.Next.TheVariants as next
@@ -23,7 +23,7 @@ use Rattle.machine_theorem.proofs.FedFor as for_slot
 use Rattle.machine_theorem.proofs.{FedFor.{IsFree, deed_are, does_same, kept_off, kept_rules, no_read}, FedKinds.write_kind}
 use Rattle.machine_theorem.proofs.{FeedHolds.{AreMachineCalls, IsMachineCall, OneUp, due_case, due_to, event_keeps}, FeedStays.{FedBy, Opens, Stays}}
 use Rattle.machine_theorem.proofs.{FeedStays.{Quiet, deed_quiet, does_by, rests_from, turns_from}, Ordered.first_ruled, OrderedOnce.IsOrderedOnce}
-use Rattle.machine_theorem.proofs.{OrderedOnce.ordered_once, SetupCores.{Beside, match_is}}
+use Rattle.machine_theorem.proofs.{OrderedOnce.ordered_once, SetupCores.{match_is}}
 use Rattle.machine_theorem.proofs.FeedStays as stays
 
 pub record Laws : Type 0 where

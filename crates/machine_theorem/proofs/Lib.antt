@@ -170,4 +170,5 @@ mod StoredSingles
 mod WholeQueued
 mod WholeSingles
 mod BeginsFree
+mod Anew
 mod PioRead

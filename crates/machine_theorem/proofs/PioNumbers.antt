@@ -10,27 +10,26 @@ use Rattle.slots.specs.declared.{table.Context.Context, work.{Kind.{Kind, TheVar
 use Rattle.slots.proofs.Door.{count_more, over_none}
 use Rattle.hba_commands.specs.declared.command.Command.{Command}
 use Rattle.hba_fbs.specs.{Taking.port_of, Turning.feeds, Views.{Port, last_command, view_of}, declared.report.{TakeReport.TakeReport, Wrote.Wrote}}
-use Rattle.hba_fbs.specs.declared.{room.Room.Room, turn.Turn.{Turn, TheVariants.{Feeds, Orders, Rests}}}
+use Rattle.hba_fbs.specs.declared.{turn.Turn.{Turn, TheVariants.{Feeds, Orders, Rests}}}
 use Rattle.hba_laws.specs.{Agreement.{ContextAgrees, IsTold, SetupAgrees, end_of, is_for, is_pio_issue, work_of_issue}, CoreHistories.FillsFrom}
 use Rattle.hba_laws.specs.{CoreHistories.{event_by, history_through, turned_for}, Cores.RunsBy, Delivering.is_control_issue}
 use Rattle.hba_laws.specs.History.{Event as HistoryEvent, History, Setup, Transfer, bytes_of, is_at, is_set_up, issued, last_setup, next_number}
 use Rattle.hba_laws.specs.History.{waiting_in}
-use Rattle.hba_laws.specs.Cores as core
 use Rattle.hba_laws.specs.History as history
-use Rattle.hba_laws.proofs.Door.{own_here, payload_is}
+use Rattle.hba_laws.proofs.Door.{payload_is}
 use Rattle.ahci_controller.specs.{States.ControllerState, Taking.{is_overflow, part_of, payload_of, room_for}, declared.feeding.Fed.Fed}
 use Rattle.ahci_controller.specs.declared.taking.Took.{Took}
 use Rattle.ahci_controller.specs.declared.feeding.Fed.TheVariants as fed_answer
 use Rattle.ahci_controller.specs.declared.next.Next.TheVariants as next_step
 use Rattle.controller_laws.specs.{CoreEvents.{of_fed, of_frame}, Events.{Does, Event, IsController, Runs, Takes}}
 use Rattle.controller_laws.specs.Events as call
-use Rattle.machine_theorem.specs.{Ending.{AllUnqueued, HasNoQueued, carries}, Following.{AllHeardWell, HearsWell}, InTurn.{answers, is_answering}}
+use Rattle.machine_theorem.specs.{Ending.{AllUnqueued, HasNoQueued, carries}, Following.{AllHeardWell, HearsWell}, InTurn.{answers}}
 use Rattle.machine_theorem.specs.{SingleNumbers.{since_by, since_call, since_calls}, Tags.once_if, Waits.{commanded_in, is_answered}}
-use Rattle.machine_theorem.specs.Waits.{is_command_issue, is_commanded, taken_in, waits_in}
+use Rattle.machine_theorem.specs.Waits.{is_command_issue, is_commanded, taken_in}
 use Rattle.machine_theorem.proofs.{Calm.{NotSent, fis_not}, CallEvents.{AllOf, CallGoes, FrameIs, grown, order_of}, DataHeard.well_carried}
 use Rattle.machine_theorem.proofs.{FisEvents.{IsNoData, fis_plain}, OrderedOnce.{IsOrderedOnce, ordered_once}, Ordered.last_kept, PioHistory.Counts}
 use Rattle.machine_theorem.proofs.{PioHistory.{IsCalm, IsUpSo, all_counts, calm_of, came_counts, fed_counts, pio_next}, PlainWaits.of_issue}
-use Rattle.machine_theorem.proofs.{SetupCalls.hears_case, SetupCores.fed_none, SetupFrames.the_issue, SetupHistory.IsUp, Shutting.{then', told_then}}
+use Rattle.machine_theorem.proofs.{SetupCalls.hears_case, SetupCores.fed_none, Shutting.{then', told_then}}
 use Rattle.machine_theorem.proofs.{SingleWell.{Needs, set_up_issue, well_needs}, Waiting.{IsSent, core_events, first_kept, low_slot, not_true}}
 use Rattle.machine_theorem.proofs.Waiting.{sent_now}
 use Rattle.machine_theorem.proofs.SetupCalls as setup

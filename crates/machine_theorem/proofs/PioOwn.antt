@@ -6,9 +6,9 @@ use Rattle.fis_view.specs.{Frames.{Stamped, marked}, Seen.seen}
 use Rattle.multiplier.specs.Passing.{of_conn}
 use Rattle.slots.specs.Slots.{Issue, context_of, is_pio, is_waiting, issue_at, own_issue, slots_of}
 use Rattle.hba_commands.specs.declared.command.Command as core_command
-use Rattle.hba_laws.specs.{CoreHistories.CoreViewsAreTold, History.Setup}
+use Rattle.hba_laws.specs.{CoreHistories.CoreViewsAreTold}
 use Rattle.hba_laws.proofs.Door.{own_here}
-use Rattle.ahci_controller.specs.States.{ControllerState}
+use Rattle.ahci_controller.specs.{States.ControllerState, declared.taking.Took.Took}
 use Rattle.ahci_controller.specs.declared.next.Next.TheVariants as next
 use Rattle.controller_laws.specs.Events as call
 use Rattle.controller_laws.specs.{Events.{Event, IsController, Runs}, Sources.{IsIssuedFrom, command_of}}
@@ -68,7 +68,7 @@ pub record Laws : Type 0 where
   pub kept : still.Laws
 
 -- the laws of a controller alone
-waiting_laws : Laws → waiting.Laws
+pub waiting_laws : Laws → waiting.Laws
 waiting_laws laws = record { events = laws.falls.events; views = laws.views }
 
 -- ---- the stretch
@@ -90,7 +90,6 @@ pub record Stretch : Type 0 where
   pub dev_low : dev < 16
   pub low : slot < 32
   pub begins : BeginsIdle n c at
-  pub clear : context_of at.controller.core.slots dev ≡ None
   pub p : Profile
   pub limit : ℕ
   pub base : List Call
@@ -108,28 +107,28 @@ pub record Stretch : Type 0 where
   pub of : AllOfDevice many n dev at.controller (calls_in at deeds now run) now.controller runs.calls
   pub waiting : AllKeepEnding dev at.controller (calls_in at deeds now run) now.controller runs.calls
 
-abbrev calls : Stretch → List Call
+abbrev pub calls : Stretch → List Call
 calls s = calls_of s.n s.at s.deeds s.now s.run
 
-abbrev events : Stretch → List Event
+abbrev pub events : Stretch → List Event
 events s = calls_in s.at s.deeds s.now s.run
 
-abbrev came : Stretch → List Stamped
+abbrev pub came : Stretch → List Stamped
 came s = came_of s.at s.deeds s.now s.run
 
-abbrev commanded : Stretch → ℕ
+abbrev pub commanded : Stretch → ℕ
 commanded s = commanded_in s.dev s.at.controller (events s) s.now.controller s.runs.calls
 
 -- the numbers of a stretch
-record Counts (s : Stretch) : Type 0 where
-  heard : heard_in (calls s) ≤ length (asked s.many s.n (events s))
-  within : Within (picks is_asking (flat_map heard_by (calls s))) (asked s.many s.n (events s))
-  none : AreNoCommands (events s)
-  asked : length (asked s.many s.n (events s)) ≤ commanded s
-  ordered : commanded s + due s.dev s.at.controller ≤ length (taken_kinds s.dev (events s)) + due s.dev s.now.controller
-  taken : Within (taken_kinds s.dev (events s)) (frames_kinds (of_conn s.n s.c (came s)))
+pub record Counts (s : Stretch) : Type 0 where
+  pub heard : heard_in (calls s) ≤ length (asked s.many s.n (events s))
+  pub within : Within (picks is_asking (flat_map heard_by (calls s))) (asked s.many s.n (events s))
+  pub none : AreNoCommands (events s)
+  pub asked : length (asked s.many s.n (events s)) ≤ commanded s
+  pub ordered : commanded s + due s.dev s.at.controller ≤ length (taken_kinds s.dev (events s)) + due s.dev s.now.controller
+  pub taken : Within (taken_kinds s.dev (events s)) (frames_kinds (of_conn s.n s.c (came s)))
 
-counts : Laws → (s : Stretch) → Counts s
+pub counts : Laws → (s : Stretch) → Counts s
 counts laws s =
     let opens : OpensSo s.old = laws.falls.opens s.ports s.legacy s.old s.opening (first_ruled s.before s.old s.at s.first) in
     let due_at_start : GathersDue s.at = (laws.falls.runs s.old s.before s.at s.first opens.due).due in
@@ -153,7 +152,7 @@ counts laws s =
       taken = taken_within s.n s.c s.dev (events s) (came s) taken_is (came_one s.many s.n s.c s.dev s.deeds s.at s.now s.run s.keeps);
     }
 
-once_most : (b : Bool) → once_if b ≤ 1
+pub once_most : (b : Bool) → once_if b ≤ 1
 once_most true = omega arith
 once_most false = omega arith
 
@@ -212,16 +211,15 @@ module _ (laws : Laws) (s : Stretch) where
 
   -- ---- the moment at which the disk sent the FIS
 
-  module _ (issue : Issue) (there : issue_at end.core.slots s.slot ≡ Some issue) (mine : issue.dev ≡ s.dev) (waits : is_waiting issue ≡ true) (f : Stamped) (own : is_of s.n s.c f ≡ true)
-      (found : Found s.many s.n s.c s.dev s.at s.deeds s.now s.run (of_conn s.n s.c (came s)) f) (well : IsErrorFis f.bytes → ⊥) where
-    abbrev then' : List Call
+  module _ (f : Stamped) (own : is_of s.n s.c f ≡ true) (pre : List Stamped) (found : Found s.many s.n s.c s.dev s.at s.deeds s.now s.run pre f) where
+    abbrev pub then' : List Call
     then' = calls_of s.n s.at found.cut.sooner found.cut.mid found.cut.led
 
     -- the disk of the stretch, there
-    gone_on : GoneOn s.many s.n s.c s.dev s.begins.disk then' (of_conn s.n s.c (sent_of s.at found.cut.sooner found.cut.mid found.cut.led)) (bay_at found.cut.mid s.n).unit
+    pub gone_on : GoneOn s.many s.n s.c s.dev s.begins.disk then' (of_conn s.n s.c (sent_of s.at found.cut.sooner found.cut.mid found.cut.led)) (bay_at found.cut.mid s.n).unit
     gone_on = stretch_made s.many s.n s.c s.dev laws.disks found.cut.sooner s.at found.cut.mid found.cut.led found.keeps s.begins.disk s.begins.there
 
-    risen_is : (k : ℕ) (o : Out) (does : Does found.cut.mid (Moved (act.Speaks k o)) found.cut.next)
+    pub risen_is : (k : ℕ) (o : Out) (does : Does found.cut.mid (Moved (act.Speaks k o)) found.cut.next)
         → sent_by found.cut.mid (Moved (act.Speaks k o)) found.cut.next does ≡ f ∷ []
         → risen found.cut.mid.fan k does.does.does.1.frame ≡ f
     risen_is k o does sent = ap (λ (l : List Stamped). head_or f l) sent
@@ -233,11 +231,11 @@ module _ (laws : Laws) (s : Stretch) where
         sender_is s.many s.n found.cut.mid k h.frame found.line.end h.room (ap (λ (x : Stamped). x.stamp.port == s.n) (risen_is k o does sent) ∙ port_is s.n s.c f own)
 
     -- it sent the FIS
-    record IsSpoken (deed : Deed) : Type 0 where
-      o : Out
-      does : Does found.cut.mid (Moved (act.Speaks s.n o)) found.cut.next
-      is : deed ≡ Moved (act.Speaks s.n o)
-      sent : sent_by found.cut.mid (Moved (act.Speaks s.n o)) found.cut.next does ≡ f ∷ []
+    pub record IsSpoken (deed : Deed) : Type 0 where
+      pub o : Out
+      pub does : Does found.cut.mid (Moved (act.Speaks s.n o)) found.cut.next
+      pub is : deed ≡ Moved (act.Speaks s.n o)
+      pub sent : sent_by found.cut.mid (Moved (act.Speaks s.n o)) found.cut.next does ≡ f ∷ []
 
     abbrev IsOne : ℕ → Out → Type 0
     IsOne k o = (does : Does found.cut.mid (Moved (act.Speaks k o)) found.cut.next) → sent_by found.cut.mid (Moved (act.Speaks k o)) found.cut.next does ≡ f ∷ [] → IsSpoken (Moved (act.Speaks k o))
@@ -248,7 +246,7 @@ module _ (laws : Laws) (s : Stretch) where
         by : f ∷ [] ≡ [] → ⊥
         by e = cc
 
-    spoken : (deed : Deed) (does : Does found.cut.mid deed found.cut.next) → KeepsLine s.many s.n s.c s.dev found.cut.mid deed found.cut.next does
+    pub spoken : (deed : Deed) (does : Does found.cut.mid deed found.cut.next) → KeepsLine s.many s.n s.c s.dev found.cut.mid deed found.cut.next does
         → sent_by found.cut.mid deed found.cut.next does ≡ f ∷ [] → IsSpoken deed
     spoken (Moved (act.Speaks k o)) does line sent =
         subst (λ (j : ℕ). IsOne j o) (sym (sender_here k o does sent)) (λ here same. record { o = o; does = here; is = refl; sent = same }) does sent
@@ -259,11 +257,11 @@ module _ (laws : Laws) (s : Stretch) where
     spoken deed does line sent = absurd (not_none [] refl sent)
 
     -- the disk there
-    record IsThen (o : Out) : Type 0 where
-      whole : AreCalls (new_disk s.p s.limit) (s.base ++ then')
-      says : IsOut (reached s.p s.limit (s.base ++ then')) (Some o)
+    pub record IsThen (o : Out) : Type 0 where
+      pub whole : AreCalls (new_disk s.p s.limit) (s.base ++ then')
+      pub says : IsOut (reached s.p s.limit (s.base ++ then')) (Some o)
 
-    is_then : (k : ℕ) (o : Out) (does : Does found.cut.mid (Moved (act.Speaks k o)) found.cut.next)
+    pub is_then : (k : ℕ) (o : Out) (does : Does found.cut.mid (Moved (act.Speaks k o)) found.cut.next)
         → sent_by found.cut.mid (Moved (act.Speaks k o)) found.cut.next does ≡ f ∷ [] → IsThen o
     is_then k o does sent =
         let h = does.does.does.1 in
@@ -277,338 +275,368 @@ module _ (laws : Laws) (s : Stretch) where
         record { whole = whole; says = subst (λ (x : DiskState). IsOut x (Some o)) now_is h.next }
 
     -- its commands until then, and those behind it
-    abbrev behind : List Call
+    abbrev pub behind : List Call
     behind = calls_at found.cut.mid found.deed s.n ++ calls_of s.n found.cut.next found.cut.later s.now found.cut.rest
 
-    all_calls : calls s ≡ then' ++ behind
+    pub all_calls : calls s ≡ then' ++ behind
     all_calls = found.cut.own s.n
 
-    -- what was taken that settles is among what the disk said until then
-    said : Within (taken_kinds s.dev (events s)) (said_kinds then')
-    said =
-        within_then (taken_kinds s.dev (events s)) (frames_kinds (of_conn s.n s.c (came s))) (said_kinds then') (counts laws s).taken
-        (subst (λ (l : List Stamped). Within (frames_kinds l) (said_kinds then')) found.prior
-        (sent_within s.many s.n s.c s.dev laws.disks found.cut.sooner s.at found.cut.mid found.cut.led found.keeps s.begins.disk s.begins.there))
-
-    some_wait : waits_in s.dev end ≡ true
-    some_wait =
-        let k : IsController end = kept_of laws.falls s.now (last_ruled s.deeds s.at s.now s.run) in
-        let long = k.slots.slots in
-        let low = s.low in
-        some_waits s.dev s.slot end k issue
-        (subst (λ (d : ℕ). own_issue (slots_of d end.core.slots) s.slot ≡ Some issue) mine (own_here s.slot end.core.slots issue (omega (arith, long, low)) there)) waits
-
-    abbrev IsFrom : List ℕ → Type 0
-    IsFrom bytes = IsFromSlot s.dev s.slot s.old s.before s.at s.first s.deeds s.now s.run bytes
-
-    -- A command was heard, and no more were settled and are due than went before it, but one.
-    record IsBehind : Type 0 where
-      front : List Call
-      bytes : List ℕ
-      later : List Call
-      split : then' ≡ front ++ Hears bytes ∷ later
-      asks : is_asking bytes ≡ true
-      most : settled_in then' + due s.dev end ≤ suc (heard_in front)
-
-    record IsLast (it : IsBehind) : Type 0 where
-      none : heard_in it.later ≡ 0
-      slots : IsFrom it.bytes
-
-    -- it is that of the slot
-    is_last : (it : IsBehind) → IsLast it
-    is_last it =
-        let q : Counts s = counts laws s in
-        let more : List Call = it.later ++ behind in
-        let split : calls s ≡ it.front ++ Hears it.bytes ∷ more = all_calls ∙ ap (λ (l : List Call). l ++ behind) it.split ∙ append_assoc it.front (Hears it.bytes ∷ it.later) behind in
-        let sum : heard_in (calls s) ≡ heard_in it.front + (once_if (is_asking it.bytes) + heard_in more) = ap heard_in split ∙ heard_both it.front (Hears it.bytes ∷ more) in
-        let both = heard_both it.later behind in
-        let one : once_if (is_asking it.bytes) ≡ 1 = ap once_if it.asks in
-        let among = fewer (taken_kinds s.dev (events s)) (said_kinds then') said in
-        let said_many = said_long then' in
-        let most = it.most in
-        let a = q.heard in
-        let b = q.asked in
-        let c = q.ordered in
-        let none : heard_in more ≡ 0 = omega (arith, sum, one, among, said_many, most, a, b, c) in
-        let long = heard_long (calls s) in
-        let full : length (asked s.many s.n (events s)) ≤ length (picks is_asking (flat_map heard_by (calls s))) = omega (arith, sum, one, among, said_many, most, b, c, long) in
-        let same : picks is_asking (flat_map heard_by (calls s)) ≡ asked s.many s.n (events s) = all_of (picks is_asking (flat_map heard_by (calls s))) (asked s.many s.n (events s)) q.within full in
-        let l : LastOf s = last_sent s.many s.n s.dev (events s) start end s.runs.calls q.none s.of (omega (arith, sum, one, a)) in
-        let is : it.bytes ≡ marked l.fis 0 =
-        ends_same (picks is_asking (flat_map heard_by it.front)) (asked s.many s.n l.before) it.bytes (marked l.fis 0)
-        (sym (last_heard (calls s) it.front more it.bytes split it.asks none) ∙ same ∙ l.last) in
-        let w : Waits l = last_waits l (omega (arith, sum, one, among, said_many, most, a, c)) some_wait in
-        let here : s.slot ≡ l.slot = w.waits.others s.slot s.low issue there mine waits in
-        let whole : IsWhole s.old s.before s.at s.first s.deeds s.now s.run = whole_run s.before s.old s.at s.first s.deeds s.now s.run in
-        let went : events s ≡ l.before ++ call.Turned (next.Order s.dev l.slot l.fis) ∷ l.later =
-        l.is ∙ ap (λ (j : ℕ). l.before ++ call.Turned (next.Order j l.slot l.fis) ∷ l.later) w.same in
-        record {
-          none = omega (arith, none, both);
-          slots = subst (λ (j : ℕ). IsFromSlot s.dev j s.old s.before s.at s.first s.deeds s.now s.run it.bytes) (sym here) (record {
-            order = l.fis;
-            ordered = record {
-              before = l.before;
-              later = l.later;
-              is = went;
-              at = l.at;
-              first = l.led;
-              ordered = subst (λ (j : ℕ). IsOrdered l.at j l.slot l.fis) w.same (order_at l.at l.rest.1.0 l.to l.slot l.fis l.rest.0 l.rest.1.1);
-            };
-            heard = is;
-            alone = w.waits.alone;
-            whole = whole;
-            supplied = supplied_in laws.falls laws.kept s.ports s.legacy s.old s.opening s.before s.at s.first s.deeds s.now s.run l.slot w.low w.waits.issue w.waits.is whole s.dev l.fis
-                (record { before = l.before; later = l.later; is = went; alone = w.waits.alone });
-          });
-        }
-
-    on_then : AreKeptOn then'
+    pub on_then : AreKeptOn then'
     on_then = kept_first then' behind (subst AreKeptOn all_calls s.on)
 
-    settled : (whole : AreCalls (new_disk s.p s.limit) (s.base ++ then')) → AreSettled s.p s.limit s.base then'
+    pub settled : (whole : AreCalls (new_disk s.p s.limit) (s.base ++ then')) → AreSettled s.p s.limit s.base then'
     settled whole = laws.turn s.p s.limit s.base then' whole s.idle on_then
 
-    due_one : due s.dev end ≤ 1
-    due_one = once_most (waits_in s.dev end && not (is_shut s.dev end))
+    module _ (issue : Issue) (there : issue_at end.core.slots s.slot ≡ Some issue) (mine : issue.dev ≡ s.dev) (waits : is_waiting issue ≡ true)
+        (prior : pre ≡ of_conn s.n s.c (came s)) where
+      -- what was taken that settles is among what the disk said until then
+      said : Within (taken_kinds s.dev (events s)) (said_kinds then')
+      said =
+          within_then (taken_kinds s.dev (events s)) (frames_kinds (of_conn s.n s.c (came s))) (said_kinds then') (counts laws s).taken
+          (subst (λ (l : List Stamped). Within (frames_kinds l) (said_kinds then')) (found.prior ∙ prior)
+          (sent_within s.many s.n s.c s.dev laws.disks found.cut.sooner s.at found.cut.mid found.cut.led found.keeps s.begins.disk s.begins.there))
 
-    -- ---- a Register FIS
+      some_wait : waits_in s.dev end ≡ true
+      some_wait =
+          let k : IsController end = kept_of laws.falls s.now (last_ruled s.deeds s.at s.now s.run) in
+          let long = k.slots.slots in
+          let low = s.low in
+          some_waits s.dev s.slot end k issue
+          (subst (λ (d : ℕ). own_issue (slots_of d end.core.slots) s.slot ≡ Some issue) mine (own_here s.slot end.core.slots issue (omega (arith, long, low)) there)) waits
 
-    -- of a command that moves sectors it is the end
-    ends_it : (k : ℕ) (o : Out) (does : Does found.cut.mid (Moved (act.Speaks k o)) found.cut.next)
-        → sent_by found.cut.mid (Moved (act.Speaks k o)) found.cut.next does ≡ f ∷ [] → IsThen o
-        → is_answer o ≡ true → (u : IsUnsettled s.base then') → heard_in u.later ≡ 0 → is_transferring u.bytes ≡ true → o ≡ out.Of 32 replies.Done
-    ends_it k o does sent t answer u none transfers =
-        let x : Call = Hears u.bytes in
-        let split : s.base ++ then' ≡ (s.base ++ u.front) ++ x ∷ u.later = ap (λ (l : List Call). s.base ++ l) u.split ∙ sym (append_assoc s.base u.front (x ∷ u.later)) in
-        let whole : AreCalls (new_disk s.p s.limit) ((s.base ++ u.front) ++ x ∷ u.later) = subst (AreCalls (new_disk s.p s.limit)) split t.whole in
-        let on : AreKeptOn (u.front ++ x ∷ u.later) = subst AreKeptOn u.split on_then in
-        let less = answered_less u.later in
-        let quiet = u.quiet in
-        elim (laws.transfers s.p s.limit (s.base ++ u.front) u.bytes u.later whole transfers u.idle (kept_behind u.front x u.later on) none (omega (arith, less, quiet)) o
-        (subst (λ (l : List Call). IsOut (reached s.p s.limit l) (Some o)) split t.says) answer) [
-          | inl is ↦ is
-          | inr failed ↦ absurd (well (subst (λ (y : Stamped). IsErrorFis y.bytes) (risen_is k o does sent) (fails_with found.cut.mid k o found.cut.next does failed)))
-        ]
+      abbrev IsFrom : List ℕ → Type 0
+      IsFrom bytes = IsFromSlot s.dev s.slot s.old s.before s.at s.first s.deeds s.now s.run bytes
 
-    is_answers : (k : ℕ) (o : Out) (does : Does found.cut.mid (Moved (act.Speaks k o)) found.cut.next)
-        → sent_by found.cut.mid (Moved (act.Speaks k o)) found.cut.next does ≡ f ∷ [] → is_answering f.bytes ≡ true
-        → IsAnsweredThere s.dev s.slot s.old s.before s.at s.first s.deeds s.now s.run s.base then' o
-    is_answers k o does sent answering =
-        let t : IsThen o = is_then k o does sent in
-        let answer : is_answer o ≡ true =
-        says found.cut.mid k o found.cut.next does (subst (λ (y : Stamped). is_answering y.bytes ≡ true) (sym (risen_is k o does sent)) answering) in
-        let u : IsUnsettled s.base then' = (settled t.whole).answers o t.says (ap (λ (b : Bool). b || sets_up_last o) answer) in
-        let behind_all = u.behind in
-        let one = due_one in
-        let it = is_last (record { front = u.front; bytes = u.bytes; later = u.later; split = u.split; asks = u.asks; most = omega (arith, behind_all, one) }) in
-        record { command = u; none = it.none; slots = it.slots; answer = answer; ends = ends_it k o does sent t answer u it.none }
+      -- A command was heard, and no more went than were heard before it, but one.
+      pub record IsBehind : Type 0 where
+        pub front : List Call
+        pub bytes : List ℕ
+        pub later : List Call
+        pub split : then' ≡ front ++ Hears bytes ∷ later
+        pub asks : is_asking bytes ≡ true
+        pub most : commanded s ≤ suc (heard_in front)
 
-    -- ---- an end by a Register FIS
+      -- so it is where no more were settled and are due
+      most_of : (k : ℕ) → settled_in then' + due s.dev end ≤ suc k → commanded s ≤ suc k
+      most_of k less =
+          let among = fewer (taken_kinds s.dev (events s)) (said_kinds then') said in
+          let said_many = said_long then' in
+          let ordered = (counts laws s).ordered in
+          omega (arith, less, among, said_many, ordered)
 
-    is_slots : (k place : ℕ) (does : Does found.cut.mid (Moved (act.Speaks k (out.Of place replies.Done))) found.cut.next)
-        → sent_by found.cut.mid (Moved (act.Speaks k (out.Of place replies.Done))) found.cut.next does ≡ f ∷ []
-        → IsSlots s.dev s.slot s.old s.before s.at s.first s.deeds s.now s.run s.p s.limit (s.base ++ then')
-    is_slots k place does sent =
-        let t : IsThen (out.Of place replies.Done) = is_then k (out.Of place replies.Done) does sent in
-        let x : Call = Sends (out.Of place replies.Done) in
-        let more : AreCalls (new_disk s.p s.limit) ((s.base ++ then') ++ x ∷ []) = calls_both (s.base ++ then') (x ∷ []) (new_disk s.p s.limit) t.whole (t.says, tt) in
-        let due_there = due_at (s.base ++ then') x new_host (laws.single s.p s.limit ((s.base ++ then') ++ x ∷ []) more) in
-        let says : IsOut (reached s.p s.limit (s.base ++ then')) (Some (out.Of 32 replies.Done)) = subst (λ (j : ℕ). IsOut (reached s.p s.limit (s.base ++ then')) (Some (out.Of j replies.Done))) due_there.2 t.says in
-        let e = earns (page_in s.p s.limit (s.base ++ then') 32) (laws.pages s.p s.limit (s.base ++ then') 32 does.does.does.1.frame.bytes t.whole says does.does.does.1.bytes) in
-        let turn : IsAskedInTurn (settled_in then') s.p s.limit s.base then' e.page.command = (settled t.whole).ends says e.page e.is in
-        let behind_all = turn.behind in
-        let one = due_one in
-        let it = is_last (record { front = turn.front; bytes = turn.asked.bytes; later = turn.asked.later; split = turn.split; asks = turn.asks; most = omega (arith, behind_all, one) }) in
-        record { page = e.page; books = e.is; earned = e.earned; asked = turn.asked; slots = it.slots }
+      pub record IsLast (it : IsBehind) : Type 0 where
+        pub none : heard_in it.later ≡ 0
+        pub slots : IsFrom it.bytes
 
-    done_slots : (o : Out) (does : Does found.cut.mid (Moved (act.Speaks s.n o)) found.cut.next)
-        → sent_by found.cut.mid (Moved (act.Speaks s.n o)) found.cut.next does ≡ f ∷ []
-        → o ≡ out.Of 32 replies.Done → IsSlots s.dev s.slot s.old s.before s.at s.first s.deeds s.now s.run s.p s.limit (s.base ++ then')
-    done_slots o does sent is =
-        subst (λ (x : Out). (d : Does found.cut.mid (Moved (act.Speaks s.n x)) found.cut.next) → sent_by found.cut.mid (Moved (act.Speaks s.n x)) found.cut.next d ≡ f ∷ []
-        → IsSlots s.dev s.slot s.old s.before s.at s.first s.deeds s.now s.run s.p s.limit (s.base ++ then'))
-        (sym is) (λ d same. is_slots s.n 32 d same) does sent
+      -- it is that of the slot
+      pub is_last : (it : IsBehind) → IsLast it
+      is_last it =
+          let q : Counts s = counts laws s in
+          let more : List Call = it.later ++ behind in
+          let split : calls s ≡ it.front ++ Hears it.bytes ∷ more = all_calls ∙ ap (λ (l : List Call). l ++ behind) it.split ∙ append_assoc it.front (Hears it.bytes ∷ it.later) behind in
+          let sum : heard_in (calls s) ≡ heard_in it.front + (once_if (is_asking it.bytes) + heard_in more) = ap heard_in split ∙ heard_both it.front (Hears it.bytes ∷ more) in
+          let both = heard_both it.later behind in
+          let one : once_if (is_asking it.bytes) ≡ 1 = ap once_if it.asks in
+          let most = it.most in
+          let a = q.heard in
+          let b = q.asked in
+          let none : heard_in more ≡ 0 = omega (arith, sum, one, most, a, b) in
+          let long = heard_long (calls s) in
+          let full : length (asked s.many s.n (events s)) ≤ length (picks is_asking (flat_map heard_by (calls s))) = omega (arith, sum, one, most, b, long) in
+          let same : picks is_asking (flat_map heard_by (calls s)) ≡ asked s.many s.n (events s) = all_of (picks is_asking (flat_map heard_by (calls s))) (asked s.many s.n (events s)) q.within full in
+          let l : LastOf s = last_sent s.many s.n s.dev (events s) start end s.runs.calls q.none s.of (omega (arith, sum, one, a)) in
+          let is : it.bytes ≡ marked l.fis 0 =
+          ends_same (picks is_asking (flat_map heard_by it.front)) (asked s.many s.n l.before) it.bytes (marked l.fis 0)
+          (sym (last_heard (calls s) it.front more it.bytes split it.asks none) ∙ same ∙ l.last) in
+          let w : Waits l = last_waits l (omega (arith, sum, one, most, a)) some_wait in
+          let here : s.slot ≡ l.slot = w.waits.others s.slot s.low issue there mine waits in
+          let whole : IsWhole s.old s.before s.at s.first s.deeds s.now s.run = whole_run s.before s.old s.at s.first s.deeds s.now s.run in
+          let went : events s ≡ l.before ++ call.Turned (next.Order s.dev l.slot l.fis) ∷ l.later =
+          l.is ∙ ap (λ (j : ℕ). l.before ++ call.Turned (next.Order j l.slot l.fis) ∷ l.later) w.same in
+          record {
+            none = omega (arith, none, both);
+            slots = subst (λ (j : ℕ). IsFromSlot s.dev j s.old s.before s.at s.first s.deeds s.now s.run it.bytes) (sym here) (record {
+              order = l.fis;
+              ordered = record {
+                before = l.before;
+                later = l.later;
+                is = went;
+                at = l.at;
+                first = l.led;
+                ordered = subst (λ (j : ℕ). IsOrdered l.at j l.slot l.fis) w.same (order_at l.at l.rest.1.0 l.to l.slot l.fis l.rest.0 l.rest.1.1);
+              };
+              heard = is;
+              alone = w.waits.alone;
+              whole = whole;
+              supplied = supplied_in laws.falls laws.kept s.ports s.legacy s.old s.opening s.before s.at s.first s.deeds s.now s.run l.slot w.low w.waits.issue w.waits.is whole s.dev l.fis
+                  (record { before = l.before; later = l.later; is = went; alone = w.waits.alone });
+            });
+          }
 
-    -- ---- the last Data
+      due_one : due s.dev end ≤ 1
+      due_one = once_most (waits_in s.dev end && not (is_shut s.dev end))
 
-    no_due : is_shut s.dev end ≡ true → due s.dev end ≡ 0
-    no_due shuts = due_shut s.dev end shuts
+      module _ (well : IsErrorFis f.bytes → ⊥) (clear : context_of start.core.slots s.dev ≡ None) where
+        -- ---- a Register FIS
 
-    -- all that were heard were settled, the last one by the PIO Setup FIS of its last block
-    record IsAllSettled : Type 0 where
-      all : heard_in then' ≤ settled_in then'
-      last : IsBehindLastBlock then'
-      none : heard_in behind ≡ 0
+        -- of a command that moves sectors it is the end
+        ends_it : (k : ℕ) (o : Out) (does : Does found.cut.mid (Moved (act.Speaks k o)) found.cut.next)
+            → sent_by found.cut.mid (Moved (act.Speaks k o)) found.cut.next does ≡ f ∷ [] → IsThen o
+            → is_answer o ≡ true → (u : IsUnsettled s.base then') → heard_in u.later ≡ 0 → is_transferring u.bytes ≡ true → o ≡ out.Of 32 replies.Done
+        ends_it k o does sent t answer u none transfers =
+            let x : Call = Hears u.bytes in
+            let split : s.base ++ then' ≡ (s.base ++ u.front) ++ x ∷ u.later = ap (λ (l : List Call). s.base ++ l) u.split ∙ sym (append_assoc s.base u.front (x ∷ u.later)) in
+            let whole : AreCalls (new_disk s.p s.limit) ((s.base ++ u.front) ++ x ∷ u.later) = subst (AreCalls (new_disk s.p s.limit)) split t.whole in
+            let on : AreKeptOn (u.front ++ x ∷ u.later) = subst AreKeptOn u.split on_then in
+            let less = answered_less u.later in
+            let quiet = u.quiet in
+            elim (laws.transfers s.p s.limit (s.base ++ u.front) u.bytes u.later whole transfers u.idle (kept_behind u.front x u.later on) none (omega (arith, less, quiet)) o
+            (subst (λ (l : List Call). IsOut (reached s.p s.limit l) (Some o)) split t.says) answer) [
+              | inl is ↦ is
+              | inr failed ↦ absurd (well (subst (λ (y : Stamped). IsErrorFis y.bytes) (risen_is k o does sent) (fails_with found.cut.mid k o found.cut.next does failed)))
+            ]
 
-    all_settled : AreSettled s.p s.limit s.base then' → is_shut s.dev end ≡ true → IsAllSettled
-    all_settled turn shuts =
-        let q : Counts s = counts laws s in
-        let t : Told start = told_now laws.falls s.ports s.legacy s.old s.opening s.before s.at s.first in
-        let among = fewer (taken_kinds s.dev (events s)) (said_kinds then') said in
-        let said_many = said_long then' in
-        let sum : heard_in (calls s) ≡ heard_in then' + heard_in behind = ap heard_in all_calls ∙ heard_both then' behind in
-        let free = no_due shuts in
-        let a = q.heard in
-        let b = q.asked in
-        let c = q.ordered in
-        let less = turn.fewer in
-        let all : heard_in then' ≤ settled_in then' = omega (arith, among, said_many, sum, free, a, b, c) in
-        let none : heard_in behind ≡ 0 = omega (arith, among, said_many, sum, free, a, b, c, less) in
-        let full : length (said_kinds then') ≤ length (taken_kinds s.dev (events s)) = omega (arith, said_many, sum, free, a, b, c, less) in
-        let same : taken_kinds s.dev (events s) ≡ said_kinds then' = all_of (taken_kinds s.dev (events s)) (said_kinds then') said full in
-        elim (settled_last (waiting_laws laws) s.dev s.dev_low start end (events s) s.runs.calls s.waiting (t.past s.dev) (t.told s.dev s.dev_low) s.clear some_wait shuts) [
-          | inl ends ↦ record { all = all; last = behind_block then' (subst EndsTrue same ends); none = none }
-          | inr strict ↦ absurd (omega (arith, strict, among, said_many, sum, a, b, less))
-        ]
+        is_answers : (k : ℕ) (o : Out) (does : Does found.cut.mid (Moved (act.Speaks k o)) found.cut.next)
+            → sent_by found.cut.mid (Moved (act.Speaks k o)) found.cut.next does ≡ f ∷ [] → is_answering f.bytes ≡ true
+            → IsAnsweredThere s.dev s.slot s.old s.before s.at s.first s.deeds s.now s.run s.base then' o
+        is_answers k o does sent answering =
+            let t : IsThen o = is_then k o does sent in
+            let answer : is_answer o ≡ true =
+            says found.cut.mid k o found.cut.next does (subst (λ (y : Stamped). is_answering y.bytes ≡ true) (sym (risen_is k o does sent)) answering) in
+            let u : IsUnsettled s.base then' = (settled t.whole).answers o t.says (ap (λ (b : Bool). b || sets_up_last o) answer) in
+            let behind_all = u.behind in
+            let one = due_one in
+            let it = is_last (record { front = u.front; bytes = u.bytes; later = u.later; split = u.split; asks = u.asks; most = most_of (heard_in u.front) (omega (arith, behind_all, one)) }) in
+            record { command = u; none = it.none; slots = it.slots; answer = answer; ends = ends_it k o does sent t answer u it.none }
 
-    not_queued : (h : Host) (place n : ℕ) → IsOutDue h (out.Data place n) → h.waits ≡ ForLast → place ≡ 32
-    not_queued h place n due_it waits_last = by (nat_lt place 32) due_it
-      where
-        no_wait : ForLast ≡ ForNothing → ⊥
-        no_wait e = cc
+        -- ---- an end by a Register FIS
 
-        by : (b : Bool) → IsDataAt h place b → place ≡ 32
-        by true queued = absurd (no_wait (sym waits_last ∙ queued.2))
-        by false single = single.0
+        is_slots : (k place : ℕ) (does : Does found.cut.mid (Moved (act.Speaks k (out.Of place replies.Done))) found.cut.next)
+            → sent_by found.cut.mid (Moved (act.Speaks k (out.Of place replies.Done))) found.cut.next does ≡ f ∷ []
+            → IsSlots s.dev s.slot s.old s.before s.at s.first s.deeds s.now s.run s.p s.limit (s.base ++ then')
+        is_slots k place does sent =
+            let t : IsThen (out.Of place replies.Done) = is_then k (out.Of place replies.Done) does sent in
+            let x : Call = Sends (out.Of place replies.Done) in
+            let more : AreCalls (new_disk s.p s.limit) ((s.base ++ then') ++ x ∷ []) = calls_both (s.base ++ then') (x ∷ []) (new_disk s.p s.limit) t.whole (t.says, tt) in
+            let due_there = due_at (s.base ++ then') x new_host (laws.single s.p s.limit ((s.base ++ then') ++ x ∷ []) more) in
+            let says : IsOut (reached s.p s.limit (s.base ++ then')) (Some (out.Of 32 replies.Done)) = subst (λ (j : ℕ). IsOut (reached s.p s.limit (s.base ++ then')) (Some (out.Of j replies.Done))) due_there.2 t.says in
+            let e = earns (page_in s.p s.limit (s.base ++ then') 32) (laws.pages s.p s.limit (s.base ++ then') 32 does.does.does.1.frame.bytes t.whole says does.does.does.1.bytes) in
+            let turn : IsAskedInTurn (settled_in then') s.p s.limit s.base then' e.page.command = (settled t.whole).ends says e.page e.is in
+            let behind_all = turn.behind in
+            let one = due_one in
+            let it = is_last (record { front = turn.front; bytes = turn.asked.bytes; later = turn.asked.later; split = turn.split; asks = turn.asks; most = most_of (heard_in turn.front) (omega (arith, behind_all, one)) }) in
+            record { page = e.page; books = e.is; earned = e.earned; asked = turn.asked; slots = it.slots }
 
-    is_ended : (k : ℕ) (o : Out) (does : Does found.cut.mid (Moved (act.Speaks k o)) found.cut.next)
-        → sent_by found.cut.mid (Moved (act.Speaks k o)) found.cut.next does ≡ f ∷ []
-        → carries (seen f.bytes) ≡ true → is_shut s.dev end ≡ true
-        → IsEndedThere s.dev s.slot s.old s.before s.at s.first s.deeds s.now s.run s.p s.limit s.base then' o
-    is_ended k o does sent data' shuts =
-        let t : IsThen o = is_then k o does sent in
-        let turn : AreSettled s.p s.limit s.base then' = settled t.whole in
-        let g : IsAllSettled = all_settled turn shuts in
-        let is : is_data o ≡ true =
-        says_data found.cut.mid k o found.cut.next does (subst (λ (y : Stamped). carries (seen y.bytes) ≡ true) (sym (risen_is k o does sent)) data') in
-        let waits_last : (host_of new_host (s.base ++ then')).waits ≡ ForLast = turn.alone o t.says is g.all g.last in
-        let u : IsSettledLast then' = turn.lasts waits_last in
-        let behind_all = u.behind in
-        let free = no_due shuts in
-        let it = is_last (record { front = u.front; bytes = u.bytes; later = u.later; split = u.split; asks = u.asks; most = omega (arith, behind_all, free) }) in
-        record {
-          payload = is;
-          waits = waits_last;
-          command = u;
-          none = it.none;
-          slots = it.slots;
-          sectors = λ moves. laws.sectors s.p s.limit s.base then' t.whole s.idle on_then g.all g.last u moves o t.says is;
-          place = λ place n same.
-              let more : AreCalls (new_disk s.p s.limit) ((s.base ++ then') ++ Sends o ∷ []) = calls_both (s.base ++ then') (Sends o ∷ []) (new_disk s.p s.limit) t.whole (t.says, tt) in
-              not_queued (host_of new_host (s.base ++ then')) place n
-              (subst (λ (x : Out). IsOutDue (host_of new_host (s.base ++ then')) x) same (due_at (s.base ++ then') (Sends o) new_host (laws.single s.p s.limit ((s.base ++ then') ++ Sends o ∷ []) more)))
-              waits_last;
-          read = λ n same. is_read turn free n (subst (λ (x : Out). IsOut (reached s.p s.limit (s.base ++ then')) (Some x)) same t.says) waits_last;
+        done_slots : (o : Out) (does : Does found.cut.mid (Moved (act.Speaks s.n o)) found.cut.next)
+            → sent_by found.cut.mid (Moved (act.Speaks s.n o)) found.cut.next does ≡ f ∷ []
+            → o ≡ out.Of 32 replies.Done → IsSlots s.dev s.slot s.old s.before s.at s.first s.deeds s.now s.run s.p s.limit (s.base ++ then')
+        done_slots o does sent is =
+            subst (λ (x : Out). (d : Does found.cut.mid (Moved (act.Speaks s.n x)) found.cut.next) → sent_by found.cut.mid (Moved (act.Speaks s.n x)) found.cut.next d ≡ f ∷ []
+            → IsSlots s.dev s.slot s.old s.before s.at s.first s.deeds s.now s.run s.p s.limit (s.base ++ then'))
+            (sym is) (λ d same. is_slots s.n 32 d same) does sent
+
+        -- ---- the last Data
+
+        no_due : is_shut s.dev end ≡ true → due s.dev end ≡ 0
+        no_due shuts = due_shut s.dev end shuts
+
+        -- all that were heard were settled, the last one by the PIO Setup FIS of its last block
+        record IsAllSettled : Type 0 where
+          all : heard_in then' ≤ settled_in then'
+          last : IsBehindLastBlock then'
+          none : heard_in behind ≡ 0
+
+        all_settled : AreSettled s.p s.limit s.base then' → is_shut s.dev end ≡ true → IsAllSettled
+        all_settled turn shuts =
+            let q : Counts s = counts laws s in
+            let t : Told start = told_now laws.falls s.ports s.legacy s.old s.opening s.before s.at s.first in
+            let among = fewer (taken_kinds s.dev (events s)) (said_kinds then') said in
+            let said_many = said_long then' in
+            let sum : heard_in (calls s) ≡ heard_in then' + heard_in behind = ap heard_in all_calls ∙ heard_both then' behind in
+            let free = no_due shuts in
+            let a = q.heard in
+            let b = q.asked in
+            let c = q.ordered in
+            let less = turn.fewer in
+            let all : heard_in then' ≤ settled_in then' = omega (arith, among, said_many, sum, free, a, b, c) in
+            let none : heard_in behind ≡ 0 = omega (arith, among, said_many, sum, free, a, b, c, less) in
+            let full : length (said_kinds then') ≤ length (taken_kinds s.dev (events s)) = omega (arith, said_many, sum, free, a, b, c, less) in
+            let same : taken_kinds s.dev (events s) ≡ said_kinds then' = all_of (taken_kinds s.dev (events s)) (said_kinds then') said full in
+            elim (settled_last (waiting_laws laws) s.dev s.dev_low start end (events s) s.runs.calls s.waiting (t.past s.dev) (t.told s.dev s.dev_low) clear some_wait shuts) [
+              | inl ends ↦ record { all = all; last = behind_block then' (subst EndsTrue same ends); none = none }
+              | inr strict ↦ absurd (omega (arith, strict, among, said_many, sum, a, b, less))
+            ]
+
+        not_queued : (h : Host) (place n : ℕ) → IsOutDue h (out.Data place n) → h.waits ≡ ForLast → place ≡ 32
+        not_queued h place n due_it waits_last = by (nat_lt place 32) due_it
+          where
+            no_wait : ForLast ≡ ForNothing → ⊥
+            no_wait e = cc
+
+            by : (b : Bool) → IsDataAt h place b → place ≡ 32
+            by true queued = absurd (no_wait (sym waits_last ∙ queued.2))
+            by false single = single.0
+
+        is_ended : (k : ℕ) (o : Out) (does : Does found.cut.mid (Moved (act.Speaks k o)) found.cut.next)
+            → sent_by found.cut.mid (Moved (act.Speaks k o)) found.cut.next does ≡ f ∷ []
+            → carries (seen f.bytes) ≡ true → is_shut s.dev end ≡ true
+            → IsEndedThere s.dev s.slot s.old s.before s.at s.first s.deeds s.now s.run s.p s.limit s.base then' o
+        is_ended k o does sent data' shuts =
+            let t : IsThen o = is_then k o does sent in
+            let turn : AreSettled s.p s.limit s.base then' = settled t.whole in
+            let g : IsAllSettled = all_settled turn shuts in
+            let is : is_data o ≡ true =
+            says_data found.cut.mid k o found.cut.next does (subst (λ (y : Stamped). carries (seen y.bytes) ≡ true) (sym (risen_is k o does sent)) data') in
+            let waits_last : (host_of new_host (s.base ++ then')).waits ≡ ForLast = turn.alone o t.says is g.all g.last in
+            let u : IsSettledLast then' = turn.lasts waits_last in
+            let behind_all = u.behind in
+            let free = no_due shuts in
+            let it = is_last (record { front = u.front; bytes = u.bytes; later = u.later; split = u.split; asks = u.asks; most = most_of (heard_in u.front) (omega (arith, behind_all, free)) }) in
+            record {
+              payload = is;
+              waits = waits_last;
+              command = u;
+              none = it.none;
+              slots = it.slots;
+              sectors = λ moves. laws.sectors s.p s.limit s.base then' t.whole s.idle on_then g.all g.last u moves o t.says is;
+              place = λ place n same.
+                  let more : AreCalls (new_disk s.p s.limit) ((s.base ++ then') ++ Sends o ∷ []) = calls_both (s.base ++ then') (Sends o ∷ []) (new_disk s.p s.limit) t.whole (t.says, tt) in
+                  not_queued (host_of new_host (s.base ++ then')) place n
+                  (subst (λ (x : Out). IsOutDue (host_of new_host (s.base ++ then')) x) same (due_at (s.base ++ then') (Sends o) new_host (laws.single s.p s.limit ((s.base ++ then') ++ Sends o ∷ []) more)))
+                  waits_last;
+              read = λ n same. is_read turn free n (subst (λ (x : Out). IsOut (reached s.p s.limit (s.base ++ then')) (Some x)) same t.says) waits_last;
+            }
+          where
+            is_read : AreSettled s.p s.limit s.base then' → due s.dev end ≡ 0 → (n : ℕ) → IsOut (reached s.p s.limit (s.base ++ then')) (Some (out.Data 32 n))
+                → (host_of new_host (s.base ++ then')).waits ≡ ForLast
+                → IsWholeThere s.dev s.slot s.old s.before s.at s.first s.deeds s.now s.run s.p s.limit s.base then' n
+            is_read turn free n says_it waits_last =
+                let r : IsWholeInTurn s.p s.limit s.base then' n = turn.reads n says_it waits_last in
+                let behind_all = r.turn.behind in
+                let it = is_last (record {
+                  front = r.turn.front;
+                  bytes = r.turn.asked.bytes;
+                  later = r.turn.asked.later;
+                  split = r.turn.split;
+                  asks = r.turn.asks;
+                  most = most_of (heard_in r.turn.front) (omega (arith, behind_all, free));
+                }) in
+                record { read = r; slots = it.slots }
+
+        -- ---- behind the last Data
+
+        idle_over : (h : Host) (w : Wait) → w ≡ ForLast → h.in_reset ≡ false → IsIdle (data_got_by h w)
+        idle_over h ForLast is clear = record { waits = refl; clear = clear }
+        idle_over h other is clear = absurd (cc)
+
+        -- they are the last ones that the host waits for
+        data_over : (h : Host) (o : Out) → is_data o ≡ true → h.waits ≡ ForLast → h.in_reset ≡ false → IsIdle (host_after h (Sends o))
+        data_over h (out.Page page) is waits_last clear = idle_over h h.waits waits_last clear
+        data_over h (out.Data place n) is waits_last clear = idle_over h h.waits waits_last clear
+        data_over h other is waits_last clear = absurd (cc)
+
+        abbrev Over : Host → Type 0
+        Over h = (h.waits ≡ ForNothing) ⊎ (h.waits ≡ ForLast)
+
+        -- what follows them while no command is heard
+        is_left : (o : Out) (does : Does found.cut.mid (Moved (act.Speaks s.n o)) found.cut.next)
+            → sent_by found.cut.mid (Moved (act.Speaks s.n o)) found.cut.next does ≡ f ∷ []
+            → found.deed ≡ Moved (act.Speaks s.n o) → carries (seen f.bytes) ≡ true → is_shut s.dev end ≡ true
+            → IsLeftIdle s.n s.p s.limit s.now (s.base ++ calls s)
+        is_left o does sent spoke data' shuts =
+            let t : IsThen o = is_then s.n o does sent in
+            let turn : AreSettled s.p s.limit s.base then' = settled t.whole in
+            let g : IsAllSettled = all_settled turn shuts in
+            let is : is_data o ≡ true =
+            says_data found.cut.mid s.n o found.cut.next does
+            (subst (λ (y : Stamped). carries (seen y.bytes) ≡ true) (sym (risen_is s.n o does sent)) data') in
+            let waits_last : (host_of new_host (s.base ++ then')).waits ≡ ForLast = turn.alone o t.says is g.all g.last in
+            let x : Call = Sends o in
+            let rest : List Call = calls_of s.n found.cut.next found.cut.later s.now found.cut.rest in
+            let then2 : List Call = (s.base ++ then') ++ x ∷ [] in
+            let idle : IsIdle (host_of new_host then2) =
+            subst IsIdle (sym (host_then (s.base ++ then') x new_host))
+            (data_over (host_of new_host (s.base ++ then')) o is waits_last (turn.idle g.all).0) in
+            let behind_is : behind ≡ x ∷ rest = calls_by_now spoke in
+            let split : calls s ≡ then' ++ x ∷ rest = all_calls ∙ ap (λ (l : List Call). then' ++ l) behind_is in
+            let whole_is : s.base ++ calls s ≡ then2 ++ rest =
+            ap (λ (l : List Call). s.base ++ l) split ∙ sym (append_assoc s.base then' (x ∷ rest)) ∙ sym (append_assoc (s.base ++ then') (x ∷ []) rest) in
+            let gone : GoneOn s.many s.n s.c s.dev s.begins.disk (calls s) (of_conn s.n s.c (sent_of s.at s.deeds s.now s.run)) (bay_at s.now s.n).unit =
+            stretch_made s.many s.n s.c s.dev laws.disks s.deeds s.at s.now s.run s.keeps s.begins.disk s.begins.there in
+            let are : AreCalls (new_disk s.p s.limit) (s.base ++ calls s) =
+            calls_both s.base (calls s) (new_disk s.p s.limit) s.are (subst (λ (y : DiskState). AreCalls y (calls s)) s.same gone.are) in
+            let on : AreKeptOn rest = kept_behind then' x rest (subst AreKeptOn split s.on) in
+            let same : 0 + heard_in rest ≡ 0 = sym (ap heard_in behind_is) ∙ g.none in
+            let quiet : heard_in rest ≡ 0 = omega (arith, same) in
+            let turn2 : AreSettled s.p s.limit then2 rest =
+            laws.turn s.p s.limit then2 rest (subst (AreCalls (new_disk s.p s.limit)) whole_is are) idle on in
+            let over = turn2.idle (omega (arith, quiet)) in
+            record {
+              are = are;
+              there = gone.is
+                  ∙ ap Disk (ap (λ (y : DiskState). after_calls y (calls s)) s.same ∙ sym (calls_after s.base (calls s) (new_disk s.p s.limit)));
+              idle = subst (λ (l : List Call). IsIdle (host_of new_host l)) (sym whole_is)
+                  (record { waits = waits_none rest quiet turn2 over.1; clear = over.0 });
+            }
+          where
+            calls_by_now : found.deed ≡ Moved (act.Speaks s.n o) → behind ≡ Sends o ∷ calls_of s.n found.cut.next found.cut.later s.now found.cut.rest
+            calls_by_now is =
+                ap (λ (l : List Call). l ++ calls_of s.n found.cut.next found.cut.later s.now found.cut.rest)
+                (ap (λ (d : Deed). calls_at found.cut.mid d s.n) is ∙ ap (λ (b : Bool). if b then Sends o ∷ [] else []) (eq-eqb s.n s.n refl))
+
+            waits_none : (rest : List Call) → heard_in rest ≡ 0 → AreSettled s.p s.limit ((s.base ++ then') ++ Sends o ∷ []) rest
+                → Over (host_of new_host (((s.base ++ then') ++ Sends o ∷ []) ++ rest))
+                → (host_of new_host (((s.base ++ then') ++ Sends o ∷ []) ++ rest)).waits ≡ ForNothing
+            waits_none rest quiet turn2 (inl none) = none
+            waits_none rest quiet turn2 (inr last) =
+                let u : IsSettledLast rest = turn2.lasts last in
+                let sum : heard_in rest ≡ heard_in u.front + (once_if (is_asking u.bytes) + heard_in u.later) =
+                ap heard_in u.split ∙ heard_both u.front (Hears u.bytes ∷ u.later) in
+                let one : once_if (is_asking u.bytes) ≡ 1 = ap once_if u.asks in
+                absurd (omega (arith, quiet, sum, one))
+
+        -- all of it
+        is_done : (spoke : IsSpoken found.deed) → (is_pio issue.work.kind ≡ false → is_answering f.bytes ≡ true)
+            → (is_answering f.bytes ≡ false → (is_shut s.dev end ≡ true) × (carries (seen f.bytes) ≡ true))
+            → IsDoneThere s.n s.dev s.slot s.old s.before s.at s.first s.deeds s.now s.run s.p s.limit s.base issue f
+        is_done spoke register ends = record {
+          register = register;
+          sooner = found.cut.sooner;
+          mid = found.cut.mid;
+          led = found.cut.led;
+          said = spoke.o;
+          after = found.cut.next;
+          does = spoke.does;
+          later = found.cut.later;
+          is = found.cut.is ∙ ap (λ (d : Deed). found.cut.sooner ++ d ∷ found.cut.later) spoke.is;
+          sent = spoke.sent;
+          answers = λ answering. is_answers s.n spoke.o spoke.does spoke.sent answering;
+          ends = λ other. is_ended s.n spoke.o spoke.does spoke.sent (ends other).1 (ends other).0;
+          left = λ other. is_left spoke.o spoke.does spoke.sent spoke.is (ends other).1 (ends other).0;
+          slots = λ is. done_slots spoke.o spoke.does spoke.sent is;
         }
-      where
-        is_read : AreSettled s.p s.limit s.base then' → due s.dev end ≡ 0 → (n : ℕ) → IsOut (reached s.p s.limit (s.base ++ then')) (Some (out.Data 32 n))
-            → (host_of new_host (s.base ++ then')).waits ≡ ForLast
-            → IsWholeThere s.dev s.slot s.old s.before s.at s.first s.deeds s.now s.run s.p s.limit s.base then' n
-        is_read turn free n says_it waits_last =
-            let r : IsWholeInTurn s.p s.limit s.base then' n = turn.reads n says_it waits_last in
-            let behind_all = r.turn.behind in
-            let it = is_last (record {
-              front = r.turn.front;
-              bytes = r.turn.asked.bytes;
-              later = r.turn.asked.later;
-              split = r.turn.split;
-              asks = r.turn.asks;
-              most = omega (arith, behind_all, free);
-            }) in
-            record { read = r; slots = it.slots }
 
-    -- ---- behind the last Data
+-- ---- a FIS of the connection is taken behind the stretch
 
-    idle_over : (h : Host) (w : Wait) → w ≡ ForLast → h.in_reset ≡ false → IsIdle (data_got_by h w)
-    idle_over h ForLast is clear = record { waits = refl; clear = clear }
-    idle_over h other is clear = absurd (cc)
+-- all that came of it was sent before, in order
+pub order_of : Laws → (s : Stretch) (took : Took) (new : MachineState) (does : Does s.now (Moved (act.Takes took)) new) → is_of s.n s.c does.does.frame ≡ true
+    → InOrder s.n s.c (came s) (sent_of s.at s.deeds s.now s.run) does.does.frame
+order_of laws s took new does own =
+    let h = does.does in
+    let f : Stamped = h.frame in
+    let link : AreLinked s.deeds = linked s.many s.n s.c s.dev s.deeds s.at s.now s.run s.keeps in
+    let was : Frames = frames_in no_frames s.old s.before s.at s.first in
+    let risen_at : HaveRisen s.at was = laws.falls.rising s.old s.before s.at s.first no_frames (laws.falls.opens_rising s.ports s.legacy s.old s.opening) in
+    let all : Frames = frames_in was s.at s.deeds s.now s.run in
+    let risen_now : HaveRisen s.now all = laws.falls.rising s.at s.deeds s.now s.run was risen_at in
+    in_order s.n s.c s.at s.now was all (came s) (sent_of s.at s.deeds s.now s.run) f (laws.order s.at was risen_at s.n s.c s.below) (laws.order s.now all risen_now s.n s.c s.below)
+    (frames_are s.deeds s.at s.now s.run was link) s.begins.up s.begins.lasts (untaken_is s.now f h.once h.on) own
 
-    -- they are the last ones that the host waits for
-    data_over : (h : Host) (o : Out) → is_data o ≡ true → h.waits ≡ ForLast → h.in_reset ≡ false → IsIdle (host_after h (Sends o))
-    data_over h (out.Page page) is waits_last clear = idle_over h h.waits waits_last clear
-    data_over h (out.Data place n) is waits_last clear = idle_over h h.waits waits_last clear
-    data_over h other is waits_last clear = absurd (cc)
-
-    abbrev Over : Host → Type 0
-    Over h = (h.waits ≡ ForNothing) ⊎ (h.waits ≡ ForLast)
-
-    -- what follows them while no command is heard
-    is_left : (o : Out) (does : Does found.cut.mid (Moved (act.Speaks s.n o)) found.cut.next)
-        → sent_by found.cut.mid (Moved (act.Speaks s.n o)) found.cut.next does ≡ f ∷ []
-        → found.deed ≡ Moved (act.Speaks s.n o) → carries (seen f.bytes) ≡ true → is_shut s.dev end ≡ true
-        → IsLeftIdle s.n s.p s.limit s.now (s.base ++ calls s)
-    is_left o does sent spoke data' shuts =
-        let t : IsThen o = is_then s.n o does sent in
-        let turn : AreSettled s.p s.limit s.base then' = settled t.whole in
-        let g : IsAllSettled = all_settled turn shuts in
-        let is : is_data o ≡ true =
-        says_data found.cut.mid s.n o found.cut.next does
-        (subst (λ (y : Stamped). carries (seen y.bytes) ≡ true) (sym (risen_is s.n o does sent)) data') in
-        let waits_last : (host_of new_host (s.base ++ then')).waits ≡ ForLast = turn.alone o t.says is g.all g.last in
-        let x : Call = Sends o in
-        let rest : List Call = calls_of s.n found.cut.next found.cut.later s.now found.cut.rest in
-        let then2 : List Call = (s.base ++ then') ++ x ∷ [] in
-        let idle : IsIdle (host_of new_host then2) =
-        subst IsIdle (sym (host_then (s.base ++ then') x new_host))
-        (data_over (host_of new_host (s.base ++ then')) o is waits_last (turn.idle g.all).0) in
-        let behind_is : behind ≡ x ∷ rest = calls_by_now spoke in
-        let split : calls s ≡ then' ++ x ∷ rest = all_calls ∙ ap (λ (l : List Call). then' ++ l) behind_is in
-        let whole_is : s.base ++ calls s ≡ then2 ++ rest =
-        ap (λ (l : List Call). s.base ++ l) split ∙ sym (append_assoc s.base then' (x ∷ rest)) ∙ sym (append_assoc (s.base ++ then') (x ∷ []) rest) in
-        let gone : GoneOn s.many s.n s.c s.dev s.begins.disk (calls s) (of_conn s.n s.c (sent_of s.at s.deeds s.now s.run)) (bay_at s.now s.n).unit =
-        stretch_made s.many s.n s.c s.dev laws.disks s.deeds s.at s.now s.run s.keeps s.begins.disk s.begins.there in
-        let are : AreCalls (new_disk s.p s.limit) (s.base ++ calls s) =
-        calls_both s.base (calls s) (new_disk s.p s.limit) s.are (subst (λ (y : DiskState). AreCalls y (calls s)) s.same gone.are) in
-        let on : AreKeptOn rest = kept_behind then' x rest (subst AreKeptOn split s.on) in
-        let same : 0 + heard_in rest ≡ 0 = sym (ap heard_in behind_is) ∙ g.none in
-        let quiet : heard_in rest ≡ 0 = omega (arith, same) in
-        let turn2 : AreSettled s.p s.limit then2 rest =
-        laws.turn s.p s.limit then2 rest (subst (AreCalls (new_disk s.p s.limit)) whole_is are) idle on in
-        let over = turn2.idle (omega (arith, quiet)) in
-        record {
-          are = are;
-          there = gone.is
-              ∙ ap Disk (ap (λ (y : DiskState). after_calls y (calls s)) s.same ∙ sym (calls_after s.base (calls s) (new_disk s.p s.limit)));
-          idle = subst (λ (l : List Call). IsIdle (host_of new_host l)) (sym whole_is)
-              (record { waits = waits_none rest quiet turn2 over.1; clear = over.0 });
-        }
-      where
-        calls_by_now : found.deed ≡ Moved (act.Speaks s.n o) → behind ≡ Sends o ∷ calls_of s.n found.cut.next found.cut.later s.now found.cut.rest
-        calls_by_now is =
-            ap (λ (l : List Call). l ++ calls_of s.n found.cut.next found.cut.later s.now found.cut.rest)
-            (ap (λ (d : Deed). calls_at found.cut.mid d s.n) is ∙ ap (λ (b : Bool). if b then Sends o ∷ [] else []) (eq-eqb s.n s.n refl))
-
-        waits_none : (rest : List Call) → heard_in rest ≡ 0 → AreSettled s.p s.limit ((s.base ++ then') ++ Sends o ∷ []) rest
-            → Over (host_of new_host (((s.base ++ then') ++ Sends o ∷ []) ++ rest))
-            → (host_of new_host (((s.base ++ then') ++ Sends o ∷ []) ++ rest)).waits ≡ ForNothing
-        waits_none rest quiet turn2 (inl none) = none
-        waits_none rest quiet turn2 (inr last) =
-            let u : IsSettledLast rest = turn2.lasts last in
-            let sum : heard_in rest ≡ heard_in u.front + (once_if (is_asking u.bytes) + heard_in u.later) =
-            ap heard_in u.split ∙ heard_both u.front (Hears u.bytes ∷ u.later) in
-            let one : once_if (is_asking u.bytes) ≡ 1 = ap once_if u.asks in
-            absurd (omega (arith, quiet, sum, one))
-
-    -- all of it
-    is_done : (spoke : IsSpoken found.deed) → (is_pio issue.work.kind ≡ false → is_answering f.bytes ≡ true)
-        → (is_answering f.bytes ≡ false → (is_shut s.dev end ≡ true) × (carries (seen f.bytes) ≡ true))
-        → IsDoneThere s.n s.dev s.slot s.old s.before s.at s.first s.deeds s.now s.run s.p s.limit s.base issue f
-    is_done spoke register ends = record {
-      register = register;
-      sooner = found.cut.sooner;
-      mid = found.cut.mid;
-      led = found.cut.led;
-      said = spoke.o;
-      after = found.cut.next;
-      does = spoke.does;
-      later = found.cut.later;
-      is = found.cut.is ∙ ap (λ (d : Deed). found.cut.sooner ++ d ∷ found.cut.later) spoke.is;
-      sent = spoke.sent;
-      answers = λ answering. is_answers s.n spoke.o spoke.does spoke.sent answering;
-      ends = λ other. is_ended s.n spoke.o spoke.does spoke.sent (ends other).1 (ends other).0;
-      left = λ other. is_left spoke.o spoke.does spoke.sent spoke.is (ends other).1 (ends other).0;
-      slots = λ is. done_slots spoke.o spoke.does spoke.sent is;
-    }
+pub found_of : Laws → (s : Stretch) (took : Took) (new : MachineState) (does : Does s.now (Moved (act.Takes took)) new) → is_of s.n s.c does.does.frame ≡ true
+    → Found s.many s.n s.c s.dev s.at s.deeds s.now s.run (of_conn s.n s.c (came s)) does.does.frame
+found_of laws s took new does own =
+    let order = order_of laws s took new does own in
+    find s.many s.n s.c s.dev s.deeds s.at s.now s.run s.keeps (of_conn s.n s.c (came s)) order.rest does.does.frame order.is
 
 -- ---- the law
 
@@ -632,7 +660,6 @@ unqueued_are laws ports legacy old opening before at first many n c dev slot bel
       dev_low = dev_low;
       low = low;
       begins = begins;
-      clear = clear;
       p = p;
       limit = limit;
       base = base;
@@ -650,23 +677,15 @@ unqueued_are laws ports legacy old opening before at first many n c dev slot bel
       of = of;
       waiting = waits_so;
     } in
-    let h = does.does in
-    let f : Stamped = h.frame in
-    let link : AreLinked deeds = linked many n c dev deeds at now run keeps in
-    let was : Frames = frames_in no_frames old before at first in
-    let risen_at : HaveRisen at was = laws.falls.rising old before at first no_frames (laws.falls.opens_rising ports legacy old opening) in
-    let all : Frames = frames_in was at deeds now run in
-    let risen_now : HaveRisen now all = laws.falls.rising at deeds now run was risen_at in
-    let order : InOrder n c (came s) (sent_of at deeds now run) f =
-    in_order n c at now was all (came s) (sent_of at deeds now run) f (laws.order at was risen_at n c below) (laws.order now all risen_now n c below) (frames_are deeds at now run was link)
-    begins.up begins.lasts (untaken_is now f h.once h.on) own in
-    let found : Found many n c dev at deeds now run (of_conn n c (came s)) f = find many n c dev deeds at now run keeps (of_conn n c (came s)) order.rest f order.is in
+    let f : Stamped = does.does.frame in
+    let found : Found many n c dev at deeds now run (of_conn n c (came s)) f = found_of laws s took new does own in
     let whole : IsWhole old before at first deeds now run = whole_run before old at first deeds now run in
     let done = (laws.completed ports legacy old opening (before ++ deeds) now whole.all took new does rules slot low shows hides none).ended in
     let k : IsController now.controller = kept_of laws.falls now (last_ruled deeds at now run) in
     let waits : is_waiting issue ≡ true = completed_waits slot low now.controller k f.bytes done issue there plain in
     let well : IsErrorFis f.bytes → ⊥ = no_error slot now.controller f.bytes done in
-    is_done laws s issue there mine waits f own found well (spoken laws s issue there mine waits f own found well found.deed found.cut.does found.line found.sent)
+    let pre : List Stamped = of_conn n c (came s) in
+    is_done laws s f own pre found issue there mine waits refl well clear (spoken laws s f own pre found found.deed found.cut.does found.line found.sent)
     (completed_by slot now.controller f.bytes done issue there plain)
     (λ other. let d = data_ends slot low now.controller k f.bytes done issue there plain other in (ap (λ (j : ℕ). is_shut j now.controller) (sym mine) ∙ d.shuts, d.data'))
 

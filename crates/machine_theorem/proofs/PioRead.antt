@@ -1,32 +1,32 @@
 -- Each byte of a read that is not queued, by DMA or by PIO, and that the guest sees completed, is the one of its number that the caller gave.
-use Rattle.std.proofs.Common.{◌≡◌, ◌⊎◌, ℕ, ◌+◌, ◌-◌, ◌<◌, Bool, true, false, List, [], ◌∷◌, ◌++◌, drop, length, inl, inr, refl, sym, ap, subst, ◌∙◌}
+use Rattle.std.proofs.Common.{◌≡◌, ◌⊎◌, ℕ, ◌<◌, Bool, true, false, List, ◌++◌, drop, inl, inr, refl, sym, ap, subst, ◌∙◌}
 use Rattle.std.proofs.Common.{arith, Option, Some, None}
-use Rattle.std.specs.Prelude.{IfSome, is_some, slice_get}
-use Rattle.fis_view.specs.Frames.{Stamped}
+use Rattle.std.specs.Prelude.{IfSome, is_some}
+use Rattle.fis_view.specs.{Frames.Stamped, Seen.seen}
 use Rattle.guest_fetch.specs.Commands.{Fetched}
-use Rattle.slots.specs.{Bytes.is_over, Slots.{Issue, holds, is_queued_issue, is_waiting, issue_at}, declared.work.Kind.Kind}
+use Rattle.slots.specs.{Bytes.is_over, Slots.{Issue, holds, issue_at}}
 use Rattle.hba_fbs.specs.declared.report.Wrote.{Wrote}
 use Rattle.ahci_controller.specs.States.{kept}
-use Rattle.controller_laws.specs.{Carrying.IsOwnData, Events.{Event, IsController, Takes}, Sources.{Source, command_of, no_sources, unmoved}}
+use Rattle.controller_laws.specs.{Carrying.IsOwnData, Events.{Event, Takes}, Sources.{Source, command_of, no_sources, unmoved}}
 use Rattle.sata_disk.specs.{State.new_disk, declared.out.Out.Out}
 use Rattle.sata_disk.specs.declared.out.Out.TheVariants as out
 use Rattle.sata_disk_laws.specs.{Calls.{AreCalls, Call}, Laws.reached, Once.{host_of, new_host}}
 use Rattle.ahci_machine.specs.States.{IsOpeningMachine}
 use Rattle.ahci_machine.specs.declared.act.Act.TheVariants as act
 use Rattle.machine_laws.specs.{ControllerLaws.{OpensSo, calls_in}, Controllers.{GathersDue, deed_calls}, Deeds.Moved, Falling.{AllLast, HasLink}}
-use Rattle.machine_theorem.specs.{Brought.{AllTakenWell, DiskStretch}, Completed.IsEndedInHistory, Given.IsWhole, Identity.calls_of, InTurn.AreKeptOn}
-use Rattle.machine_theorem.specs.{InTurn.IsIdle, OwnPages.{PagesGoInTurn, TransfersSendNoPage}, OwnSlots.{AllKeepLine, NoneLost, is_of}}
-use Rattle.machine_theorem.specs.PioReads.{AllKeepUnqueued, CameIsRead, IsLastByte, IsOfNoSectors, IsItsData, LastIsRead, OfLastByte}
-use Rattle.machine_theorem.specs.{PioReads.UnqueuedReadsAreRead, SingleBytes.IsSentFor, SingleNumbers.{AllHearSingle, SendsSingle}}
+use Rattle.machine_theorem.specs.{Brought.{AllTakenWell, DiskStretch}, Completed.IsEndedInHistory, Ending.carries, Given.IsWhole, Identity.calls_of}
+use Rattle.machine_theorem.specs.{InTurn.{AreKeptOn, IsIdle, is_answering}, OwnPages.{PagesGoInTurn, TransfersSendNoPage}, OwnSlots.AllKeepLine}
+use Rattle.machine_theorem.specs.{OwnSlots.{NoneLost, is_of}, PioReads.{AllKeepUnqueued, CameIsRead, IsItsData, IsLastByte, IsOfNoSectors, LastIsRead}}
+use Rattle.machine_theorem.specs.{PioReads.{OfLastByte, UnqueuedReadsAreRead}, SingleBytes.IsSentFor, SingleNumbers.{AllHearSingle, SendsSingle}}
 use Rattle.machine_theorem.specs.{SingleNumbers.SingleDataAreCounted, SingleReads.{ComesLast, IsSingleDone, is_sent_read}, Singles.BeginsIdle}
 use Rattle.machine_theorem.specs.{Tags.once_if, Waits.waits_in}
-use Rattle.machine_theorem.proofs.{BeginsFree.was_free, Brought.read_from, BroughtAt.Brought, BroughtRead.byte_of, CameRead.all_own}
-use Rattle.machine_theorem.proofs.{EndedByData.data_ends, Falls.kept_of, Ordered.first_ruled, Own.last_ruled, SinglesBrought.by_event}
-use Rattle.machine_theorem.proofs.{SinglesBrought.{came as came_before, not_queued}, SinglesOwn.{Stretch, completed_waits, found_of}}
-use Rattle.machine_theorem.proofs.{SinglesSent.{hear_first, hears_single, none_cut, none_sent}, Stretch.whole_run, TakenRead.IsNumberedHere}
-use Rattle.machine_theorem.proofs.{TakenRead.{IsOwnHere, OfNumber, OfOwn, SentThen, taken_own}, WaitingRun.{GoodWaiting, good_waiting}}
-use Rattle.machine_theorem.proofs.{HostShut.host_both, SingleNumbers.{IsShut, calls_shut}}
+use Rattle.machine_theorem.proofs.{Anew.{Keeps, Start}, BeginsFree.was_free, Brought.read_from, BroughtAt.Brought, BroughtRead.byte_of, CameRead.all_own}
+use Rattle.machine_theorem.proofs.{EndedByData.data_ends, Falls.kept_of, HostShut.host_both, Ordered.first_ruled, Own.last_ruled}
+use Rattle.machine_theorem.proofs.{SingleNumbers.{IsShut, calls_shut}, SinglesBrought.{by_event, came as came_before, not_queued}}
+use Rattle.machine_theorem.proofs.{SinglesSent.{hears_single, none_cut, none_sent}, Stretch.whole_run, TakenRead.{IsNumberedHere, IsOwnHere, OfNumber}}
+use Rattle.machine_theorem.proofs.TakenRead.{OfOwn, SentThen, hear_first, taken_own}
 use Rattle.machine_theorem.proofs.CameRead as came
+use Rattle.machine_theorem.proofs.Falls as falls
 
 some_is : (o : Option Fetched) → is_some o ≡ true → (f : Fetched) × (o ≡ Some f)
 some_is None e = absurd (cc)
@@ -40,71 +40,59 @@ module _ (laws : came.Laws) (pages : PagesGoInTurn) (no_page : TransfersSendNoPa
     (keeps : AllKeepUnqueued d.many d.n dev d.at d.deeds d.now d.run) (taken : AllTakenWell dev d.at d.deeds d.now d.run)
     (lost : NoneLost dev (calls_in d.at d.deeds d.now d.run)) (sends : SendsSingle d) (issue : Issue) (done : IsSingleDone d.now d.tag issue)
     (of_it : is_of d.n c done.does.does.frame ≡ true) (is_dev : issue.dev ≡ dev) (k : ℕ) (small : k < issue.work.len) where
+  abbrev facts : falls.Laws
+  facts = laws.taken.anew.own.falls
+
   due : GathersDue d.at
-  due =
-      let falls = laws.taken.singles.falls in
-      (falls.runs d.old d.before d.at d.first (falls.opens ports legacy d.old opening (first_ruled d.before d.old d.at d.first)).due).due
+  due = (facts.runs d.old d.before d.at d.first (facts.opens ports legacy d.old opening (first_ruled d.before d.old d.at d.first)).due).due
 
   hear : AllHearSingle (calls_of d.n d.at d.deeds d.now d.run)
-  hear = hears_single laws.taken.singles d c dev due begins linked lasts line sends
+  hear = hears_single laws.taken.anew.own.falling d c dev due begins linked lasts line sends
 
-  all_good : GoodWaiting d.many d.n dev d.at d.deeds d.now d.run
-  all_good = good_waiting laws.brought.written.moments.goes laws.brought.written.moments.due d.many d.n dev d.deeds d.at d.now d.run due keeps taken
+  abbrev kept_to : Keeps d.many d.n c dev d.at d.deeds d.now d.run
+  kept_to = record { linked = linked; lasts = lasts; line = line; on = on; unqueued = keeps }
 
   -- no slot of the device waited as the stretch began
-  abbrev s : Stretch
-  s = record {
+  abbrev start : Start
+  start = record {
     ports = ports;
     legacy = legacy;
-    old = d.old;
+    d = d;
     opening = opening;
-    before = d.before;
-    at = d.at;
-    first = d.first;
-    many = d.many;
-    n = d.n;
     c = c;
     dev = dev;
-    slot = d.tag;
     below = below;
     dev_low = dev_low;
     low = low;
     begins = begins;
-    p = d.p;
-    limit = d.limit;
-    base = d.base;
     are = are;
     same = same;
     idle = idle;
-    deeds = d.deeds;
-    now = d.now;
-    run = d.run;
-    has_link = linked;
-    lasts = lasts;
-    keeps = line;
-    on = on;
-    runs = all_good.waits.runs;
-    of = all_good.waits.of;
-    waiting = all_good.waits.waiting;
   }
 
-  free : once_if (waits_in dev d.at.controller) ≡ 0
-  free =
-      let end : Stamped = done.does.does.frame in
+  abbrev end : Stamped
+  end = done.does.does.frame
+
+  carries_end : is_answering end.bytes ≡ false → carries (seen end.bytes) ≡ true
+  carries_end other =
       let whole : IsWhole d.old d.before d.at d.first d.deeds d.now d.run = whole_run d.before d.old d.at d.first d.deeds d.now d.run in
       let ended : IsEndedInHistory d.now.controller end.bytes d.tag =
-      (laws.taken.singles.completed ports legacy d.old opening (d.before ++ d.deeds) d.now whole.all done.took done.new done.does done.rules d.tag low
+      (laws.taken.anew.own.completed ports legacy d.old opening (d.before ++ d.deeds) d.now whole.all done.took done.new done.does done.rules d.tag low
       done.shows done.hides done.free).ended in
-      let plain : is_queued_issue issue ≡ false = not_queued issue.work.kind done.kind in
-      let kept_now : IsController d.now.controller = kept_of laws.taken.singles.falls d.now (last_ruled d.deeds d.at d.now d.run) in
-      let waits : is_waiting issue ≡ true = completed_waits d.tag low d.now.controller kept_now end.bytes ended issue done.is plain in
-      was_free laws.taken pages s sends.begins hear issue done.is is_dev waits end of_it
-      (found_of laws.taken.singles s done.took done.new done.does of_it)
-      (λ other. (data_ends d.tag low d.now.controller kept_now end.bytes ended issue done.is plain other).data')
+      (data_ends d.tag low d.now.controller (kept_of facts d.now (last_ruled d.deeds d.at d.now d.run)) end.bytes ended issue done.is
+      (not_queued issue.work.kind done.kind) other).data'
+
+  free : once_if (waits_in dev d.at.controller) ≡ 0
+  free = by (waits_in dev d.at.controller) refl
+    where
+      by : (q : Bool) → waits_in dev d.at.controller ≡ q → once_if q ≡ 0
+      by true waits =
+          absurd (was_free laws.taken pages start sends.begins d.deeds d.now d.run kept_to hear done.took done.new done.does of_it carries_end waits)
+      by false free = refl
 
   none : holds (is_sent_read issue.dev) (issue_at d.at.controller.core.slots d.tag) ≡ false
   none =
-      none_sent d.tag low issue.dev d.at.controller (kept_of laws.taken.singles.falls d.at (first_ruled d.deeds d.at d.now d.run))
+      none_sent d.tag low issue.dev d.at.controller (kept_of facts d.at (first_ruled d.deeds d.at d.now d.run))
       (ap (λ (j : ℕ). once_if (waits_in j d.at.controller)) is_dev ∙ free)
 
   -- ---- it was brought before
@@ -115,10 +103,8 @@ module _ (laws : came.Laws) (pages : PagesGoInTurn) (no_page : TransfersSendNoPa
       came_before laws.brought ports legacy d.old opening d.before d.at d.first d.deeds d.now d.run d.tag low issue done none k small over in
       let cut = b.cut in
       let since : List Event = deed_calls cut.mid (Moved (act.Takes b.took)) cut.next cut.does ++ calls_in cut.next cut.later d.now cut.rest in
-      let good = good_waiting laws.brought.written.moments.goes laws.brought.written.moments.due d.many d.n dev cut.sooner d.at cut.mid cut.led due
-      (cut.unqueued d.many d.n dev keeps).0 (cut.taken dev taken).0 in
-      all_own laws ports legacy d opening c dev below dev_low low begins are same idle linked lasts line on issue done is_dev k b good.waits pages
-      no_page counted good.well
+      all_own laws ports legacy d opening c dev below dev_low low begins are same idle linked lasts line on keeps issue done is_dev k b pages
+      no_page counted (cut.taken dev taken).0
       (none_cut dev (calls_in d.at d.deeds d.now d.run) (calls_in d.at cut.sooner cut.mid cut.led) since cut.events lost) sends.begins
       (hear_first _ _ (subst AllHearSingle (cut.own d.n) hear))
 
@@ -139,18 +125,17 @@ module _ (laws : came.Laws) (pages : PagesGoInTurn) (no_page : TransfersSendNoPa
 
     has_table : (calls : List Call) (it : IsSentFor d dev calls f) → HasTable it.slots.supplied.source
     has_table calls it =
-        let falls = laws.taken.singles.falls in
         let supplied = it.slots.supplied in
-        let opens : OpensSo d.old = falls.opens ports legacy d.old opening (first_ruled d.before d.old d.at d.first) in
+        let opens : OpensSo d.old = facts.opens ports legacy d.old opening (first_ruled d.before d.old d.at d.first) in
         let are =
-        (falls.have d.old (d.before ++ d.deeds) d.now it.slots.whole.all supplied.runs).supplied d.tag low no_sources (opens.sources d.tag low) in
+        (facts.have d.old (d.before ++ d.deeds) d.now it.slots.whole.all supplied.runs).supplied d.tag low no_sources (opens.sources d.tag low) in
         let h = done.does.does in
         let takes : Takes d.now.controller f.bytes done.took done.does.middle.controller =
         record { framed = h.framed; free = h.free; hears = h.hears } in
         let own : IsOwnData d.now.controller f.bytes wrote =
         subst (λ (o : Option Wrote). IfSome o (IsOwnData d.now.controller f.bytes)) last.brings.brought
         (laws.brought.written.own d.now.controller done.does.middle.controller f.bytes done.took
-        (kept_of falls d.now (last_ruled d.deeds d.at d.now d.run)) takes) in
+        (kept_of facts d.now (last_ruled d.deeds d.at d.now d.run)) takes) in
         let g = some_is (kept d.now.controller wrote.slot) own.command in
         let has : kept d.now.controller d.tag ≡ Some g.0 = ap (kept d.now.controller) (sym last.brings.slot_is) ∙ g.1 in
         record { command = g.0; has = has; table = read_from _ (kept d.now.controller d.tag) supplied.source g.0 are.issued supplied.is has }
@@ -205,9 +190,8 @@ module _ (laws : came.Laws) (pages : PagesGoInTurn) (no_page : TransfersSendNoPa
 
     comes_read : LastIsRead d issue done k
     comes_read =
-        last_read (taken_own laws.taken ports legacy d opening c dev below dev_low low begins are same idle d.deeds d.now d.run linked lasts line on
-        all_good.waits done.took done.new done.does of_it issue.work.kind done.kind issue.dev k is_dev last.brings counted all_good.well lost
-        sends.begins hear pages no_page)
+        last_read (taken_own laws.taken ports legacy d opening c dev below dev_low low begins are same idle d.deeds d.now d.run kept_to
+        done.took done.new done.does of_it issue.work.kind done.kind issue.dev k is_dev last.brings counted taken lost sends.begins hear pages no_page)
 
   pub read : CameIsRead d issue k ⊎ LastIsRead d issue done k
   read = elim (by_event laws.brought ports legacy d.old opening d.before d.at d.first d.deeds d.now d.run d.tag low issue done none k small) [

@@ -5,8 +5,8 @@ use Rattle.controller_laws.specs.Events.{Event, Runs}
 use Rattle.ahci_machine.specs.States.{MachineState}
 use Rattle.machine_laws.specs.{ControllerLaws.{ControllerRuns, RunsRuled, calls_in}, Controllers.{ControllerGoesOn, GathersDue, StaysDue, deed_calls}}
 use Rattle.machine_laws.specs.Deeds.{Deed}
-use Rattle.machine_theorem.specs.{Brought.AllTakenWell, Following.AllHeardWell, SingleBytes.AllKeepPlain, Singles.AllOfDevice, Waits.AllPlain}
-use Rattle.machine_theorem.proofs.{Ordered.first_ruled, TakenWell.deed_well}
+use Rattle.machine_theorem.specs.{SingleBytes.AllKeepPlain, Singles.AllOfDevice, Waits.AllPlain}
+use Rattle.machine_theorem.proofs.{Ordered.first_ruled}
 
 record PlainCalls (many : Bool) (n dev : ℕ) (old : ControllerState) (events : List Event) (new : ControllerState) : Type 0 where
   run : Runs old events new
@@ -47,42 +47,3 @@ plain_run goes stays many n dev (deed ∷ later) at now run due keeps =
     let all = plain_both many n dev (deed_calls at deed mid run.1.1) (calls_in mid later now run.1.2) at.controller mid.controller now.controller
     (record { run = calls; of = keeps.0.of calls; plain = keeps.0.plain calls }) (record { run = rest.runs.calls; of = rest.of; plain = rest.plain }) in
     record { runs = record { calls = all.run; due = rest.runs.due }; of = all.of; plain = all.plain }
-
--- ---- and the FISes of the device are heard well
-
-record GoodCalls (many : Bool) (n dev : ℕ) (old : ControllerState) (events : List Event) (new : ControllerState) : Type 0 where
-  plain : PlainCalls many n dev old events new
-  well : AllHeardWell dev old events new plain.run
-
-good_both : (many : Bool) (n dev : ℕ) (xs ys : List Event) (a b c : ControllerState) → GoodCalls many n dev a xs b → GoodCalls many n dev b ys c
-    → GoodCalls many n dev a (xs ++ ys) c
-good_both many n dev [] ys a b c first later = subst (λ (x : ControllerState). GoodCalls many n dev x ys c) first.plain.run.1 later
-good_both many n dev (e ∷ xs) ys a b c first later =
-    let p = first.plain in
-    let rest = good_both many n dev xs ys p.run.1.0 b c
-    (record { plain = record { run = p.run.1.2; of = p.of.1; plain = p.plain.2 }; well = first.well.1 }) later in
-    record {
-      plain = record {
-        run = (p.run.0, (p.run.1.0, p.run.1.1, rest.plain.run));
-        of = (p.of.0, rest.plain.of);
-        plain = (p.plain.0, p.plain.1, rest.plain.plain);
-      };
-      well = (first.well.0, rest.well);
-    }
-
-pub record GoodRun (many : Bool) (n dev : ℕ) (at : MachineState) (deeds : List Deed) (now : MachineState) (run : RunsRuled at deeds now) : Type 0 where
-  pub plain : PlainRun many n dev at deeds now run
-  pub well : AllHeardWell dev at.controller (calls_in at deeds now run) now.controller plain.runs.calls
-
-pub good_run : ControllerGoesOn → StaysDue → (many : Bool) (n dev : ℕ) (deeds : List Deed) (at now : MachineState) (run : RunsRuled at deeds now) → GathersDue at
-    → AllKeepPlain many n dev at deeds now run → AllTakenWell dev at deeds now run → GoodRun many n dev at deeds now run
-good_run goes stays many n dev [] at now run due keeps taken = record { plain = plain_run goes stays many n dev [] at now run due keeps; well = tt }
-good_run goes stays many n dev (deed ∷ later) at now run due keeps taken =
-    let mid : MachineState = run.1.0 in
-    let rest = good_run goes stays many n dev later mid now run.1.2 (stays at deed mid run.1.1 due) keeps.1 taken.1 in
-    let calls : Runs at.controller (deed_calls at deed mid run.1.1) mid.controller = goes at deed mid run.1.1 run.0 (first_ruled later mid now run.1.2) due in
-    let r = rest.plain in
-    let all = good_both many n dev (deed_calls at deed mid run.1.1) (calls_in mid later now run.1.2) at.controller mid.controller now.controller
-    (record { plain = record { run = calls; of = keeps.0.of calls; plain = keeps.0.plain calls }; well = deed_well dev at deed mid run.1.1 taken.0 calls })
-    (record { plain = record { run = r.runs.calls; of = r.of; plain = r.plain }; well = rest.well }) in
-    record { plain = record { runs = record { calls = all.plain.run; due = r.runs.due }; of = all.plain.of; plain = all.plain.plain }; well = all.well }

@@ -1,6 +1,6 @@
 -- The FISes that a disk sends in a stretch, as they go up from its port.
-use Rattle.std.proofs.Common.{◌≡◌, ℕ, Bool, true, false, List, [], ◌∷◌, ◌++◌, refl, sym, ap, subst, ◌∙◌, arith, Option, Some, None}
-use Rattle.std.proofs.lemmas.{Bool.{and_parts, eqb-true, eq-eqb, false≢true, ltb-true}, List.Elements.{Contains-push}}
+use Rattle.std.proofs.Common.{◌≡◌, ℕ, ◌+◌, Bool, true, false, List, [], ◌∷◌, ◌++◌, length, refl, sym, ap, subst, ◌∙◌, arith, Option, Some, None}
+use Rattle.std.proofs.lemmas.{Bool.{and_parts, eqb-true, eq-eqb, false≢true, ltb-true}, List.{length-append, Elements.Contains-push}}
 use Rattle.std.specs.Prelude.{◌==◌, ◌&&◌, map, if◌then◌else◌, Result, Ok, Err}
 use Rattle.fis_view.specs.Frames.{Stamped}
 use Rattle.fan_out.specs.{FanOuts.wants_at, declared.fan_out.FanOut.{FanOut, TheVariants.{Device, Multiplier}}}
@@ -23,12 +23,26 @@ use Rattle.machine_theorem.proofs.{RisenTold.{risen_told, since_both, told_both}
 abbrev bytes_in : List Stamped → List (List ℕ)
 bytes_in frames = map (λ (f : Stamped). f.bytes) frames
 
+-- how many of these calls send one
+abbrev pub speaks_one : Call → ℕ
+speaks_one (Sends o) = 1
+speaks_one other = 0
+
+abbrev pub spoken_in : List Call → ℕ
+spoken_in [] = 0
+spoken_in (c ∷ later) = speaks_one c + spoken_in later
+
+spoken_both : (xs ys : List Call) → spoken_in (xs ++ ys) ≡ spoken_in xs + spoken_in ys
+spoken_both [] ys = omega arith
+spoken_both (x ∷ xs) ys = let rest = spoken_both xs ys in omega (arith, rest)
+
 -- By these calls a disk sends FISes that say what these say.
 pub record Made (d : DiskState) (calls : List Call) (frames : List Stamped) : Type 0 where
   pub fises : List (List ℕ)
   pub are : AreFises d calls fises
   pub told : (u : Option Counted) → told_after u fises ≡ told_after u (map (λ (f : Stamped). f.bytes) frames)
   pub since : (t : ℕ) → since_after t fises ≡ since_after t (map (λ (f : Stamped). f.bytes) frames)
+  pub long : spoken_in calls ≡ length frames
 
 fises_both : (xs ys : List Call) (d : DiskState) (one two : List (List ℕ)) → AreFises d xs one → AreFises (after_calls d xs) ys two → AreFises d (xs ++ ys) (one ++ two)
 unfolding after_calls
@@ -54,10 +68,16 @@ made_both xs ys d one two first later = record {
       ∙ sym (told_both (bytes_in one) (bytes_in two) u) ∙ ap (λ l. told_after u l) (sym (map_both one two));
   since = λ t. since_both first.fises later.fises t ∙ ap (λ k. since_after k later.fises) (first.since t) ∙ later.since (since_after t (bytes_in one))
       ∙ sym (since_both (bytes_in one) (bytes_in two) t) ∙ ap (λ l. since_after t l) (sym (map_both one two));
+  long =
+      let all = spoken_both xs ys in
+      let frames = length-append one two in
+      let a = first.long in
+      let b = later.long in
+      omega (arith, all, frames, a, b);
 }
 
 none_made : (d : DiskState) → Made d [] []
-none_made d = record { fises = []; are = refl; told = λ u. refl; since = λ t. refl }
+none_made d = record { fises = []; are = refl; told = λ u. refl; since = λ t. refl; long = refl }
 
 -- calls that send nothing
 abbrev pub SendsNone : List Call → Type 0
@@ -74,8 +94,17 @@ quiet_fises (disk_call.Starts x ∷ later) d none = quiet_fises later (after_cal
 quiet_fises (disk_call.Asks r ∷ later) d none = quiet_fises later (after_call d (disk_call.Asks r)) none
 quiet_fises (disk_call.Answers number a ∷ later) d none = quiet_fises later (after_call d (disk_call.Answers number a)) none
 
+quiet_long : (calls : List Call) → SendsNone calls → spoken_in calls ≡ 0
+quiet_long [] none = refl
+quiet_long (Sends o ∷ later) none = absurd none
+quiet_long (disk_call.Plugs ∷ later) none = let rest = quiet_long later none in omega (arith, rest)
+quiet_long (disk_call.Hears f ∷ later) none = let rest = quiet_long later none in omega (arith, rest)
+quiet_long (disk_call.Starts x ∷ later) none = let rest = quiet_long later none in omega (arith, rest)
+quiet_long (disk_call.Asks r ∷ later) none = let rest = quiet_long later none in omega (arith, rest)
+quiet_long (disk_call.Answers number a ∷ later) none = let rest = quiet_long later none in omega (arith, rest)
+
 quiet_made : (calls : List Call) (d : DiskState) → SendsNone calls → Made d calls []
-quiet_made calls d none = record { fises = []; are = quiet_fises calls d none; told = λ u. refl; since = λ t. refl }
+quiet_made calls d none = record { fises = []; are = quiet_fises calls d none; told = λ u. refl; since = λ t. refl; long = quiet_long calls none }
 
 -- ---- calls of a deed that sends nothing
 
@@ -160,6 +189,7 @@ module _ (many : Bool) (n c dev : ℕ) where
         are = record { fis = h.frame.bytes; rest = []; are = refl; is = subst (λ (x : DiskState). IsFis x o h.frame.bytes) disk h.bytes; later = refl };
         told = λ u. one_told old.fan k h.frame u;
         since = λ t. one_since old.fan k h.frame t;
+        long = refl;
       })
   speaks_made old k o new does keeps d unit false same =
       let h = does.does.does.1 in

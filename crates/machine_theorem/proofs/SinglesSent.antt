@@ -1,43 +1,37 @@
 -- Each byte of a READ DMA that the guest sees completed came by a FIS that the disk sent for the command of the slot, and it is the one of its number.
-use Rattle.std.proofs.Common.{◌≡◌, ℕ, suc, ◌+◌, ◌<◌, ◌≤◌, Bool, true, false, List, [], ◌∷◌, ◌++◌, append_assoc, drop, length, map, inl, inr, refl}
-use Rattle.std.proofs.{Common.{sym, ap, subst, ◌∙◌, arith, Option, Some, None}, lemmas.Bool.{and_parts, eq-eqb, eqb-true, false≢true}}
+use Rattle.std.proofs.Common.{◌≡◌, ℕ, ◌<◌, Bool, true, false, List, [], ◌∷◌, ◌++◌, map, inl, inr, refl}
+use Rattle.std.proofs.{Common.{sym, ap, subst, ◌∙◌, arith, Option, Some, None}, lemmas.Bool.{and_parts, eqb-true, false≢true}}
 use Rattle.std.specs.{Prelude.{◌==◌, ◌&&◌, if◌then◌else◌}, List.flat_map}
 use Rattle.fis_view.specs.{Frames.Stamped, Seen.seen}
-use Rattle.multiplier.specs.Passing.{of_conn}
-use Rattle.slots.specs.{Bytes.is_over, Slots.{Issue, context_of, holds, is_pio, is_queued_issue, is_waiting, issue_at, match_some, own_issue}}
-use Rattle.slots.specs.{Slots.slots_of, Work.is_queued, declared.work.Kind.{Kind, TheVariants.{DmaIn, PioIn}}}
-use Rattle.hba_fbs.specs.{Taking.port_of, declared.report.Wrote.Wrote}
+use Rattle.slots.specs.{Bytes.is_over, Slots.{Issue, holds, is_pio, is_queued_issue, is_waiting, issue_at, own_issue}}
+use Rattle.slots.specs.{Slots.slots_of, declared.work.Kind.{Kind}}
 use Rattle.ahci_controller.specs.States.{ControllerState}
-use Rattle.ahci_controller.specs.declared.next.Next.TheVariants as next
-use Rattle.controller_laws.specs.Events as call
 use Rattle.controller_laws.specs.Events.{Event, IsController}
-use Rattle.block_queue.specs.Line.{command_at}
-use Rattle.sata_disk.specs.{Sending.part_at, State.{DiskState, commands, new_disk}, declared.out.Out.Out}
-use Rattle.sata_disk.specs.declared.out.Out.TheVariants as out
-use Rattle.sata_disk_books.specs.{Books.{AreNext, DataAreGiven, page_in}, Counted.Counted, Fises.{AreFises, FisesTell}}
+use Rattle.sata_disk.specs.{State.{new_disk}}
+use Rattle.sata_disk_books.specs.{Books.{DataAreGiven}, Fises.{FisesTell}}
 use Rattle.sata_disk_laws.specs.{Calls.{Answers, AreCalls, Asks, Call, Hears, Plugs, Sends, Starts}, Laws.reached, Once.{host_of, new_host}}
-use Rattle.ahci_machine.specs.States.{HasRules, IsOpeningMachine, MachineState, bay_at}
-use Rattle.ahci_machine.specs.declared.act.Act.TheVariants as act
-use Rattle.machine_laws.specs.{ControllerLaws.{RunsRuled, calls_in}, Controllers.{GathersDue, deed_calls}, Deeds.{Deed, Does, Moved}, Falling.AllLast}
-use Rattle.machine_laws.specs.{Falling.{HasLink, heard_by}, Rising.{AreLinked, DataCarryParts, Frames, bytes_of, frames_of, no_frames, sent_by}}
-use Rattle.machine_theorem.specs.{Brought.DiskStretch, Completed.IsEndedInHistory, Crossing.Within, Following.{AllHeardWell, told_calls}}
-use Rattle.machine_theorem.specs.{Given.IsWhole, Identity.{calls_of, heard_as, is_for, picks}, InTurn.{AreKeptOn, IsIdle, IsInTurn, answered_in}}
-use Rattle.machine_theorem.specs.{InTurn.{heard_in, is_asking}, OwnSlots.{AllKeepLine, NoneLost, is_of}, SingleBytes.{AllKeepPlain, IsSentFor}}
-use Rattle.machine_theorem.specs.{SingleBytes.{OfItsSectors, SingleDataGoInTurn, SingleIsSent, SinglesAreSent}, SingleNumbers.AllHearSingle}
-use Rattle.machine_theorem.specs.SingleNumbers.{IsSingleByte, NoneQueued, OfSingleByte, SendsSingle, SingleDataAreCounted, SingleIsRead}
-use Rattle.machine_theorem.specs.{SingleNumbers.{SinglesAreRead, asks_queued, since_after, since_calls}, SingleReads.{IsSingleDone, IsWrittenThen}}
-use Rattle.machine_theorem.specs.{SingleReads.{is_sent_read, is_single_read}, Singles.{BeginsIdle, IsFromSlot}, Tags.once_if, Waits.PlainCommandsWait}
+use Rattle.ahci_machine.specs.States.{HasRules, IsOpeningMachine, MachineState}
+use Rattle.machine_laws.specs.{ControllerLaws.{RunsRuled, calls_in}, Controllers.{GathersDue}, Deeds.{Deed}, Falling.AllLast}
+use Rattle.machine_laws.specs.{Falling.{HasLink, heard_by}, Rising.{DataCarryParts}}
+use Rattle.machine_theorem.specs.{Brought.{DiskStretch}, PioReads.AllKeepUnqueued, Completed.IsEndedInHistory, Crossing.Within}
+use Rattle.machine_theorem.specs.{Given.IsWhole, Identity.{calls_of, heard_as, is_for, picks}, InTurn.{AreKeptOn, IsIdle}}
+use Rattle.machine_theorem.specs.{OwnSlots.{AllKeepLine, NoneLost, is_of}, SingleBytes.{AllKeepPlain}}
+use Rattle.machine_theorem.specs.{SingleBytes.{SingleDataGoInTurn, SingleIsSent, SinglesAreSent}, SingleNumbers.AllHearSingle}
+use Rattle.machine_theorem.specs.SingleNumbers.{NoneQueued, SendsSingle}
+use Rattle.machine_theorem.specs.{SingleNumbers.{asks_queued}, SingleReads.{IsSingleDone}}
+use Rattle.machine_theorem.specs.{SingleReads.{is_sent_read, is_single_read}, Singles.{BeginsIdle}, Tags.once_if, Waits.PlainCommandsWait}
 use Rattle.machine_theorem.specs.Waits.{waits_in}
-use Rattle.machine_theorem.proofs.{AsSupplied.supplied_in, BroughtAt.Brought, BroughtRead.{byte_of, none_first}, EndsFew.sent_of, Fallen.heard_among}
-use Rattle.machine_theorem.proofs.{Fallen.line_stays, Falls.{Told, kept_of, told_after, told_now}, FilledFrames.{brought_is, wrote_fits}}
-use Rattle.machine_theorem.proofs.{Answered.heard_both, Given.{HasNext, has_next}, Ordered.first_ruled, Own.last_ruled, OwnPlace.{Found, came_one}}
-use Rattle.machine_theorem.proofs.{OwnPlace.{frames_are, linked as linked_by, part_of}, CameRead.{all_read, all_sent}, PlainRun.{PlainRun, good_run}}
-use Rattle.machine_theorem.proofs.{PlainRun.plain_run, WaitingRun.{WaitingRun, unqueued_of}, SentFises.{GoneOn, stretch_made}, SingleFollows.follows}
-use Rattle.machine_theorem.proofs.SingleSince.{call_first, calls_both, calls_since, own_since, since_free, since_own, since_told}
+use Rattle.machine_theorem.proofs.{BroughtAt.Brought, BroughtRead.{none_first}, Fallen.heard_among}
+use Rattle.machine_theorem.proofs.{Fallen.line_stays, Falls.{Told, kept_of, told_now}}
+use Rattle.machine_theorem.proofs.{Ordered.first_ruled, Own.last_ruled}
+use Rattle.machine_theorem.proofs.{CameRead.all_sent, PlainRun.PlainRun}
+use Rattle.machine_theorem.proofs.{PlainRun.plain_run, TakenRead.hear_first, WaitingRun.all_unqueued}
 use Rattle.machine_theorem.proofs.{SinglesBrought.{by_event, came, not_queued, single_is}, SinglesOwn.{IsSpoken, IsThen, LastOf, Stretch, Waits}}
 use Rattle.machine_theorem.proofs.SinglesOwn.{begins_free, completed_by, completed_waits, found_of, is_last, is_then, issue_is, kept_first, mine}
-use Rattle.machine_theorem.proofs.{SinglesOwn.{no_error, on_then, sent_waits, set_up_sent, spoken, then'}, StillStands.none_both, Stretch.whole_run}
-use Rattle.machine_theorem.proofs.{Waiting.some_waits, WrittenBytes.{table_is, written_then}}
+use Rattle.machine_theorem.proofs.{SinglesOwn.{no_error, on_then, sent_waits, set_up_sent, spoken, then'}, Stretch.whole_run}
+use Rattle.machine_theorem.proofs.{Waiting.some_waits}
+use Rattle.machine_theorem.proofs.Anew as anew
+use Rattle.machine_theorem.proofs.Fallen as fallen
 use Rattle.machine_theorem.proofs.TakenRead as taken
 use Rattle.machine_theorem.proofs.SinglesBrought as brought
 use Rattle.machine_theorem.proofs.SinglesOwn as own
@@ -45,6 +39,7 @@ use Rattle.machine_theorem.proofs.SinglesOwn as own
 pub record Laws : Type 0 where
   pub brought : brought.Laws
   pub singles : own.Laws
+  pub anew : anew.Laws
   pub wait : PlainCommandsWait
   pub turn : SingleDataGoInTurn
   pub tell : FisesTell
@@ -53,7 +48,8 @@ pub record Laws : Type 0 where
 
 abbrev taken_laws : Laws → taken.Laws
 taken_laws laws = record {
-  singles = laws.singles;
+  anew = laws.anew;
+  answers = laws.singles.turn;
   setup = laws.brought.written.moments.setup;
   turn = laws.turn;
   tell = laws.tell;
@@ -199,47 +195,13 @@ module _ (laws : Laws) (ports : ℕ) (legacy : Bool) (d : DiskStretch) (opening 
     pub b : Brought kind issue.dev d.tag k d.at d.deeds d.now d.run
     b = came laws.brought ports legacy d.old opening d.before d.at d.first d.deeds d.now d.run d.tag low issue done none k small over
 
-    -- ---- the FIS is taken
-
-    abbrev pub f : Stamped
-    f = b.cut.does.does.frame
-
-    abbrev pub mid : MachineState
-    mid = b.cut.mid
-
-    abbrev pub wrote : Wrote
-    wrote = b.brings.wrote
-
-    abbrev pub first_calls : List Call
-    first_calls = calls_of d.n d.at b.cut.sooner mid b.cut.led
-
-    pub first_plain : PlainRun d.many d.n dev d.at b.cut.sooner mid b.cut.led
-    first_plain = plain_to b.cut.sooner mid b.cut.led (b.cut.plain d.many d.n dev keeps).0
-
-    abbrev pub waits_then : PlainRun d.many d.n dev d.at b.cut.sooner mid b.cut.led → WaitingRun d.many d.n dev d.at b.cut.sooner mid b.cut.led
-    waits_then p = record {
-      runs = p.runs;
-      of = p.of;
-      unqueued = unqueued_of dev (calls_in d.at b.cut.sooner mid b.cut.led) d.at.controller mid.controller p.runs.calls p.plain;
-      waiting =
-          laws.wait dev dev_low d.at.controller mid.controller (calls_in d.at b.cut.sooner mid b.cut.led) p.runs.calls (t.past dev) (t.told dev
-          dev_low) p.plain;
-    }
+    unqueued : AllKeepUnqueued d.many d.n dev d.at d.deeds d.now d.run
+    unqueued = all_unqueued d.many d.n dev d.deeds d.at d.now d.run keeps
 
     pub single_sent : SingleIsSent d issue k
     single_sent =
         all_sent (record { brought = laws.brought; taken = taken_laws laws }) ports legacy d opening c dev below dev_low low begins are same idle
-        linked lasts line on
-        issue done is_dev k b (waits_then first_plain)
-
-    pub single_read : SingleDataAreCounted → (p : PlainRun d.many d.n dev d.at b.cut.sooner mid b.cut.led)
-        → AllHeardWell dev d.at.controller (calls_in d.at b.cut.sooner mid b.cut.led) mid.controller p.runs.calls
-        → NoneLost dev (calls_in d.at b.cut.sooner mid b.cut.led) → ((tag : ℕ) → tag < 32 → (host_of new_host d.base).open_at tag ≡ false)
-        → AllHearSingle (calls_of d.n d.at b.cut.sooner mid b.cut.led) → SingleIsRead d issue k
-    single_read counted p well lost shut hear =
-        all_read (record { brought = laws.brought; taken = taken_laws laws }) ports legacy d opening c dev below dev_low low begins are same idle
-        linked lasts line on
-        issue done is_dev k b (waits_then p) counted well lost shut hear
+        linked lasts line on unqueued issue done is_dev k b
 
 -- ---- the law
 
@@ -272,10 +234,6 @@ hear_single (Starts x ∷ later) quiet = (tt, hear_single later quiet)
 hear_single (Asks r ∷ later) quiet = (tt, hear_single later quiet)
 hear_single (Answers k a ∷ later) quiet = (tt, hear_single later quiet)
 
-pub hear_first : (xs ys : List Call) → AllHearSingle (xs ++ ys) → AllHearSingle xs
-hear_first [] ys single = tt
-hear_first (x ∷ xs) ys single = (single.0, hear_first xs ys single.1)
-
 pub none_cut : (dev : ℕ) (all xs ys : List Event) → all ≡ xs ++ ys → NoneLost dev all → NoneLost dev xs
 none_cut dev all xs ys is lost = none_first dev xs ys (subst (λ (l : List Event). NoneLost dev l) is lost)
 
@@ -284,28 +242,11 @@ singles_are_sent laws ports legacy d opening c dev below dev_low low begins are 
     single_sent laws ports legacy d opening c dev below dev_low low begins are same idle linked lasts line on keeps issue done of_it is_dev other k small
 
 -- no queued command is heard in the stretch
-pub hears_single : (laws : own.Laws) (d : DiskStretch) (c dev : ℕ) → GathersDue d.at → (begins : BeginsIdle d.n c d.at) → HasLink d.deeds
+pub hears_single : (falling : fallen.Laws) (d : DiskStretch) (c dev : ℕ) → GathersDue d.at → (begins : BeginsIdle d.n c d.at) → HasLink d.deeds
     → AllLast d.n d.at d.deeds d.now d.run → AllKeepLine d.many d.n c dev d.at d.deeds d.now d.run → SendsSingle d
     → AllHearSingle (calls_of d.n d.at d.deeds d.now d.run)
-hears_single laws d c dev made begins linked lasts line sends =
-    let among = heard_among laws.falling d.many d.n d.deeds d.at d.now d.run begins.disk begins.there
+hears_single falling d c dev made begins linked lasts line sends =
+    let among = heard_among falling d.many d.n d.deeds d.at d.now d.run begins.disk begins.there
     (line_stays d.many d.n c dev d.deeds d.at d.now d.run line) made linked lasts begins.leaving begins.down in
     hear_single (calls_of d.n d.at d.deeds d.now d.run)
     (none_within (flat_map heard_by (calls_of d.n d.at d.deeds d.now d.run)) _ among (none_sent_to d.many d.n _ sends.sends))
-
-pub singles_are_read : Laws → SingleDataAreCounted → SinglesAreRead
-singles_are_read laws counted ports legacy d opening c dev below dev_low low begins are same idle linked lasts line on keeps taken lost sends issue done of_it is_dev other
-    k small =
-    let made = due laws ports legacy d opening c dev below dev_low low begins are same idle in
-    let brings = b laws ports legacy d opening c dev below dev_low low begins are same idle linked lasts line on keeps issue done of_it is_dev other k small in
-    let cut = brings.cut in
-    let all_calls : List Event = calls_in d.at d.deeds d.now d.run in
-    let calls_before : List Event = calls_in d.at cut.sooner cut.mid cut.led in
-    let calls_since : List Event = deed_calls cut.mid (Moved (act.Takes brings.took)) cut.next cut.does ++ calls_in cut.next cut.later d.now cut.rest in
-    let good = good_run laws.brought.written.moments.goes laws.brought.written.moments.due d.many d.n dev cut.sooner d.at cut.mid cut.led made
-    (cut.plain d.many d.n dev keeps).0 (cut.taken dev taken).0 in
-    let all : AllHearSingle (calls_of d.n d.at d.deeds d.now d.run) = hears_single laws.singles d c dev made begins linked lasts line sends in
-    single_read laws ports legacy d opening c dev below dev_low low begins are same idle linked lasts line on keeps issue done of_it is_dev other k
-    small counted
-    good.plain good.well (none_cut dev all_calls calls_before calls_since cut.events lost) sends.begins
-    (hear_first _ _ (subst AllHearSingle (cut.own d.n) all))

@@ -1,5 +1,5 @@
 -- A command that is not queued waits in its slot until its device answers or sends Data that end it, if the guest spares it.
-use Rattle.std.proofs.Common.{◌≡◌, ℕ, zero, suc, ◌<◌, ◌^◌, ◌&&◌, Bool, true, false, not, List, [], ◌∷◌, ◌++◌, drop, refl, sym, ap, subst, ◌∙◌, arith}
+use Rattle.std.proofs.Common.{◌≡◌, ℕ, zero, suc, ◌<◌, ◌^◌, ◌&&◌, Bool, true, false, List, [], ◌∷◌, ◌++◌, drop, refl, sym, ap, subst, ◌∙◌, arith}
 use Rattle.std.proofs.{Common.{Option, Some, None}, lemmas.Bool.{eq-eqb, eqb-true, false≢true}}
 use Rattle.std.specs.{Prelude.{◌==◌, IfSome, MatchOption, if◌then◌else◌}, Option.option_map}
 use Rattle.fis_view.specs.Seen.{seen}

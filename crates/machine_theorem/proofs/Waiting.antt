@@ -107,6 +107,13 @@ pub commanded_free : (n : ℕ) (e : Event) (old new : ControllerState) → IsCon
 commanded_free n (call.Turned (next.Order dev slot fis)) old new k l does is = (sent_now n dev slot fis old new (low_slot n slot old k is) k l does is).before
 commanded_free n other old new k l does is = absurd (false≢true is)
 
+-- and behind it one waits
+pub commanded_waits : (n : ℕ) (e : Event) (old new : ControllerState) → IsController old → IsController new → Does old e new → is_commanded n old e ≡ true → waits_in n new ≡ true
+commanded_waits n (call.Turned (next.Order dev slot fis)) old new k l does is =
+    let it : IsSent n slot old new = sent_now n dev slot fis old new (low_slot n slot old k is) k l does is in
+    some_waits n slot new l it.issue it.mine it.waits
+commanded_waits n other old new k l does is = absurd (false≢true is)
+
 other_step : (n : ℕ) (e : Event) (old new : ControllerState) → is_commanded n old e ≡ false → KeepsWaiting n old e new → (b : Bool) → is_answered n e ≡ b → Steps n e old new
 other_step n e old new none keeps true taken =
     let zero : once_if (is_commanded n old e) ≡ 0 = ap once_if none in

@@ -1,43 +1,122 @@
--- Where the guest keeps to commands that are not queued by each deed of a run, and a command that waits leaves its slot only by a Register FIS, it is
--- so over a run of its controller.
-use Rattle.std.proofs.Common.{ℕ, Bool, List, [], ◌∷◌, ◌++◌, sym, ap, subst}
+-- Where the guest keeps to commands that are not queued by each deed of a run, it does so over a run of its controller. No more commands are sent to the device
+-- than by deeds its slots leave the state of waiting, and one more where a slot waits.
+use Rattle.std.proofs.Common.{◌≡◌, ℕ, ◌+◌, ◌≤◌, ◌&&◌, Bool, true, false, not, List, [], ◌∷◌, ◌++◌, refl, sym, ap, subst, arith}
 use Rattle.ahci_controller.specs.States.{ControllerState}
 use Rattle.controller_laws.specs.Events.{Event, Runs}
 use Rattle.ahci_machine.specs.States.{MachineState}
 use Rattle.machine_laws.specs.{ControllerLaws.{ControllerRuns, RunsRuled, calls_in}, Controllers.{ControllerGoesOn, GathersDue, StaysDue, deed_calls}}
 use Rattle.machine_laws.specs.Deeds.{Deed}
-use Rattle.machine_theorem.specs.{Brought.AllTakenWell, Ending.AllUnqueued, Following.AllHeardWell, PioReads.AllKeepUnqueued, Singles.AllOfDevice}
-use Rattle.machine_theorem.specs.Waits.{AllKeepWaiting, AllPlain}
-use Rattle.machine_theorem.proofs.{Ordered.first_ruled, TakenWell.deed_well}
+use Rattle.machine_theorem.specs.{Brought.AllTakenWell, Ending.AllUnqueued, Following.AllHeardWell, PioReads.{AllKeepUnqueued}}
+use Rattle.machine_theorem.specs.{SingleBytes.{AllKeepPlain}, Singles.AllOfDevice, Tags.once_if, Waits.{AllPlain, commanded_in}}
+use Rattle.machine_theorem.specs.Waits.{is_commanded, waits_in}
+use Rattle.machine_theorem.proofs.{Cut.{Counting, total}, Few.{AreFew, are_few}, Ordered.first_ruled, TakenWell.deed_well}
+use Rattle.machine_theorem.proofs.Waiting.{commanded_free, commanded_waits}
 
 -- plain commands are not queued
-pub unqueued_of : (n : ℕ) (events : List Event) (old new : ControllerState) (run : Runs old events new) → AllPlain n old events new run
+unqueued_of : (n : ℕ) (events : List Event) (old new : ControllerState) (run : Runs old events new) → AllPlain n old events new run
     → AllUnqueued n old events new run
 unqueued_of n [] old new run plain = tt
 unqueued_of n (e ∷ later) old new run plain = (λ s i is own. (plain.0 s i is own).0, plain.1, unqueued_of n later run.1.0 new run.1.2 plain.2)
 
+pub all_unqueued : (many : Bool) (n dev : ℕ) (deeds : List Deed) (at now : MachineState) (run : RunsRuled at deeds now)
+    → AllKeepPlain many n dev at deeds now run → AllKeepUnqueued many n dev at deeds now run
+all_unqueued many n dev [] at now run keeps = tt
+all_unqueued many n dev (deed ∷ later) at now run keeps = (
+  record {
+    of = keeps.0.of;
+    unqueued = λ calls. unqueued_of dev (deed_calls at deed run.1.0 run.1.1) at.controller run.1.0.controller calls (keeps.0.plain calls);
+  },
+  all_unqueued many n dev later run.1.0 now run.1.2 keeps.1,
+)
+
+-- ---- what is counted
+
+-- a deed sends a command to the device: it is one call at most
+abbrev pub sends_by : (dev : ℕ) → ControllerState → List Event → ℕ
+sends_by dev c [] = 0
+sends_by dev c (e ∷ later) = once_if (is_commanded dev c e)
+
+abbrev pub sends_to : (dev : ℕ) → Counting
+sends_to dev old deed new does = sends_by dev old.controller (deed_calls old deed new does)
+
+-- by a deed a slot of the device leaves the state of waiting
+abbrev pub leaves : (dev : ℕ) → Counting
+leaves dev old deed new does = once_if (waits_in dev old.controller && not (waits_in dev new.controller))
+
+one_commanded : (dev : ℕ) (l : List Event) → AreFew l → (c d : ControllerState) (run : Runs c l d) → commanded_in dev c l d run ≡ sends_by dev c l
+one_commanded dev [] few c d run = refl
+one_commanded dev (e ∷ []) few c d run = omega arith
+one_commanded dev (e ∷ f ∷ later) few c d run = absurd few
+
+leaves_or : (a b : Bool) → once_if a ≤ once_if (a && not b) + once_if b
+leaves_or true true = omega arith
+leaves_or true false = omega arith
+leaves_or false true = omega arith
+leaves_or false false = omega arith
+
+one_step : (dev : ℕ) (l : List Event) → AreFew l → (c d : ControllerState) → Runs c l d
+    → sends_by dev c l + once_if (waits_in dev c) ≤ once_if (waits_in dev c && not (waits_in dev d)) + once_if (waits_in dev d)
+one_step dev [] few c d run = let stays = leaves_or (waits_in dev c) (waits_in dev d) in omega (arith, stays)
+one_step dev (e ∷ []) few c d run = by (is_commanded dev c e) refl
+  where
+    by : (b : Bool) → is_commanded dev c e ≡ b
+        → once_if (is_commanded dev c e) + once_if (waits_in dev c) ≤ once_if (waits_in dev c && not (waits_in dev d)) + once_if (waits_in dev d)
+    by true is =
+        let mid : ControllerState = run.1.0 in
+        let one = ap once_if is in
+        let none = ap once_if (commanded_free dev e c mid run.0 run.1.2.0 run.1.1 is) in
+        let now = ap (λ (x : ControllerState). once_if (waits_in dev x)) run.1.2.1 in
+        let waits = ap once_if (commanded_waits dev e c mid run.0 run.1.2.0 run.1.1 is) in
+        omega (arith, one, none, now, waits)
+    by false is =
+        let zero = ap once_if is in
+        let stays = leaves_or (waits_in dev c) (waits_in dev d) in
+        omega (arith, zero, stays)
+one_step dev (e ∷ f ∷ later) few c d run = absurd few
+
 -- ---- over the calls of a controller
 
-record WaitingCalls (many : Bool) (n dev : ℕ) (old : ControllerState) (events : List Event) (new : ControllerState) : Type 0 where
+record WaitingCalls (W : Type 0) (many : Bool) (n dev : ℕ) (old : ControllerState) (events : List Event) (new : ControllerState) : Type 0 where
   run : Runs old events new
   of : AllOfDevice many n dev old events new run
   unqueued : AllUnqueued dev old events new run
-  waiting : AllKeepWaiting dev old events new run
-  well : AllHeardWell dev old events new run
+  well : W → AllHeardWell dev old events new run
 
-waiting_both : (many : Bool) (n dev : ℕ) (xs ys : List Event) (a b c : ControllerState) → WaitingCalls many n dev a xs b
-    → WaitingCalls many n dev b ys c → WaitingCalls many n dev a (xs ++ ys) c
-waiting_both many n dev [] ys a b c first later = subst (λ (x : ControllerState). WaitingCalls many n dev x ys c) first.run.1 later
-waiting_both many n dev (e ∷ xs) ys a b c first later =
-    let rest = waiting_both many n dev xs ys first.run.1.0 b c
-    (record { run = first.run.1.2; of = first.of.1; unqueued = first.unqueued.2; waiting = first.waiting.1; well = first.well.1 }) later in
-    record {
-      run = (first.run.0, (first.run.1.0, first.run.1.1, rest.run));
-      of = (first.of.0, rest.of);
-      unqueued = (first.unqueued.0, first.unqueued.1, rest.unqueued);
-      waiting = (first.waiting.0, rest.waiting);
-      well = (first.well.0, rest.well);
-    }
+record Both (W : Type 0) (many : Bool) (n dev : ℕ) (a : ControllerState) (events : List Event) (c : ControllerState) (sum : ℕ) : Type 0 where
+  calls : WaitingCalls W many n dev a events c
+  commanded : commanded_in dev a events c calls.run ≡ sum
+
+module _ (W : Type 0) (many : Bool) (n dev : ℕ) where
+  abbrev Are : ControllerState → List Event → ControllerState → Type 0
+  Are a events c = WaitingCalls W many n dev a events c
+
+  abbrev sent : (a : ControllerState) (events : List Event) (c : ControllerState) → Are a events c → ℕ
+  sent a events c it = commanded_in dev a events c it.run
+
+  behind_none : (ys : List Event) (a b c : ControllerState) → b ≡ a → (later : Are b ys c) → Both W many n dev a ys c (sent b ys c later)
+  behind_none ys a b c same =
+      subst (λ (x : ControllerState). (later : Are x ys c) → Both W many n dev a ys c (sent x ys c later)) (sym same) (λ later. record { calls = later; commanded = refl })
+
+  waiting_both : (xs ys : List Event) (a b c : ControllerState) (first : Are a xs b) (later : Are b ys c)
+      → Both W many n dev a (xs ++ ys) c (sent a xs b first + sent b ys c later)
+  waiting_both [] ys a b c first later =
+      let it = behind_none ys a b c first.run.1 later in
+      let sum = it.commanded in
+      record { calls = it.calls; commanded = omega (arith, sum) }
+  waiting_both (e ∷ xs) ys a b c first later =
+      let one : Are first.run.1.0 xs b =
+      record { run = first.run.1.2; of = first.of.1; unqueued = first.unqueued.2; well = λ w. (first.well w).1 } in
+      let rest = waiting_both xs ys first.run.1.0 b c one later in
+      let sum = rest.commanded in
+      record {
+        calls = record {
+          run = (first.run.0, (first.run.1.0, first.run.1.1, rest.calls.run));
+          of = (first.of.0, rest.calls.of);
+          unqueued = (first.unqueued.0, first.unqueued.1, rest.calls.unqueued);
+          well = λ w. ((first.well w).0, rest.calls.well w);
+        };
+        commanded = omega (arith, sum);
+      }
 
 -- ---- over a run of a machine
 
@@ -46,43 +125,54 @@ pub record WaitingRun (many : Bool) (n dev : ℕ) (at : MachineState) (deeds : L
     pub runs : ControllerRuns at deeds now run
     pub of : AllOfDevice many n dev at.controller (calls_in at deeds now run) now.controller runs.calls
     pub unqueued : AllUnqueued dev at.controller (calls_in at deeds now run) now.controller runs.calls
-    pub waiting : AllKeepWaiting dev at.controller (calls_in at deeds now run) now.controller runs.calls
+    -- and the FISes of the device are heard well, if they are taken well
+    pub well : AllTakenWell dev at deeds now run → AllHeardWell dev at.controller (calls_in at deeds now run) now.controller runs.calls
+    pub commanded : commanded_in dev at.controller (calls_in at deeds now run) now.controller runs.calls ≡ total (sends_to dev) at deeds now run
+    pub few : total (sends_to dev) at deeds now run + once_if (waits_in dev at.controller)
+        ≤ total (leaves dev) at deeds now run + once_if (waits_in dev now.controller)
 
--- and the FISes of the device are heard well
-pub record GoodWaiting (many : Bool) (n dev : ℕ) (at : MachineState) (deeds : List Deed) (now : MachineState) (run : RunsRuled at deeds now) : Type 0
-  where
-    pub waits : WaitingRun many n dev at deeds now run
-    pub well : AllHeardWell dev at.controller (calls_in at deeds now run) now.controller waits.runs.calls
-
-pub good_waiting : ControllerGoesOn → StaysDue → (many : Bool) (n dev : ℕ) (deeds : List Deed) (at now : MachineState) (run : RunsRuled at deeds now)
-    → GathersDue at → AllKeepUnqueued many n dev at deeds now run → AllTakenWell dev at deeds now run → GoodWaiting many n dev at deeds now run
-good_waiting goes stays many n dev [] at now run due keeps taken = record {
-  waits = record {
-    runs = record {
-      calls = (record { port = run.0.port; slots = run.0.slots; rules = run.0.rules }, ap (λ (m : MachineState). m.controller) run.1);
-      due = subst GathersDue (sym run.1) due;
-    };
-    of = tt;
-    unqueued = tt;
-    waiting = tt;
-  };
-  well = tt;
-}
-good_waiting goes stays many n dev (deed ∷ later) at now run due keeps taken =
+pub waiting_run : ControllerGoesOn → StaysDue → (many : Bool) (n dev : ℕ) (deeds : List Deed) (at now : MachineState) (run : RunsRuled at deeds now)
+    → GathersDue at → AllKeepUnqueued many n dev at deeds now run → WaitingRun many n dev at deeds now run
+waiting_run goes stays many n dev [] at now run due keeps =
+    let same : once_if (waits_in dev now.controller) ≡ once_if (waits_in dev at.controller) =
+    ap (λ (m : MachineState). once_if (waits_in dev m.controller)) run.1 in
+    record {
+      runs = record {
+        calls = (record { port = run.0.port; slots = run.0.slots; rules = run.0.rules }, ap (λ (m : MachineState). m.controller) run.1);
+        due = subst GathersDue (sym run.1) due;
+      };
+      of = tt;
+      unqueued = tt;
+      well = λ taken. tt;
+      commanded = refl;
+      few = omega (arith, same);
+    }
+waiting_run goes stays many n dev (deed ∷ later) at now run due keeps =
     let mid : MachineState = run.1.0 in
-    let rest = good_waiting goes stays many n dev later mid now run.1.2 (stays at deed mid run.1.1 due) keeps.1 taken.1 in
-    let calls : Runs at.controller (deed_calls at deed mid run.1.1) mid.controller = goes at deed mid run.1.1 run.0 (first_ruled later mid now
-    run.1.2) due in
-    let w = rest.waits in
-    let all = waiting_both many n dev (deed_calls at deed mid run.1.1) (calls_in mid later now run.1.2) at.controller mid.controller now.controller
+    let w = waiting_run goes stays many n dev later mid now run.1.2 (stays at deed mid run.1.1 due) keeps.1 in
+    let here : List Event = deed_calls at deed mid run.1.1 in
+    let calls : Runs at.controller here mid.controller = goes at deed mid run.1.1 run.0 (first_ruled later mid now run.1.2) due in
+    let few : AreFew here = are_few deed at mid run.1.1 in
+    let all = waiting_both (AllTakenWell dev at (deed ∷ later) now run) many n dev here (calls_in mid later now run.1.2) at.controller mid.controller
+    now.controller
     (record {
       run = calls;
       of = keeps.0.of calls;
       unqueued = keeps.0.unqueued calls;
-      waiting = keeps.0.waits calls;
-      well = deed_well dev at deed mid run.1.1 taken.0 calls;
-    }) (record { run = w.runs.calls; of = w.of; unqueued = w.unqueued; waiting = w.waiting; well = rest.well }) in
+      well = λ taken. deed_well dev at deed mid run.1.1 taken.0 calls;
+    })
+    (record { run = w.runs.calls; of = w.of; unqueued = w.unqueued; well = λ taken. w.well taken.1 }) in
+    let it = all.calls in
+    let sum = all.commanded in
+    let one = one_commanded dev here few at.controller mid.controller calls in
+    let rest = w.commanded in
+    let step = one_step dev here few at.controller mid.controller calls in
+    let least = w.few in
     record {
-      waits = record { runs = record { calls = all.run; due = w.runs.due }; of = all.of; unqueued = all.unqueued; waiting = all.waiting };
-      well = all.well;
+      runs = record { calls = it.run; due = w.runs.due };
+      of = it.of;
+      unqueued = it.unqueued;
+      well = it.well;
+      commanded = omega (arith, sum, one, rest);
+      few = omega (arith, step, least);
     }

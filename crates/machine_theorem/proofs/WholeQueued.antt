@@ -6,7 +6,7 @@ use Rattle.fis_view.specs.{Frames.marked, Seen.seen, Table.{H2d, Command, Count,
 use Rattle.fis_view.specs.declared.view.Fis.TheVariants as view
 use Rattle.slots.specs.{Work.is_read, declared.work.Work.Work}
 use Rattle.guest_fetch.specs.Heads.{asked_work, fields_in}
-use Rattle.block_command.specs.Moments.{is_verify, whole}
+use Rattle.block_command.specs.Moments.{is_verify}
 use Rattle.block_command.specs.declared.command.Command as block
 use Rattle.ata_command.specs.{Asks.{DiskFacts, aborted, asked, asked_by, moved, queued}, Opcodes.opcode_of, declared.asked.Asked.Asked}
 use Rattle.ata_command.specs.declared.settings.Settings.{Settings}

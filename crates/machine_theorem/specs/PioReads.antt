@@ -1,7 +1,7 @@
 -- Whose bytes those are of a read that is not queued, READ DMA or PIO data-in, and that the guest sees completed: byte k of the slot's command is
 -- byte k of those that the caller gave for the sectors of the disk's command. The last Data of a PIO data-in end it, and no Register FIS follows
 -- (ACS-3, 4, DMA and PIO data-in protocols; Serial ATA 3.x, 10.5, PIO Setup and Data; AHCI 1.3.1, 3.3.14, PxCI, and 5.3.13, a port takes a FIS). So
--- it is over each stretch of a run that begins while nothing is under way at the disk, and in which no other PIO data-in ends.
+-- it is over each stretch of a run that begins while nothing is under way at the disk, whatever reads and writes end in it.
 use Rattle.std.specs.Prelude.{ℕ, ◌≡◌, ◌⊎◌, ◌<◌, ◌-◌, Bool, true, false, List, [], ◌∷◌, ◌++◌, drop, length, slice_get, Some}
 use Rattle.fis_view.specs.Frames.{Stamped}
 use Rattle.guest_fetch.specs.Commands.{Fetched}
@@ -19,19 +19,16 @@ use Rattle.machine_laws.specs.Rising.{sent_by}
 use Rattle.machine_theorem.specs.{Brought.{AllTakenWell, DiskStretch}, Ending.AllUnqueued, Identity.calls_of, InTurn.{AreKeptOn, IsIdle}}
 use Rattle.machine_theorem.specs.{OwnSlots.{AllKeepLine, NoneLost, is_of}, SingleBytes.IsSentFor, SingleNumbers.{SendsSingle, SingleIsRead}}
 use Rattle.machine_theorem.specs.{SingleReads.{ComesLast, IsSingleDone}, Singles.{AllOfDevice, BeginsIdle, IsFromSlot}, Transfers.is_transferring}
-use Rattle.machine_theorem.specs.Waits.{AllKeepWaiting}
 
 -- ---- what the guest keeps to
 
 -- By the controller's calls that a deed is, each FIS that is a command for the disk is that of a slot, for this device; there is no queued command
--- for the device; and a command that waits leaves its slot only as a Register FIS of the device is taken.
+-- for the device, and a write takes no command that waits.
 pub record KeepsUnqueued (many : Bool) (n dev : ℕ) (old : MachineState) (deed : Deed) (new : MachineState) (does : Does old deed new) : Type 0 where
   pub of : (run : Runs old.controller (deed_calls old deed new does) new.controller)
       → AllOfDevice many n dev old.controller (deed_calls old deed new does) new.controller run
   pub unqueued : (run : Runs old.controller (deed_calls old deed new does) new.controller)
       → AllUnqueued dev old.controller (deed_calls old deed new does) new.controller run
-  pub waits : (run : Runs old.controller (deed_calls old deed new does) new.controller)
-      → AllKeepWaiting dev old.controller (deed_calls old deed new does) new.controller run
 
 abbrev pub AllKeepUnqueued : (many : Bool) → (n dev : ℕ) → (old : MachineState) → (deeds : List Deed) → (now : MachineState)
     → RunsRuled old deeds now → Type 0

@@ -10,7 +10,7 @@ use Rattle.disk_pages.specs.declared.profile.Profile.{Profile}
 use Rattle.sata_disk.specs.{Sending.IsOut, State.new_disk, declared.out.Out.Out}
 use Rattle.sata_disk.specs.declared.out.Out.TheVariants as out
 use Rattle.sata_disk_books.specs.{Books.{IsAskedFor, page_in}, LastData.{IsReadWhole, sets_up_last}}
-use Rattle.sata_disk_laws.specs.{Calls.{AreCalls, Call, Hears, Sends}, Laws.reached, Once.{ForLast, ForNothing, Host, host_of, new_host}}
+use Rattle.sata_disk_laws.specs.{Calls.{AreCalls, Call, Hears, Sends}, Laws.reached, Once.{ForLast, ForNothing, host_of, new_host}}
 use Rattle.machine_theorem.specs.{InTurn.{AreKeptOn, IsIdle, heard_in, is_answer, is_asking}, Tags.once_if, Transfers.is_transferring}
 
 -- ---- what is counted

@@ -1,12 +1,12 @@
--- The number of each byte of a READ DMA that the guest sees completed: byte k of the slot's command is byte k of those that the caller gave for the sectors of the
--- disk's command. Nothing in a Data FIS says it; both sides count from the command on (Serial ATA 3.x, 10.5, Data; ACS-3, 4, DMA data-in protocol; AHCI 1.3.1,
--- 5.3.13, a port takes a FIS).
+-- The number of each byte of a read that is not queued, and that the guest sees completed: byte k of the slot's command is byte k of those that the caller gave
+-- for the sectors of the disk's command. Nothing in a Data FIS says it; both sides count from the command on (Serial ATA 3.x, 10.5, Data; ACS-3, 4, DMA and PIO
+-- data-in protocols; AHCI 1.3.1, 5.3.13, a port takes a FIS).
 use Rattle.std.specs.Prelude.{ℕ, ◌≡◌, ◌<◌, ◌≤◌, ◌+◌, ◌-◌, ◌==◌, ◌&&◌, if◌then◌else◌, suc, Bool, true, false, List, [], ◌∷◌, ◌++◌, length, slice_get}
 use Rattle.std.specs.Prelude.{Some, Result, Ok}
 use Rattle.fis_view.specs.{Frames.Stamped, Seen.seen, Table.{H2d, Command, field}, declared.view.{Fis.Fis, FisFault.FisFault}}
 use Rattle.fis_view.specs.declared.view.Fis.TheVariants as view
 use Rattle.guest_fetch.specs.Commands.{Fetched}
-use Rattle.slots.specs.Slots.{Issue, is_pio}
+use Rattle.slots.specs.Slots.{Issue}
 use Rattle.hba_fbs.specs.{Taking.port_of, declared.report.Wrote.Wrote}
 use Rattle.controller_laws.specs.Events as call
 use Rattle.controller_laws.specs.{Events.Event, Sources.{command_of, unmoved}}
@@ -16,12 +16,11 @@ use Rattle.sata_disk.specs.{Hearing.is_command, Sending.IsOut, State.new_disk, d
 use Rattle.sata_disk.specs.declared.out.Out.TheVariants as out
 use Rattle.sata_disk_books.specs.{Books.page_in, Fises.AreFises}
 use Rattle.sata_disk_laws.specs.{Calls.{AreCalls, Call, Hears}, Laws.reached, Once.{Host, host_of, is_queued_code, new_host}}
-use Rattle.ahci_machine.specs.States.{IsOpeningMachine, MachineState}
+use Rattle.ahci_machine.specs.States.{MachineState}
 use Rattle.ahci_machine.specs.declared.act.Act.TheVariants as act
-use Rattle.machine_laws.specs.{ControllerLaws.{RunsRuled, calls_in}, Deeds.{Deed, Does, Moved}, Falling.{AllLast, HasLink, sent_in}, Rising.sent_by}
-use Rattle.machine_theorem.specs.{Brought.{AllTakenWell, DiskStretch}, Identity.{calls_of, heard_as, is_for}, InTurn.{AreKeptOn, IsIdle, answered_in}}
-use Rattle.machine_theorem.specs.{InTurn.heard_in, OwnSlots.{AllKeepLine, NoneLost, is_of}, SingleBytes.{AllKeepPlain, IsSentFor}}
-use Rattle.machine_theorem.specs.{SingleReads.{IsSingleDone, IsWrittenThen, SingleIsBrought}, Singles.BeginsIdle}
+use Rattle.machine_laws.specs.{ControllerLaws.{RunsRuled, calls_in}, Deeds.{Deed, Does, Moved}, Falling.sent_in, Rising.sent_by}
+use Rattle.machine_theorem.specs.{Brought.DiskStretch, Identity.{calls_of, heard_as, is_for}, InTurn.{AreKeptOn, IsIdle, answered_in, heard_in}}
+use Rattle.machine_theorem.specs.{SingleBytes.IsSentFor, SingleReads.{IsWrittenThen, SingleIsBrought}}
 
 -- ---- what is counted
 
@@ -115,17 +114,3 @@ pub record SingleIsRead (s : DiskStretch) (issue : Issue) (k : ℕ) : Type 0 whe
   pub is : brought.sooner ≡ sooner ++ Moved (act.Speaks s.n said) ∷ between
   pub sent : sent_by mid (Moved (act.Speaks s.n said)) next does ≡ brought.does.does.frame ∷ []
   pub read : OfSingleByte s issue.dev k (calls_of s.n s.at sooner mid led) said brought.does.does.frame brought.brings.wrote written.byte written.command
-
--- ---- the law
-
--- So it is of each byte of a READ DMA that the guest sees completed behind such a stretch, in which the guest sends the disk no queued command, and no FIS of the
--- disk is lost or at fault.
-abbrev pub SinglesAreRead : Type 0
-SinglesAreRead = (ports : ℕ) (legacy : Bool) (s : DiskStretch) → IsOpeningMachine ports legacy s.old
-    → (c dev : ℕ) → s.n < 15 → dev < 16 → s.tag < 32
-    → (begins : BeginsIdle s.n c s.at) → AreCalls (new_disk s.p s.limit) s.base → begins.disk ≡ reached s.p s.limit s.base → IsIdle (host_of new_host s.base)
-    → HasLink s.deeds → AllLast s.n s.at s.deeds s.now s.run → AllKeepLine s.many s.n c dev s.at s.deeds s.now s.run
-    → AreKeptOn (calls_of s.n s.at s.deeds s.now s.run) → AllKeepPlain s.many s.n dev s.at s.deeds s.now s.run
-    → AllTakenWell dev s.at s.deeds s.now s.run → NoneLost dev (calls_in s.at s.deeds s.now s.run) → SendsSingle s
-    → (issue : Issue) (done : IsSingleDone s.now s.tag issue) → is_of s.n c done.does.does.frame ≡ true → issue.dev ≡ dev → is_pio issue.work.kind ≡ false
-    → (k : ℕ) → k < issue.work.len → SingleIsRead s issue k

@@ -71,7 +71,6 @@ pub use reads::reads_are_as_supplied;
 pub use single_reads::{
     completed_single_reads_are_brought, completed_single_reads_are_sent,
     filled_single_reads_were_brought, single_data_are_counted, single_data_go_in_turn,
-    single_reads_are_read,
 };
 pub use single_writes::{
     data_come_behind_commands, single_data_go_in_order, single_writes_are_as_supplied,

@@ -15,24 +15,24 @@ pub fn pages_go_in_turn()
     sata_disk_laws::singles_are_awaited();
 }
 
-/// A law for callers; it runs no code. It says of each READ DMA and each PIO data-in what [`single_reads_are_read`](crate::single_reads_are_read)
-/// says of READ DMA. Over each stretch of a run of a machine that begins while nothing is under way at the disk, in
-/// which the guest sends the disk no queued command, no FIS of it is lost or at fault, and a command that waits leaves its slot only as a Register
-/// FIS is taken: so no other PIO data-in ends in the stretch. Where the bit of PxCI of such a read falls behind it,
-/// each byte was brought in the stretch by a FIS that the disk sent at a moment of it, and was written at its place before the bit fell; or the FIS
-/// by which the bit falls, the last Data of a PIO data-in, brings it. It is Data of the command that the guest had supplied for the slot, as it was
-/// issued there last; and byte k of the slot's command is byte k of those that the caller gave for the sectors that the guest asked for. Or it is a
-/// page that the disk has of itself, and then this command moves no sectors.
+/// A law for callers; it runs no code. Over each stretch of a run of a machine that begins while nothing is under way at the disk, in which the guest
+/// sends the disk no queued command, no FIS of it is lost or at fault, and no write takes a command that waits from its slot; whatever reads and writes
+/// end in it, by DMA or by PIO. Where the bit of PxCI of a READ DMA or a PIO data-in falls behind it, each byte was brought in the stretch by a FIS that
+/// the disk sent at a moment of it, and was written at its place before the bit fell; or the FIS by which the bit falls, the last Data of a PIO data-in,
+/// brings it. It is Data of the command that the guest had supplied for the slot, as it was issued there last; and byte k of the slot's command is byte k
+/// of those that the caller gave for the sectors that the guest asked for. Or it is a page that the disk has of itself, and then this command moves no
+/// sectors. No DMA Setup FIS tells the number: both sides count from the command on.
 pub fn unqueued_reads_are_read()
     ensures { UnqueuedReadsAreRead }
 {
     crate::ends::completions_are_of_devices();
     crate::in_turn::commands_go_in_turn();
     pages_go_in_turn();
+    crate::pio::commands_are_settled_in_turn();
+    crate::pio::commands_await_their_ends();
     crate::single_reads::single_data_are_counted();
     crate::single_reads::single_data_go_in_turn();
     crate::transfers::transfers_are_answered();
-    crate::waits::commands_await_their_answers();
     sata_disk_books::data_are_given();
     sata_disk_books::ends_are_of_pages();
     sata_disk_books::fises_tell();

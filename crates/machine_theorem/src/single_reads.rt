@@ -1,7 +1,7 @@
 //! Each byte of a read that is not queued, and that the guest sees completed.
 
 ghost use Rattle.machine_theorem.specs.SingleBytes.{SingleDataGoInTurn, SinglesAreSent};
-ghost use Rattle.machine_theorem.specs.SingleNumbers.{SingleDataAreCounted, SinglesAreRead};
+ghost use Rattle.machine_theorem.specs.SingleNumbers.{SingleDataAreCounted};
 ghost use Rattle.machine_theorem.specs.SingleReads.{FilledSinglesWereBrought, SinglesAreBrought, SinglesAreBroughtSince, SinglesAreWritten};
 
 /// A law for callers; it runs no code. Over each stretch of calls of a controller that begins where no READ DMA and no PIO data-in of a device that was sent
@@ -72,41 +72,10 @@ pub fn completed_single_reads_are_sent()
 {
     crate::ends::completions_are_of_devices();
     crate::in_turn::commands_go_in_turn();
+    crate::pio::commands_are_settled_in_turn();
+    crate::pio::commands_await_their_ends();
     crate::transfers::transfers_are_answered();
     crate::waits::commands_await_their_answers();
-    single_data_go_in_turn();
-    sata_disk_books::data_are_given();
-    sata_disk_books::ends_are_of_pages();
-    sata_disk_books::fises_tell();
-    sata_disk_laws::answers_are_single();
-    machine_laws::controller_goes_on();
-    machine_laws::controller_has_its_laws();
-    machine_laws::data_rise_unchanged();
-    machine_laws::disks_go_on();
-    machine_laws::frames_fall_in_order();
-    machine_laws::frames_rise_in_order();
-    machine_laws::sent_frames_are_supplied();
-    controller_laws::bytes_go_to_their_places();
-    controller_laws::commands_are_supplied();
-    controller_laws::events_are_core_events();
-    controller_laws::issues_fall();
-    controller_laws::active_falls();
-    hba_laws::core_delivers();
-}
-
-/// A law for callers; it runs no code. Over each stretch of a run of a machine as in
-/// [`completed_single_reads_are_sent`](crate::completed_single_reads_are_sent), in which the guest sends the disk no queued command, and no FIS of it is lost or
-/// at fault: where the disk sent the FIS that brought byte k for a command which moves sectors and is not queued, the number of its first byte is that of the
-/// bytes which the disk had sent of the command before. So what was written at the place of byte k is byte k of those that the caller gave for the sectors that
-/// the guest asked for. No DMA Setup FIS tells the number: both sides count from the command on.
-pub fn single_reads_are_read()
-    ensures { SinglesAreRead }
-{
-    crate::ends::completions_are_of_devices();
-    crate::in_turn::commands_go_in_turn();
-    crate::transfers::transfers_are_answered();
-    crate::waits::commands_await_their_answers();
-    single_data_are_counted();
     single_data_go_in_turn();
     sata_disk_books::data_are_given();
     sata_disk_books::ends_are_of_pages();

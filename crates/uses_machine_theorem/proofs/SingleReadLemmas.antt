@@ -4,10 +4,10 @@ use Rattle.sata_disk.specs.{Sending.IsOut, State.DiskState}
 use Rattle.sata_disk.specs.declared.out.Out.TheVariants as out
 use Rattle.ahci_machine.specs.States.{MachineState}
 use Rattle.machine_laws.specs.{ControllerLaws.calls_in, Heard.{life_in, no_life}}
-use Rattle.machine_theorem.specs.{SingleBytes.{SingleDataGoInTurn, SinglesAreSent}, SingleNumbers.{SingleDataAreCounted, SinglesAreRead}}
+use Rattle.machine_theorem.specs.{SingleBytes.{SingleDataGoInTurn, SinglesAreSent}, SingleNumbers.SingleDataAreCounted}
 use Rattle.machine_theorem.specs.SingleReads.{FilledSinglesWereBrought, SinglesAreBrought, SinglesAreBroughtSince, SinglesAreWritten}
 use Rattle.uses_machine_theorem.specs.SingleReads.{KnowsSingleCounts, KnowsSingleTurns, KnowsSinglesBrought, KnowsSinglesBroughtSince}
-use Rattle.uses_machine_theorem.specs.{SingleReads.{KnowsSinglesFilled, KnowsSinglesRead, KnowsSinglesSent, KnowsSinglesWritten}, Slots.stretch_of}
+use Rattle.uses_machine_theorem.specs.{SingleReads.{KnowsSinglesFilled, KnowsSinglesSent, KnowsSinglesWritten}, Slots.stretch_of}
 use Rattle.uses_machine_theorem.proofs.SlotLemmas.{new_one}
 
 pub brought : SinglesAreBrought → (now : MachineState) → KnowsSinglesBrought now
@@ -28,12 +28,6 @@ pub sent : SinglesAreSent → (now : MachineState) → KnowsSinglesSent now
 sent law now at led many n c dev slot below dev_low low begins p limit base are same idle deeds run linked lasts line on keeps issue done of_it own other k small =
     law led.ports led.legacy (stretch_of many n slot at led deeds now run p limit base) led.opens c dev below dev_low low begins are same idle linked lasts line
     on keeps issue done of_it own other k small
-
-pub read : SinglesAreRead → (now : MachineState) → KnowsSinglesRead now
-read law now at led many n c dev slot below dev_low low begins p limit base are same idle deeds run linked lasts line on keeps taken lost sends issue done of_it
-    own other k small =
-    law led.ports led.legacy (stretch_of many n slot at led deeds now run p limit base) led.opens c dev below dev_low low begins are same idle linked lasts line
-    on keeps taken lost sends issue done of_it own other k small
 
 pub turns : SingleDataGoInTurn → (now : MachineState) → KnowsSingleTurns now
 turns law now led n d there lived p limit new base calls is idle on len next page books =

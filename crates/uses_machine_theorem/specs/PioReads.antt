@@ -11,7 +11,7 @@ use Rattle.machine_theorem.specs.{PioReads.{AllKeepUnqueued, CameIsRead, LastIsR
 use Rattle.machine_theorem.specs.Singles.{BeginsIdle}
 use Rattle.uses_machine_theorem.specs.{Led.IsLed, Slots.stretch_of}
 
--- Behind a moment at which nothing is under way at a disk, and while no FIS of the disk is lost or at fault: it is
+-- Behind a moment at which nothing is under way at a disk, and while no FIS of the disk is lost or at fault, whatever reads and writes end: it is
 -- the byte of its number that the caller gave for the sectors of the command that the guest had supplied for the slot. It was written at its place
 -- before the bit fell, or the last Data of a PIO data-in bring it.
 abbrev pub KnowsUnqueuedRead : MachineState → Type 0

@@ -12,9 +12,9 @@ use Rattle.sata_disk_laws.specs.{Calls.{AreCalls, Call}, Laws.reached, Once.{hos
 use Rattle.ahci_machine.specs.{States.{MachineState, bay_at}, declared.bay.Unit.TheVariants.Disk}
 use Rattle.machine_laws.specs.{ControllerLaws.{ControllerRuns, RunsRuled, calls_in}, Deeds.Deed, Falling.{AllLast, HasLink}, Heard.HasLived}
 use Rattle.machine_laws.specs.Heard.{life_in, no_life}
-use Rattle.machine_theorem.specs.{Brought.AllTakenWell, Identity.calls_of, InTurn.{AreKeptOn, IsIdle, IsInTurn, answered_in, heard_in}}
-use Rattle.machine_theorem.specs.{OwnSlots.{AllKeepLine, NoneLost, is_of}, SingleBytes.{AllKeepPlain, SingleIsSent}, SingleNumbers.AllHearSingle}
-use Rattle.machine_theorem.specs.{SingleNumbers.{IsClear, SendsSingle, SingleIsRead, since_after}, SingleReads.{CameBefore, ComesLast, IsSingleDone}}
+use Rattle.machine_theorem.specs.{Identity.calls_of, InTurn.{AreKeptOn, IsIdle, IsInTurn, answered_in, heard_in}, OwnSlots.{AllKeepLine, is_of}}
+use Rattle.machine_theorem.specs.{SingleBytes.{AllKeepPlain, SingleIsSent}, SingleNumbers.{AllHearSingle, IsClear, since_after}}
+use Rattle.machine_theorem.specs.SingleReads.{CameBefore, ComesLast, IsSingleDone}
 use Rattle.machine_theorem.specs.{SingleReads.{IsWrittenBefore, WasBroughtFor, is_sent_read, is_single_read}, Singles.BeginsIdle}
 use Rattle.uses_machine_theorem.specs.{Led.IsLed, Slots.stretch_of}
 
@@ -53,18 +53,6 @@ KnowsSinglesSent now = (at : MachineState) (led : IsLed at) (many : Bool) (n c d
     → AllKeepPlain many n dev at deeds now run
     → (issue : Issue) (done : IsSingleDone now slot issue) → is_of n c done.does.does.frame ≡ true → issue.dev ≡ dev → is_pio issue.work.kind ≡ false
     → (k : ℕ) → k < issue.work.len → SingleIsSent (stretch_of many n slot at led deeds now run p limit base) issue k
-
--- And it is the byte of its number that the caller gave for the sectors of this command, where the guest sends the disk no queued command, and no FIS of the disk is
--- lost or at fault.
-abbrev pub KnowsSinglesRead : MachineState → Type 0
-KnowsSinglesRead now = (at : MachineState) (led : IsLed at) (many : Bool) (n c dev slot : ℕ) → n < 15 → dev < 16 → slot < 32
-    → (begins : BeginsIdle n c at) → (p : Profile) (limit : ℕ) (base : List Call) → AreCalls (new_disk p limit) base → begins.disk ≡ reached p limit base
-    → IsIdle (host_of new_host base) → (deeds : List Deed) (run : RunsRuled at deeds now)
-    → HasLink deeds → AllLast n at deeds now run → AllKeepLine many n c dev at deeds now run → AreKeptOn (calls_of n at deeds now run)
-    → AllKeepPlain many n dev at deeds now run → AllTakenWell dev at deeds now run → NoneLost dev (calls_in at deeds now run)
-    → SendsSingle (stretch_of many n slot at led deeds now run p limit base)
-    → (issue : Issue) (done : IsSingleDone now slot issue) → is_of n c done.does.does.frame ≡ true → issue.dev ≡ dev → is_pio issue.work.kind ≡ false
-    → (k : ℕ) → k < issue.work.len → SingleIsRead (stretch_of many n slot at led deeds now run p limit base) issue k
 
 -- Of a disk that was new as it was put at its port: take its last calls, from a moment on at which its host waits for nothing, and without a reset. The Data that
 -- it sends next of a command that moves sectors and is not queued are of one of these that was heard behind all that were answered.

@@ -1,7 +1,8 @@
+use Rattle.machine_theorem.proofs.Anew as anew
 use Rattle.machine_theorem.proofs.BroughtAt as moments
 use Rattle.machine_theorem.proofs.Falls as falls
 use Rattle.machine_theorem.proofs.SinglesBrought as brought
-use Rattle.machine_theorem.proofs.SinglesOwn as own
+use Rattle.machine_theorem.proofs.PioOwn as pio
 use Rattle.machine_theorem.proofs.PioRead.{unqueued_reads_are_read}
 use Rattle.machine_theorem.proofs.TakenRead as taken
 use Rattle.machine_theorem.proofs.pio_reads.unqueued_reads_are_read.Goals as goal
@@ -40,7 +41,7 @@ returns c =
       };
       fall = c.issues_fall.ensures.falls;
     } in
-    let singles : own.Laws = record {
+    let of_ends : pio.Laws = record {
       falls = ends;
       order = c.frames_rise_in_order.ensures.order;
       taken = c.frames_rise_in_order.ensures.taken;
@@ -59,10 +60,11 @@ returns c =
         due = c.controller_goes_on.ensures.due;
       };
       completed = c.completions_are_of_devices.ensures;
-      turn = c.commands_go_in_turn.ensures;
+      turn = c.commands_are_settled_in_turn.ensures.turn;
+      sectors = c.commands_are_settled_in_turn.ensures.sectors;
       transfers = c.transfers_are_answered.ensures;
-      counts = c.commands_await_their_answers.ensures.counts;
-      last = c.commands_await_their_answers.ensures.last;
+      views = c.core_delivers.ensures.agrees;
+      last = c.commands_await_their_ends.ensures.last;
       single = c.answers_are_single.ensures;
       pages = c.ends_are_of_pages.ensures.singles;
       kept = record {
@@ -71,8 +73,15 @@ returns c =
         supplied = c.commands_are_supplied.ensures.supplied;
       };
     } in
+    let again : anew.Laws = record {
+      own = of_ends;
+      wait = c.commands_await_their_ends.ensures.plain;
+      goes = c.controller_goes_on.ensures.goes;
+      stays = c.controller_goes_on.ensures.due;
+    } in
     let sent : taken.Laws = record {
-      singles = singles;
+      anew = again;
+      answers = c.commands_go_in_turn.ensures;
       setup = at.setup;
       turn = c.single_data_go_in_turn.ensures;
       tell = c.fises_tell.ensures;

@@ -1,5 +1,7 @@
+use Rattle.machine_theorem.proofs.Anew as anew
 use Rattle.machine_theorem.proofs.BroughtAt as moments
 use Rattle.machine_theorem.proofs.Falls as falls
+use Rattle.machine_theorem.proofs.PioOwn as pio
 use Rattle.machine_theorem.proofs.SinglesBrought as brought
 use Rattle.machine_theorem.proofs.SinglesOwn as own
 use Rattle.machine_theorem.proofs.SinglesSent.{singles_are_sent}
@@ -70,9 +72,33 @@ returns c =
         supplied = c.commands_are_supplied.ensures.supplied;
       };
     } in
+    let of_ends : pio.Laws = record {
+      falls = ends;
+      order = singles.order;
+      taken = singles.taken;
+      disks = singles.disks;
+      falling = singles.falling;
+      data_of = singles.data_of;
+      completed = singles.completed;
+      turn = c.commands_are_settled_in_turn.ensures.turn;
+      sectors = c.commands_are_settled_in_turn.ensures.sectors;
+      transfers = singles.transfers;
+      views = c.core_delivers.ensures.agrees;
+      last = c.commands_await_their_ends.ensures.last;
+      single = singles.single;
+      pages = singles.pages;
+      kept = singles.kept;
+    } in
+    let again : anew.Laws = record {
+      own = of_ends;
+      wait = c.commands_await_their_ends.ensures.plain;
+      goes = c.controller_goes_on.ensures.goes;
+      stays = c.controller_goes_on.ensures.due;
+    } in
     singles_are_sent (record {
       brought = of_bytes;
       singles = singles;
+      anew = again;
       wait = c.commands_await_their_answers.ensures.plain;
       turn = c.single_data_go_in_turn.ensures;
       tell = c.fises_tell.ensures;

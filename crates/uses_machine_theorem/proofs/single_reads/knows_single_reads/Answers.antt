@@ -1,4 +1,4 @@
-use Rattle.uses_machine_theorem.proofs.SingleReadLemmas.{brought, counts, filled, read, sent, since, turns, written}
+use Rattle.uses_machine_theorem.proofs.SingleReadLemmas.{brought, counts, filled, sent, since, turns, written}
 use Rattle.uses_machine_theorem.proofs.single_reads.knows_single_reads.Goals as goal
 
 pub returns : goal.returns
@@ -8,7 +8,6 @@ returns c = record {
   written = written c.completed_single_reads_are_brought.ensures.written c.args.machine.now;
   filled = filled c.filled_single_reads_were_brought.ensures c.args.machine.now;
   sent = sent c.completed_single_reads_are_sent.ensures c.args.machine.now;
-  read = read c.single_reads_are_read.ensures c.args.machine.now;
   turns = turns c.single_data_go_in_turn.ensures c.args.machine.now;
   counts = counts c.single_data_are_counted.ensures c.args.machine.now;
 }
