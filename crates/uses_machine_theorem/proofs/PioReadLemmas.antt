@@ -1,5 +1,4 @@
 -- What a caller of a machine knows of the bytes of reads that are not queued, by DMA or by PIO.
-use Rattle.std.proofs.Common.{◌≡◌, ℕ}
 use Rattle.ahci_machine.specs.States.{MachineState}
 use Rattle.machine_theorem.specs.PioReads.{UnqueuedReadsAreRead}
 use Rattle.uses_machine_theorem.specs.{PioReads.KnowsUnqueuedRead, Slots.stretch_of}

@@ -1,5 +1,5 @@
 -- What a caller of a machine knows of each byte of a read that is not queued, by DMA or by PIO, and that its guest sees completed.
-use Rattle.std.specs.Prelude.{◌≡◌, ◌⊎◌, ◌<◌, ℕ, Bool, true, false, List}
+use Rattle.std.specs.Prelude.{◌≡◌, ◌⊎◌, ◌<◌, ℕ, Bool, true, List}
 use Rattle.slots.specs.Slots.{Issue}
 use Rattle.disk_pages.specs.declared.profile.Profile.{Profile}
 use Rattle.sata_disk.specs.State.{new_disk}
