@@ -480,7 +480,7 @@ bool gefsunk_faults_take(Work *work)
         gefsunk_fail(work, lba);
         return true;
     }
-    if (work->event.kind == GEF_EVENT_LOAD && lba < medium->bad + medium->bad_count && medium->bad < lba + count) {
+    if (work->event.kind == GEF_EVENT_LOAD && medium->bad_count && lba < medium->bad + medium->bad_count && medium->bad < lba + count) {
         gefsunk_fail(work, MAX(lba, medium->bad));
         return true;
     }
