@@ -3,21 +3,7 @@
  * for a processor that it compiles for besides (packaging/README.md).
  */
 #include "gefsunk_pool.h"
-
-/* Whether there is memory, and where; without any, a place that nobody owns. */
-struct tried {
-    _Bool is_there;
-    void *at;
-};
-
-static unsigned char nothing[16];
-
-static struct tried tried(void *at) {
-    struct tried result;
-    result.is_there = at != NULL;
-    result.at = at ? at : nothing;
-    return result;
-}
+#include "tried.h"
 
 /* A block's alignment divides 16, as the pool's. */
 struct tried rattle_alloc(size_t bytes, size_t alignment) {

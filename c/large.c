@@ -6,6 +6,7 @@
  * handle, and serves all threads of the process.
  */
 #define _DEFAULT_SOURCE
+#include "tried.h"
 #include <stdlib.h>
 
 #ifdef __GLIBC__
@@ -75,25 +76,6 @@ static void give(void *block) {
     free(block);
 }
 #endif
-
-/* Whether there is memory, and where; without any, a place that nobody owns. */
-struct tried {
-    _Bool is_there;
-    void *at;
-};
-
-static unsigned char nothing[16];
-
-static struct tried tried(void *at) {
-    struct tried result;
-    result.is_there = at != NULL;
-    result.at = at ? at : nothing;
-    return result;
-}
-
-struct tried rattle_alloc(size_t bytes, size_t alignment);
-struct tried rattle_realloc(void *block, size_t kept, size_t bytes, size_t alignment);
-void rattle_dealloc(void *block);
 
 /* A block's alignment divides 16, as malloc's. */
 struct tried rattle_alloc(size_t bytes, size_t alignment) {
