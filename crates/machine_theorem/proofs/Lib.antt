@@ -105,6 +105,7 @@ mod FirstCalls
 mod SlotFree
 mod CameFirst
 mod HeardBehind
+mod HeardFirst
 mod HeardSince
 mod WrittenSupplied
 mod HeardAfter
@@ -121,7 +122,6 @@ mod ErrorNone
 mod SinglesOwn
 mod AllWent
 mod DataTail
-mod PlainDeeds
 mod FedSingles
 mod SingleWritesOwn
 mod AnswersHeard

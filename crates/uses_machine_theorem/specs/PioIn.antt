@@ -52,14 +52,13 @@ KnowsLast now = (led : IsLed now) (dev : ℕ) → dev < 16 → (slot : ℕ) → 
     → (last : IsSentLast dev slot fis later now.controller) → (past : History) → IsTold (view_of dev last.at.core) past → waits_in dev now.controller ≡ true
     → IsWaitingAlone dev slot later now.controller
 
--- A bit of PxCI falls behind a moment at which nothing is under way at a disk, and nothing is set up for it, as a FIS of it is taken; and the slot has a
--- command for it that is not queued. By this FIS the disk answers or ends what the guest had supplied for this slot, and if that moves sectors, it did all of
+-- A bit of PxCI falls behind a moment at which nothing is under way at a disk as a FIS of it is taken; and the slot has a command for it that is not queued.
+-- If this is a PIO data-in that Data end, nothing was set up for the disk at that moment. By this FIS the disk answers or ends what the guest had supplied for this slot, and if that moves sectors, it did all of
 -- it, where commands and ends went in turn.
 abbrev pub KnowsUnqueuedIf :
     (Waits : (dev : ℕ) → (old : ControllerState) → (events : List Event) → (now : ControllerState) → Runs old events now → Type 0) → MachineState → Type 0
 KnowsUnqueuedIf Waits now = (at : MachineState) (led : IsLed at) (many : Bool) (n c dev slot : ℕ) → n < 15 → dev < 16 → slot < 32
-    → (begins : BeginsIdle n c at) → context_of at.controller.core.slots dev ≡ None
-    → (p : Profile) (limit : ℕ) (base : List Call) → AreCalls (new_disk p limit) base → begins.disk ≡ reached p limit base
+    → (begins : BeginsIdle n c at) → (p : Profile) (limit : ℕ) (base : List Call) → AreCalls (new_disk p limit) base → begins.disk ≡ reached p limit base
     → IsIdle (host_of new_host base) → (deeds : List Deed) (run : RunsRuled at deeds now)
     → HasLink deeds → AllLast n at deeds now run → AllKeepLine many n c dev at deeds now run → AreKeptOn (calls_of n at deeds now run)
     → (runs : ControllerRuns at deeds now run) → AllOfDevice many n dev at.controller (calls_in at deeds now run) now.controller runs.calls
@@ -67,6 +66,7 @@ KnowsUnqueuedIf Waits now = (at : MachineState) (led : IsLed at) (many : Bool) (
     → (took : Took) (new : MachineState) (does : Does now (Moved (act.Takes took)) new) → HasRules new → is_of n c does.does.frame ≡ true
     → has_bit (shown PxCi now.controller) slot ≡ true → has_bit (shown PxCi new.controller) slot ≡ false → has_bit (shown PxSact new.controller) slot ≡ false
     → (issue : Issue) → issue_at now.controller.core.slots slot ≡ Some issue → issue.dev ≡ dev → is_queued_issue issue ≡ false
+    → (is_pio issue.work.kind ≡ true → is_answering does.does.frame.bytes ≡ false → context_of at.controller.core.slots dev ≡ None)
     → IsDoneThere n dev slot led.first led.deeds at led.run deeds now run p limit base issue does.does.frame
 
 abbrev pub KnowsUnqueued : MachineState → Type 0
