@@ -106,6 +106,7 @@ mod SlotFree
 mod CameFirst
 mod HeardBehind
 mod HeardFirst
+mod NotLast
 mod HeardSince
 mod WrittenSupplied
 mod HeardAfter

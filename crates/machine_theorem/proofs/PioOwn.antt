@@ -1,5 +1,5 @@
 -- The command that is not queued, and whose bit of PxCI falls, is the one that its disk ended, be it by a Register FIS or by the last Data of a PIO data-in.
-use Rattle.std.proofs.Common.{◌≡◌, ◌⊎◌, ℕ, suc, ◌+◌, ◌<◌, ◌≤◌, ◌&&◌, Bool, true, false, not, List, [], ◌∷◌, ◌++◌, append_assoc, length, Option, Some}
+use Rattle.std.proofs.Common.{◌≡◌, ℕ, suc, ◌+◌, ◌<◌, ◌≤◌, ◌&&◌, Bool, true, false, not, List, [], ◌∷◌, ◌++◌, append_assoc, length, Option, Some}
 use Rattle.std.proofs.{Common.{None, refl, sym, ap, subst, ◌∙◌, inl, inr, arith}, lemmas.{Bool.{eq-eqb, false≢true}, List.{length-append}}}
 use Rattle.std.specs.{Prelude.{◌==◌, ◌||◌, if◌then◌else◌, nat_lt, MatchOption}, List.flat_map}
 use Rattle.fis_view.specs.{Frames.{Stamped, marked}, Seen.seen}
@@ -18,7 +18,7 @@ use Rattle.sata_disk.specs.{Sending.IsOut, State.{DiskState, new_disk}, declared
 use Rattle.sata_disk.specs.declared.out.Out.TheVariants as out
 use Rattle.sata_disk_books.specs.{Books.page_in, Ended.SinglesAreOfPages, LastData.sets_up_last}
 use Rattle.sata_disk_laws.specs.{Calls.{AreCalls, Call, Hears, Sends, after_calls}, Laws.reached, Once.{AnswersAreSingle, ForLast, ForNothing, Host}}
-use Rattle.sata_disk_laws.specs.Once.{IsDataAt, IsOutDue, Wait, data_got_by, host_after, host_of, new_host}
+use Rattle.sata_disk_laws.specs.Once.{IsDataAt, IsOutDue, host_of, new_host, out_got}
 use Rattle.sata_disk_laws.proofs.Door.{calls_after, calls_both}
 use Rattle.ahci_machine.specs.{Gathers.host_stamp, States.{IsOpeningMachine, MachineState, bay_at}, declared.bay.Unit.TheVariants.Disk}
 use Rattle.ahci_machine.specs.declared.act.Act.TheVariants as act
@@ -31,7 +31,7 @@ use Rattle.machine_theorem.specs.{Ending.carries, Identity.{calls_of, is_for, pi
 use Rattle.machine_theorem.specs.{InTurn.is_asking, OwnSlots.{AllKeepLine, KeepsLine, is_of}, PioIn.{IsAnsweredThere, IsDoneThere, IsEndedThere}}
 use Rattle.machine_theorem.specs.{PioIn.{IsLeftIdle, IsWholeThere, PlainUnqueuedAreOfSlots, UnqueuedAreOfSlots}, Settled.AreSettled}
 use Rattle.machine_theorem.specs.Settled.{CommandsAreSettledInTurn, IsAskedInTurn, IsBehindLastBlock, IsSettledLast, IsUnsettled, SectorsEndByData}
-use Rattle.machine_theorem.specs.{FirstDeeds.{first_deeds, first_run, machine_at}, Settled.{IsWholeInTurn, is_data, settled_in}}
+use Rattle.machine_theorem.specs.{FirstDeeds.{first_deeds, first_run, machine_at}, Settled.{IsWholeInTurn, is_data, is_settling, settled_in}}
 use Rattle.machine_theorem.specs.{Singles.{AllOfDevice, BeginsIdle, IsFromSlot, IsSlots, StartsWith}, Tags.once_if}
 use Rattle.machine_theorem.specs.{Transfers.{TransfersEndSo, is_transferring}, Waits.{IsWaitingAlone, commanded_in, is_commanded, waits_in}}
 use Rattle.machine_theorem.specs.Crossing.{Within}
@@ -39,7 +39,8 @@ use Rattle.machine_theorem.proofs.{Answered.heard_both, AsSupplied.supplied_in, 
 use Rattle.machine_theorem.proofs.{Closing.{due_shut, settled_last, taken_kinds}, Commanded.{AreNoCommands, all_none, asked, asked_few, heard_long}}
 use Rattle.machine_theorem.proofs.{EndsFew.{disk_same, sent_of}, ErrorNone.{IsErrorFis, fails_with}, Fallen.{heard_among, line_stays}, Falls.Told}
 use Rattle.machine_theorem.proofs.{Falls.{kept_of, told_after, told_now}, FallsFew.came_of, KindsSent.{frames_kinds, said_kinds, said_long}}
-use Rattle.machine_theorem.proofs.{HeardFirst.heard_first, KindsSent.{sent_within, taken_within}, LastSent.{LastSent, last_sent}, OneConn.ends_same, Ordered.first_ruled}
+use Rattle.machine_theorem.proofs.{HeardFirst.heard_first, KindsSent.{sent_within, taken_within}, LastSent.{LastSent, last_sent}, OneConn.ends_same}
+use Rattle.machine_theorem.proofs.{NotLast.{data_over, free_not_last, out_not_last, waits_none}, Ordered.first_ruled, Settled.settled_both}
 use Rattle.machine_theorem.proofs.{Own.last_ruled, OwnPlace.{Found, InOrder, came_one, find, frames_are, head_or, in_order, linked, port_is}}
 use Rattle.machine_theorem.proofs.{OwnPlace.untaken_is, RegistersSent.says, SentFises.{GoneOn, offers_none, sender_is, stretch_made}, Still.fis_of}
 use Rattle.machine_theorem.proofs.{Stretch.whole_run, Shutting.is_shut, SinglesOwn.{completed_by, completed_waits, earns, kept_behind, kept_first}}
@@ -159,6 +160,10 @@ once_most false = omega arith
 
 abbrev LastOf : Stretch → Type 0
 LastOf s = LastSent s.many s.n s.dev s.at.controller (events s) s.now.controller s.runs.calls
+
+either : {A : Type 0} (b : Bool) → (b ≡ true → A) → (b ≡ false → A) → A
+either true one other = one refl
+either false one other = other refl
 
 module _ (laws : Laws) (s : Stretch) where
   abbrev start : ControllerState
@@ -441,6 +446,8 @@ module _ (laws : Laws) (s : Stretch) where
         pub record IsAnswers (o : Out) : Type 0 where
           pub answers : IsAnsweredThere s.dev s.slot s.old s.before s.at s.first s.deeds s.now s.run s.base then' o
           pub went : Went answers.command.front answers.slots.ordered.before
+          -- no command is heard behind it
+          pub quiet : heard_in behind ≡ 0
 
         pub is_answers : (k : ℕ) (o : Out) (does : Does found.cut.mid (Moved (act.Speaks k o)) found.cut.next)
             → sent_by found.cut.mid (Moved (act.Speaks k o)) found.cut.next does ≡ f ∷ [] → is_answering f.bytes ≡ true → IsAnswers o
@@ -455,6 +462,7 @@ module _ (laws : Laws) (s : Stretch) where
             record {
               answers = record { command = u; none = it.none; prior = it.few; slots = it.slots; answer = answer; ends = ends_it k o does sent t answer u it.none };
               went = it.got.went;
+              quiet = let both = heard_both u.later behind in let none = it.more in omega (arith, both, none);
             }
 
         -- ---- an end by a Register FIS
@@ -483,12 +491,78 @@ module _ (laws : Laws) (s : Stretch) where
             → IsSlots s.dev s.slot s.old s.before s.at s.first s.deeds s.now s.run s.p s.limit (s.base ++ then'))
             (sym is) (λ d same. is_slots s.n 32 d same) does sent
 
-        -- ---- all of it
-
         -- the calls of the stretch are those until then, this one, and others
         said_calls : (spoke : IsSpoken found.deed) → calls s ≡ then' ++ Sends spoke.o ∷ calls_of s.n found.cut.next found.cut.later s.now found.cut.rest
         said_calls spoke = all_calls ∙ ap (λ (l : List Call). then' ++ (l ++ calls_of s.n found.cut.next found.cut.later s.now found.cut.rest))
             (ap (λ (d : Deed). calls_at found.cut.mid d s.n) spoke.is ∙ ap (λ (b : Bool). if b then Sends spoke.o ∷ [] else []) (eq-eqb s.n s.n refl))
+
+        -- ---- behind the FIS
+
+        abbrev over_then : Out → List Call
+        over_then o = (s.base ++ then') ++ Sends o ∷ []
+
+        -- where its host waits for nothing then, and no command is heard since, so it is now
+        left_behind : (o : Out) → found.deed ≡ Moved (act.Speaks s.n o) → heard_in behind ≡ 0 → IsIdle (host_of new_host (over_then o))
+            → IsLeftIdle s.n s.p s.limit s.now (s.base ++ calls s)
+        left_behind o spoke none idle =
+            let x : Call = Sends o in
+            let rest : List Call = calls_of s.n found.cut.next found.cut.later s.now found.cut.rest in
+            let behind_is : behind ≡ x ∷ rest =
+            ap (λ (l : List Call). l ++ rest)
+            (ap (λ (d : Deed). calls_at found.cut.mid d s.n) spoke ∙ ap (λ (b : Bool). if b then Sends o ∷ [] else []) (eq-eqb s.n s.n refl)) in
+            let split : calls s ≡ then' ++ x ∷ rest = all_calls ∙ ap (λ (l : List Call). then' ++ l) behind_is in
+            let whole_is : s.base ++ calls s ≡ over_then o ++ rest =
+            ap (λ (l : List Call). s.base ++ l) split ∙ sym (append_assoc s.base then' (x ∷ rest)) ∙ sym (append_assoc (s.base ++ then') (x ∷ []) rest) in
+            let gone : GoneOn s.many s.n s.c s.dev s.begins.disk (calls s) (of_conn s.n s.c (sent_of s.at s.deeds s.now s.run)) (bay_at s.now s.n).unit =
+            stretch_made s.many s.n s.c s.dev laws.disks s.deeds s.at s.now s.run s.keeps s.begins.disk s.begins.there in
+            let are : AreCalls (new_disk s.p s.limit) (s.base ++ calls s) =
+            calls_both s.base (calls s) (new_disk s.p s.limit) s.are (subst (λ (y : DiskState). AreCalls y (calls s)) s.same gone.are) in
+            let on : AreKeptOn rest = kept_behind then' x rest (subst AreKeptOn split s.on) in
+            let same : 0 + heard_in rest ≡ 0 = sym (ap heard_in behind_is) ∙ none in
+            let quiet : heard_in rest ≡ 0 = omega (arith, same) in
+            let turn : AreSettled s.p s.limit (over_then o) rest =
+            laws.turn s.p s.limit (over_then o) rest (subst (AreCalls (new_disk s.p s.limit)) whole_is are) idle on in
+            let over = turn.idle (omega (arith, quiet)) in
+            record {
+              are = are;
+              there = gone.is
+                  ∙ ap Disk (ap (λ (y : DiskState). after_calls y (calls s)) s.same ∙ sym (calls_after s.base (calls s) (new_disk s.p s.limit)));
+              idle = subst (λ (l : List Call). IsIdle (host_of new_host l)) (sym whole_is)
+                  (record { waits = waits_none s.p s.limit (over_then o) rest quiet turn over.1; clear = over.0 });
+            }
+
+        -- so it is behind an answer
+        left_answered : (spoke : IsSpoken found.deed) → is_answering f.bytes ≡ true → IsLeftIdle s.n s.p s.limit s.now (s.base ++ calls s)
+        left_answered spoke answering =
+            let o : Out = spoke.o in
+            let t : IsThen o = is_then s.n o spoke.does spoke.sent in
+            let answered : IsAnswers o = is_answers s.n o spoke.does spoke.sent answering in
+            let a = answered.answers in
+            let u : IsUnsettled s.base then' = a.command in
+            let rest : List Call = calls_of s.n found.cut.next found.cut.later s.now found.cut.rest in
+            let first : List Call = then' ++ Sends o ∷ [] in
+            let joined : s.base ++ first ≡ over_then o = sym (append_assoc s.base then' (Sends o ∷ [])) in
+            let split : calls s ≡ first ++ rest = said_calls spoke ∙ sym (append_assoc then' (Sends o ∷ []) rest) in
+            let are : AreCalls (new_disk s.p s.limit) (over_then o) = calls_both (s.base ++ then') (Sends o ∷ []) (new_disk s.p s.limit) t.whole (t.says, tt) in
+            let turn : AreSettled s.p s.limit s.base first =
+            laws.turn s.p s.limit s.base first (subst (AreCalls (new_disk s.p s.limit)) (sym joined) are) s.idle (kept_first first rest (subst AreKeptOn split s.on)) in
+            let x : Call = Hears u.bytes in
+            let heard_then : heard_in then' ≡ heard_in u.front + (once_if (is_asking u.bytes) + heard_in u.later) = ap heard_in u.split ∙ heard_both u.front (x ∷ u.later) in
+            let one : once_if (is_asking u.bytes) ≡ 1 = ap once_if u.asks in
+            let none = a.none in
+            let prior_settled = a.prior in
+            let heard : heard_in first ≡ heard_in then' + (0 + 0) = heard_both then' (Sends o ∷ []) in
+            let settles : settled_in first ≡ settled_in then' + (once_if (is_settling o) + 0) = settled_both then' (Sends o ∷ []) in
+            let settling : once_if (is_settling o) ≡ 1 = ap (λ (b : Bool). once_if (b || sets_up_last o)) a.answer in
+            let over = turn.idle (omega (arith, heard_then, one, none, prior_settled, heard, settles, settling)) in
+            let host : host_of new_host (s.base ++ first) ≡ out_got (host_of new_host (s.base ++ then')) o = ap (host_of new_host) joined ∙ host_then (s.base ++ then') (Sends o) new_host in
+            left_behind o spoke.is answered.quiet (subst (λ (l : List Call). IsIdle (host_of new_host l)) joined (record {
+              waits = free_not_last (host_of new_host (s.base ++ first)).waits over.1
+                  (λ last. out_not_last (host_of new_host (s.base ++ then')) o (inl a.answer) (sym (ap (λ (h : Host). h.waits) host) ∙ last));
+              clear = over.0;
+            }))
+
+        -- ---- all of it
 
         -- what another FIS than a Register FIS does is said by the last two
         pub done_by : (spoke : IsSpoken found.deed) → (is_pio issue.work.kind ≡ false → is_answering f.bytes ≡ true)
@@ -511,7 +585,7 @@ module _ (laws : Laws) (s : Stretch) where
           answers = λ answering. (is_answers s.n spoke.o spoke.does spoke.sent answering).answers;
           went = λ answering. (is_answers s.n spoke.o spoke.does spoke.sent answering).went;
           ends = ends;
-          left = left;
+          left = either (is_answering f.bytes) (left_answered spoke) left;
           slots = λ is. done_slots spoke.o spoke.does spoke.sent is;
         }
 
@@ -606,20 +680,6 @@ module _ (laws : Laws) (s : Stretch) where
 
           -- ---- behind the last Data
 
-          idle_over : (h : Host) (w : Wait) → w ≡ ForLast → h.in_reset ≡ false → IsIdle (data_got_by h w)
-          idle_over h ForLast is clear = record { waits = refl; clear = clear }
-          idle_over h other is clear = absurd (cc)
-
-          -- they are the last ones that the host waits for
-          data_over : (h : Host) (o : Out) → is_data o ≡ true → h.waits ≡ ForLast → h.in_reset ≡ false → IsIdle (host_after h (Sends o))
-          data_over h (out.Page page) is waits_last clear = idle_over h h.waits waits_last clear
-          data_over h (out.Data place n) is waits_last clear = idle_over h h.waits waits_last clear
-          data_over h other is waits_last clear = absurd (cc)
-
-          abbrev Over : Host → Type 0
-          Over h = (h.waits ≡ ForNothing) ⊎ (h.waits ≡ ForLast)
-
-          -- what follows them while no command is heard
           is_left : (o : Out) (does : Does found.cut.mid (Moved (act.Speaks s.n o)) found.cut.next)
               → sent_by found.cut.mid (Moved (act.Speaks s.n o)) found.cut.next does ≡ f ∷ []
               → found.deed ≡ Moved (act.Speaks s.n o) → carries (seen f.bytes) ≡ true → is_shut s.dev end ≡ true
@@ -632,49 +692,9 @@ module _ (laws : Laws) (s : Stretch) where
               says_data found.cut.mid s.n o found.cut.next does
               (subst (λ (y : Stamped). carries (seen y.bytes) ≡ true) (sym (risen_is s.n o does sent)) data') in
               let waits_last : (host_of new_host (s.base ++ then')).waits ≡ ForLast = turn.alone o t.says is g.all g.last in
-              let x : Call = Sends o in
-              let rest : List Call = calls_of s.n found.cut.next found.cut.later s.now found.cut.rest in
-              let then2 : List Call = (s.base ++ then') ++ x ∷ [] in
-              let idle : IsIdle (host_of new_host then2) =
-              subst IsIdle (sym (host_then (s.base ++ then') x new_host))
-              (data_over (host_of new_host (s.base ++ then')) o is waits_last (turn.idle g.all).0) in
-              let behind_is : behind ≡ x ∷ rest = calls_by_now spoke in
-              let split : calls s ≡ then' ++ x ∷ rest = all_calls ∙ ap (λ (l : List Call). then' ++ l) behind_is in
-              let whole_is : s.base ++ calls s ≡ then2 ++ rest =
-              ap (λ (l : List Call). s.base ++ l) split ∙ sym (append_assoc s.base then' (x ∷ rest)) ∙ sym (append_assoc (s.base ++ then') (x ∷ []) rest) in
-              let gone : GoneOn s.many s.n s.c s.dev s.begins.disk (calls s) (of_conn s.n s.c (sent_of s.at s.deeds s.now s.run)) (bay_at s.now s.n).unit =
-              stretch_made s.many s.n s.c s.dev laws.disks s.deeds s.at s.now s.run s.keeps s.begins.disk s.begins.there in
-              let are : AreCalls (new_disk s.p s.limit) (s.base ++ calls s) =
-              calls_both s.base (calls s) (new_disk s.p s.limit) s.are (subst (λ (y : DiskState). AreCalls y (calls s)) s.same gone.are) in
-              let on : AreKeptOn rest = kept_behind then' x rest (subst AreKeptOn split s.on) in
-              let same : 0 + heard_in rest ≡ 0 = sym (ap heard_in behind_is) ∙ g.none in
-              let quiet : heard_in rest ≡ 0 = omega (arith, same) in
-              let turn2 : AreSettled s.p s.limit then2 rest =
-              laws.turn s.p s.limit then2 rest (subst (AreCalls (new_disk s.p s.limit)) whole_is are) idle on in
-              let over = turn2.idle (omega (arith, quiet)) in
-              record {
-                are = are;
-                there = gone.is
-                    ∙ ap Disk (ap (λ (y : DiskState). after_calls y (calls s)) s.same ∙ sym (calls_after s.base (calls s) (new_disk s.p s.limit)));
-                idle = subst (λ (l : List Call). IsIdle (host_of new_host l)) (sym whole_is)
-                    (record { waits = waits_none rest quiet turn2 over.1; clear = over.0 });
-              }
-            where
-              calls_by_now : found.deed ≡ Moved (act.Speaks s.n o) → behind ≡ Sends o ∷ calls_of s.n found.cut.next found.cut.later s.now found.cut.rest
-              calls_by_now is =
-                  ap (λ (l : List Call). l ++ calls_of s.n found.cut.next found.cut.later s.now found.cut.rest)
-                  (ap (λ (d : Deed). calls_at found.cut.mid d s.n) is ∙ ap (λ (b : Bool). if b then Sends o ∷ [] else []) (eq-eqb s.n s.n refl))
-
-              waits_none : (rest : List Call) → heard_in rest ≡ 0 → AreSettled s.p s.limit ((s.base ++ then') ++ Sends o ∷ []) rest
-                  → Over (host_of new_host (((s.base ++ then') ++ Sends o ∷ []) ++ rest))
-                  → (host_of new_host (((s.base ++ then') ++ Sends o ∷ []) ++ rest)).waits ≡ ForNothing
-              waits_none rest quiet turn2 (inl none) = none
-              waits_none rest quiet turn2 (inr last) =
-                  let u : IsSettledLast rest = turn2.lasts last in
-                  let sum : heard_in rest ≡ heard_in u.front + (once_if (is_asking u.bytes) + heard_in u.later) =
-                  ap heard_in u.split ∙ heard_both u.front (Hears u.bytes ∷ u.later) in
-                  let one : once_if (is_asking u.bytes) ≡ 1 = ap once_if u.asks in
-                  absurd (omega (arith, quiet, sum, one))
+              left_behind o spoke g.none
+              (subst IsIdle (sym (host_then (s.base ++ then') (Sends o) new_host))
+              (data_over (host_of new_host (s.base ++ then')) o is waits_last (turn.idle g.all).0))
 
         is_done : (is_answering f.bytes ≡ false → context_of start.core.slots s.dev ≡ None) → (spoke : IsSpoken found.deed)
             → (is_pio issue.work.kind ≡ false → is_answering f.bytes ≡ true)

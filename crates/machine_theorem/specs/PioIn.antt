@@ -86,8 +86,8 @@ pub record IsDoneThere (n dev slot : ℕ) (old : MachineState) (before : List De
       ≡ calls_in at (first_deeds k deeds) (machine_at k at deeds now run) (first_run k at deeds now run) ++ since
       → StartsWith (calls_of n at (first_deeds k deeds) (machine_at k at deeds now run) (first_run k at deeds now run)) (answers answering).command.front
   pub ends : is_answering f.bytes ≡ false → IsEndedThere dev slot old before at first deeds now run p limit base (calls_of n at sooner mid led) said
-  -- Behind the last Data the disk did nothing for its host to wait for.
-  pub left : is_answering f.bytes ≡ false → IsLeftIdle n p limit now (base ++ calls_of n at deeds now run)
+  -- Behind the FIS the disk did nothing for its host to wait for.
+  pub left : IsLeftIdle n p limit now (base ++ calls_of n at deeds now run)
   -- If it says that a command ended well, the disk did all of it.
   pub slots : said ≡ out.Of 32 replies.Done → IsSlots dev slot old before at first deeds now run p limit (base ++ calls_of n at sooner mid led)
 
