@@ -1,7 +1,7 @@
 -- What a disk heard until a command went from its slot, went before that.
 use Rattle.std.proofs.Common.{◌≡◌, ℕ, ◌≤◌, Bool, true, List, ◌∷◌, ◌++◌, length, sym, ap, ◌∙◌, arith}
 use Rattle.std.proofs.lemmas.List.{length-append}
-use Rattle.std.specs.List.flat_map
+use Rattle.std.specs.List.{flat_map}
 use Rattle.controller_laws.specs.Events.{Event}
 use Rattle.sata_disk_laws.specs.Calls.{Call, Hears}
 use Rattle.ahci_machine.specs.States.{IsOpeningMachine, MachineState}

@@ -10,7 +10,7 @@ use Rattle.sata_disk.specs.declared.out.Out.TheVariants as out
 use Rattle.sata_disk_laws.specs.{Calls.{Call, Hears, Sends}, Once.{ForAnswer, ForEnd, ForLast, ForNothing, ForSignature, Host, Wait, data_got_by}}
 use Rattle.sata_disk_laws.specs.Once.{host_after, host_of, new_host, out_got, reply_got}
 use Rattle.machine_theorem.specs.{InTurn.{IsIdle, heard_in, is_answer, is_asking, is_register}, Settled.{AreSettled, IsSettledLast, is_data}, Tags.once_if}
-use Rattle.machine_theorem.proofs.Answered.heard_both
+use Rattle.machine_theorem.proofs.Answered.{heard_both}
 
 no_last : {C : Type 0} → ForNothing ≡ ForLast → C
 no_last e = absurd (cc)

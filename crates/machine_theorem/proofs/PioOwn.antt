@@ -161,7 +161,7 @@ once_most false = omega arith
 abbrev LastOf : Stretch → Type 0
 LastOf s = LastSent s.many s.n s.dev s.at.controller (events s) s.now.controller s.runs.calls
 
-either : {A : Type 0} (b : Bool) → (b ≡ true → A) → (b ≡ false → A) → A
+pub either : {A : Type 0} (b : Bool) → (b ≡ true → A) → (b ≡ false → A) → A
 either true one other = one refl
 either false one other = other refl
 
@@ -460,7 +460,7 @@ module _ (laws : Laws) (s : Stretch) where
             let one = due_one in
             let it = is_last (record { front = u.front; bytes = u.bytes; later = u.later; split = u.split; asks = u.asks; most = most_of (heard_in u.front) (omega (arith, behind_all, one)) }) in
             record {
-              answers = record { command = u; none = it.none; prior = it.few; slots = it.slots; answer = answer; ends = ends_it k o does sent t answer u it.none };
+              answers = record { command = u; none = it.none; prior = it.few; slots = it.got.source.from; answer = answer; ends = ends_it k o does sent t answer u it.none };
               went = it.got.went;
               quiet = let both = heard_both u.later behind in let none = it.more in omega (arith, both, none);
             }
@@ -492,7 +492,7 @@ module _ (laws : Laws) (s : Stretch) where
             (sym is) (λ d same. is_slots s.n 32 d same) does sent
 
         -- the calls of the stretch are those until then, this one, and others
-        said_calls : (spoke : IsSpoken found.deed) → calls s ≡ then' ++ Sends spoke.o ∷ calls_of s.n found.cut.next found.cut.later s.now found.cut.rest
+        pub said_calls : (spoke : IsSpoken found.deed) → calls s ≡ then' ++ Sends spoke.o ∷ calls_of s.n found.cut.next found.cut.later s.now found.cut.rest
         said_calls spoke = all_calls ∙ ap (λ (l : List Call). then' ++ (l ++ calls_of s.n found.cut.next found.cut.later s.now found.cut.rest))
             (ap (λ (d : Deed). calls_at found.cut.mid d s.n) spoke.is ∙ ap (λ (b : Bool). if b then Sends spoke.o ∷ [] else []) (eq-eqb s.n s.n refl))
 
@@ -532,7 +532,7 @@ module _ (laws : Laws) (s : Stretch) where
             }
 
         -- so it is behind an answer
-        left_answered : (spoke : IsSpoken found.deed) → is_answering f.bytes ≡ true → IsLeftIdle s.n s.p s.limit s.now (s.base ++ calls s)
+        pub left_answered : (spoke : IsSpoken found.deed) → is_answering f.bytes ≡ true → IsLeftIdle s.n s.p s.limit s.now (s.base ++ calls s)
         left_answered spoke answering =
             let o : Out = spoke.o in
             let t : IsThen o = is_then s.n o spoke.does spoke.sent in
@@ -565,7 +565,7 @@ module _ (laws : Laws) (s : Stretch) where
         -- ---- all of it
 
         -- what another FIS than a Register FIS does is said by the last two
-        pub done_by : (spoke : IsSpoken found.deed) → (is_pio issue.work.kind ≡ false → is_answering f.bytes ≡ true)
+        unfoldable pub done_by : (spoke : IsSpoken found.deed) → (is_pio issue.work.kind ≡ false → is_answering f.bytes ≡ true)
             → (is_answering f.bytes ≡ false → IsEndedThere s.dev s.slot s.old s.before s.at s.first s.deeds s.now s.run s.p s.limit s.base then' spoke.o)
             → (is_answering f.bytes ≡ false → IsLeftIdle s.n s.p s.limit s.now (s.base ++ calls s))
             → IsDoneThere s.n s.dev s.slot s.old s.before s.at s.first s.deeds s.now s.run s.p s.limit s.base issue f

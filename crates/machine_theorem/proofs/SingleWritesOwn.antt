@@ -25,13 +25,13 @@ use Rattle.machine_theorem.specs.{DataCame.IsWrittenBehind, Ending.{HasNoQueued,
 use Rattle.machine_theorem.specs.{InTurn.{AreKeptOn, heard_in, is_answering, is_asking}, OwnSlots.is_of, OwnWrites.AreOwnData}
 use Rattle.machine_theorem.specs.{PioReads.{AllKeepUnqueued, KeepsUnqueued}, Settled.IsUnsettled, SingleData.went_in, Singles.IsFromSlot}
 use Rattle.machine_theorem.specs.{SingleWrites.{IsFedSince, IsFedWhole, IsSuppliedSingle, SingleWritesAreAsSupplied, went_to}, Waits.is_commanded}
-use Rattle.machine_theorem.specs.Writes.payloads
+use Rattle.machine_theorem.specs.Writes.{payloads}
 use Rattle.machine_theorem.proofs.{AllWent.all_went, AtMoments.more, Commanded.asked, Cut.Cut, DataDeeds.all_plain, DataDown.ArePlain}
 use Rattle.machine_theorem.proofs.{DataDown.{as_heard, data_sent, data_within, is_data}, DataTail.{all_bytes, behind_within, data_heard}}
 use Rattle.machine_theorem.proofs.{DataTail.{marked_payloads, tail_within}, ErrorNone.IsErrorFis, Fallen.{heard_among, line_stays, map_both}}
 use Rattle.machine_theorem.proofs.{Falls.{Told, controller_runs, kept_of, told_now}, FedFor.{Good, opens_good, run_good}}
 use Rattle.machine_theorem.proofs.{FedSingles.{Along, fed_along, unqueued_first, went_long}, OrderCut.{OrderAt, order_at}, Ordered.first_ruled}
-use Rattle.machine_theorem.proofs.{Own.last_ruled, OwnPlace.{Found, cancel}, PioOwn.{IsSpoken, IsThen, Stretch, WentFrom, behind, calls, came, done_by}}
+use Rattle.machine_theorem.proofs.{Own.last_ruled, OwnPlace.Found, PioOwn.{IsSpoken, IsThen, Stretch, WentFrom, behind, calls, came, done_by}}
 use Rattle.machine_theorem.proofs.PioOwn.{due_one, events, found_of, is_last, is_then, most_of, on_then, settled, spoken, then'}
 use Rattle.machine_theorem.proofs.{SingleCalls.{Going, begins}, SinglesOwn.{completed_by, completed_waits, earns, last_heard}}
 use Rattle.machine_theorem.proofs.{SinglesOwn.{no_error, same_issue}, Stretch.whole_run, WaitingRun.{WaitingRun, waiting_run}}
@@ -64,6 +64,10 @@ went_is dev (call.NotThere d number fed ∷ later) = went_is dev later
 
 event_tail : (x y : Event) (xs ys : List Event) → x ∷ xs ≡ y ∷ ys → xs ≡ ys
 event_tail x y xs ys e = cc
+
+cancel : (front xs ys : List Event) → front ++ xs ≡ front ++ ys → xs ≡ ys
+cancel [] xs ys e = e
+cancel (x ∷ front) xs ys e = cancel front xs ys (event_tail x x (front ++ xs) (front ++ ys) e)
 
 own_behind : (many : Bool) (n dev : ℕ) (xs : List Event) (y : Event) (ys : List Event) → AreOwnData many n dev (xs ++ y ∷ ys) → AreOwnData many n dev ys
 own_behind many n dev [] y ys own = own.1
@@ -338,6 +342,7 @@ module _ (laws : Laws) (s : Stretch) (unqueued : AllKeepUnqueued s.many s.n s.de
 
   pub is_supplied : IsSpoken laws.own s f own prior found found.deed → (is_pio issue.work.kind ≡ false → is_answering f.bytes ≡ true)
       → IsSuppliedSingle s.n s.dev s.slot s.old s.before s.at s.first s.deeds s.now s.run s.p s.limit s.base issue f
+  unfolding done_by
   is_supplied spoke register = record {
     done = done_by laws.own s f own prior found issue there mine waits refl well spoke register (λ other. absurd (false≢true (sym other ∙ register plain)))
         (λ other. absurd (false≢true (sym other ∙ register plain)));
