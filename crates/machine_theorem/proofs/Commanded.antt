@@ -1,5 +1,5 @@
 -- The FISes of a stretch of calls that are commands for a disk are those of slots of its device.
-use Rattle.std.proofs.Common.{◌≡◌, ℕ, zero, ◌+◌, ◌≤◌, ◌&&◌, Bool, true, false, List, [], ◌∷◌, ◌++◌, length, map}
+use Rattle.std.proofs.Common.{◌≡◌, ℕ, ◌≤◌, ◌&&◌, Bool, true, false, List, [], ◌∷◌, ◌++◌, length, map}
 use Rattle.std.proofs.{Common.{Result, Ok, Err, refl, sym, ap, ◌∙◌, arith}, lemmas.{Bool.{eq-eqb, false≢true}, Grind.{flat_map-append}}}
 use Rattle.std.proofs.lemmas.List.{length-append}
 use Rattle.std.specs.{Prelude.{◌==◌, if◌then◌else◌}, List.flat_map}

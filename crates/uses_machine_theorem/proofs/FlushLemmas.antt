@@ -24,7 +24,7 @@ Keeping = (dev : ℕ) → (old : ControllerState) → (events : List Event) → 
 
 -- what is no PIO data-in asks no more of the beginning
 pub no_pio : {A : Type 0} {b : Bool} → b ≡ false → b ≡ true → A
-no_pio no yes = absurd (false≢true (sym no ∙ yes))
+no_pio other is = absurd (false≢true (sym other ∙ is))
 
 pub flushes : (Waits : Keeping) → OfSingles Waits IsFlushDone → (now : MachineState) → KnowsFlushes Waits now
 flushes Waits law now at led many n c dev slot below dev_low low begins p limit base are same idle deeds run linked lasts keeps on runs of waiting took new does rules own shows hides none issue is mine plain other =

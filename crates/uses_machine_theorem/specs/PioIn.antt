@@ -1,6 +1,6 @@
 -- What a caller of a machine knows of the commands of its guest that are not queued, with PIO data-in among them.
 use Rattle.std.specs.Prelude.{◌≡◌, ◌<◌, ◌≤◌, ◌+◌, ℕ, Bool, true, false, List, ◌++◌, Some, None}
-use Rattle.slots.specs.Slots.{Issue, context_of, has_bit, is_queued_issue, issue_at}
+use Rattle.slots.specs.Slots.{Issue, context_of, has_bit, is_pio, is_queued_issue, issue_at}
 use Rattle.hba_fbs.specs.Views.{view_of}
 use Rattle.hba_laws.specs.{Agreement.IsTold, History.History}
 use Rattle.ahci_registers.specs.declared.register.Register.TheVariants.{PxCi, PxSact}
@@ -14,7 +14,7 @@ use Rattle.ahci_machine.specs.{States.{HasRules, MachineState, bay_at}, declared
 use Rattle.ahci_machine.specs.declared.act.Act.TheVariants as act
 use Rattle.machine_laws.specs.{ControllerLaws.{ControllerRuns, RunsRuled, calls_in}, Deeds.{Deed, Does, Moved}, Falling.{AllLast, HasLink}}
 use Rattle.machine_laws.specs.Heard.{HasLived, life_in, no_life}
-use Rattle.machine_theorem.specs.{Ending.{AllKeepEnding, AllUnqueued, IsSentLast, ended_in}, Identity.calls_of, InTurn.{AreKeptOn, IsIdle, heard_in}}
+use Rattle.machine_theorem.specs.{Ending.{AllKeepEnding, AllUnqueued, IsSentLast, ended_in}, Identity.calls_of, InTurn.{AreKeptOn, IsIdle, heard_in, is_answering}}
 use Rattle.machine_theorem.specs.{OwnSlots.{AllKeepLine, is_of}, PioIn.IsDoneThere, Settled.{AreSettled, IsBehindLastBlock, IsSettledLast, is_data}}
 use Rattle.machine_theorem.specs.{Settled.settled_in, Singles.{AllOfDevice, BeginsIdle}, Tags.once_if, Transfers.is_transferring}
 use Rattle.machine_theorem.specs.Waits.{IsWaitingAlone, commanded_in, waits_in}

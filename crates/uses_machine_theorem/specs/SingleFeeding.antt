@@ -1,6 +1,6 @@
 -- What a caller of a machine knows of the Data of its guest's writes that are not queued.
 use Rattle.std.specs.Prelude.{◌≡◌, ◌<◌, ℕ, Bool, true, false, List, [], ◌∷◌, ◌++◌, Some, is_some}
-use Rattle.slots.specs.Slots.{Issue, has_bit, issue_at}
+use Rattle.slots.specs.Slots.{Issue, has_bit, is_pio, issue_at}
 use Rattle.hba_fbs.specs.Views.{view_of}
 use Rattle.hba_laws.specs.{Agreement.IsTold, History.History}
 use Rattle.ahci_registers.specs.declared.register.Register.TheVariants.{PxCi, PxSact}
@@ -21,7 +21,7 @@ use Rattle.machine_laws.specs.Heard.{HasLived, life_in, no_life}
 use Rattle.machine_theorem.specs.{Commands.AreNotIssued, DataCame.IsWrittenBehind, Identity.calls_of, InTurn.{AreKeptOn, IsIdle, heard_in}}
 use Rattle.machine_theorem.specs.{OwnSlots.{AllKeepLine, is_of}, OwnWrites.AreOwnData, SingleData.{AllUnqueued, GoesNext, went_in}}
 use Rattle.machine_theorem.specs.{Ending.HasNoQueued, PioReads.AllKeepUnqueued, SingleWrites.IsSuppliedSingle, Singles.BeginsIdle}
-use Rattle.machine_theorem.specs.Waits.is_commanded
+use Rattle.machine_theorem.specs.Waits.{is_commanded}
 use Rattle.uses_machine_theorem.specs.Led.{IsLed}
 
 -- A command went from a slot by the first deed of a stretch that led here, and is issued there still; nothing more was issued there, and no queued command
