@@ -9,25 +9,23 @@ use Rattle.hba_fbs.specs.Taking.{port_of}
 use Rattle.ahci_controller.specs.{States.ControllerState, declared.taking.Took.Took}
 use Rattle.controller_laws.specs.Events as call
 use Rattle.controller_laws.specs.Events.{Event, Runs}
-use Rattle.ata_reply.specs.declared.reply.Reply.{Reply}
-use Rattle.ata_reply.specs.declared.reply.Reply.TheVariants as replies
 use Rattle.sata_disk.specs.{State.{DiskState, new_disk}, declared.out.Out.Out}
-use Rattle.sata_disk.specs.declared.out.Out.TheVariants as out
 use Rattle.sata_disk_books.specs.LastData.{sets_up_last}
-use Rattle.sata_disk_laws.specs.{Calls.{AreCalls, Call, Sends, after_calls}, Laws.reached, Once.{ForAnswer, ForEnd, ForLast, ForNothing, ForSignature}}
-use Rattle.sata_disk_laws.specs.Once.{Host, Wait, data_got_by, host_of, new_host, out_got, reply_got}
+use Rattle.sata_disk_laws.specs.{Calls.{AreCalls, Call, Sends, after_calls}, Laws.reached}
+use Rattle.sata_disk_laws.specs.Once.{Host, host_of, new_host, out_got}
 use Rattle.sata_disk_laws.proofs.Door.{calls_after, calls_both}
 use Rattle.ahci_machine.specs.{States.{IsOpeningMachine, MachineState, bay_at}, declared.bay.Unit.TheVariants.Disk}
 use Rattle.ahci_machine.specs.declared.act.Act.TheVariants as act
 use Rattle.machine_laws.specs.{ControllerLaws.{RunsRuled, calls_in}, Controllers.{ControllerGoesOn, GathersDue, StaysDue, deed_calls}}
 use Rattle.machine_laws.specs.{Deeds.{Deed, Does, Moved}, Disks.calls_at, Falling.{AllLast, HasLink}, Rising.{came_by, sent_by}}
 use Rattle.machine_theorem.specs.{Brought.{AllTakenWell, DiskStretch}, Crossing.Within, Ending.{AllKeepEnding, AllUnqueued, UnqueuedCommandsWait}}
-use Rattle.machine_theorem.specs.{Ending.carries, Identity.calls_of, InTurn.{AreKeptOn, IsIdle, heard_in, is_answer, is_answering, is_register}}
+use Rattle.machine_theorem.specs.{Ending.carries, Identity.calls_of, InTurn.{AreKeptOn, IsIdle, heard_in, is_answer, is_answering}}
 use Rattle.machine_theorem.specs.{OwnSlots.{AllKeepLine, KeepsLine, NoneLost, is_of}, PioReads.AllKeepUnqueued, ReadsWritten.NoneTaken}
 use Rattle.machine_theorem.specs.{Settled.{AreSettled, is_data, is_settling, settled_in}, Singles.BeginsIdle, Tags.once_if, Waits.waits_in}
 use Rattle.machine_theorem.proofs.{Answered.heard_both, Closing.{data_keeps, due, due_shut, taken_kinds}, Cut.{Cut, last_of, total}, EndedByData.says_data}
 use Rattle.machine_theorem.proofs.{EndsFew.sent_of, Fallen.left_there, Falls.{Told, told_after, told_now}, FallsFew.came_of}
 use Rattle.machine_theorem.proofs.{KindsSent.{frames_kinds, said_kinds, said_long, sent_within}, Ordered.first_ruled, Own.last_ruled}
+use Rattle.machine_theorem.proofs.NotLast.{free_not_last, out_not_last}
 use Rattle.machine_theorem.proofs.{OwnPlace.{Found, InOrder, cancel, find}, PioOwn.{Stretch, calls, came, commanded, events}, RegistersSent.says}
 use Rattle.machine_theorem.proofs.{RisenTold.conn_both, SentFises.{GoneOn, speaks_one, spoken_in, stretch_made}, Settled.settled_both}
 use Rattle.machine_theorem.proofs.{Shutting.is_shut, SinglesOwn.kept_first, TagCounts.host_then, WaitingRun.{WaitingRun, leaves, sends_to, waiting_run}}
@@ -81,40 +79,6 @@ sent_first (x ∷ xs) rest (y ∷ front) back o is less =
 
     tail : x ∷ (xs ++ rest) ≡ y ∷ (front ++ Sends o ∷ back) → xs ++ rest ≡ front ++ Sends o ∷ back
     tail e = cc
-
--- ---- behind a Register FIS or Data the host does not wait for the last Data
-
-no_last : {C : Type 0} → ForNothing ≡ ForLast → C
-no_last e = absurd (cc)
-
-data_not_last : (h : Host) (w : Wait) → w ≡ h.waits → (data_got_by h w).waits ≡ ForLast → ⊥
-data_not_last h ForLast same last = no_last last
-data_not_last h ForNothing same last = no_last (same ∙ last)
-data_not_last h ForSignature same last = let e : ForSignature ≡ ForLast = same ∙ last in cc
-data_not_last h (ForAnswer tag) same last = let e : ForAnswer tag ≡ ForLast = same ∙ last in cc
-data_not_last h ForEnd same last = let e : ForEnd ≡ ForLast = same ∙ last in cc
-
-register_not_last : (h : Host) (r : Reply) → is_register r ≡ true → (reply_got h r).waits ≡ ForLast → ⊥
-register_not_last h replies.Signature is last = no_last last
-register_not_last h replies.Accepted is last = no_last last
-register_not_last h replies.Done is last = no_last last
-register_not_last h replies.Active is last = no_last last
-register_not_last h replies.Healthy is last = no_last last
-register_not_last h (replies.Failed f) is last = no_last last
-register_not_last h other is last = absurd (false≢true is)
-
-out_not_last : (h : Host) (o : Out) → (is_answer o ≡ true) ⊎ (is_data o ≡ true) → (out_got h o).waits ≡ ForLast → ⊥
-out_not_last h (out.Own r) (inl is) last = register_not_last h r is last
-out_not_last h (out.Beside r) (inl is) last = register_not_last h r is last
-out_not_last h (out.Of p r) (inl is) last = register_not_last h r is last
-out_not_last h (out.Page p) (inr is) last = data_not_last h h.waits refl last
-out_not_last h (out.Data p n) (inr is) last = data_not_last h h.waits refl last
-out_not_last h other (inl is) last = absurd (false≢true is)
-out_not_last h other (inr is) last = absurd (false≢true is)
-
-free_not_last : (w : Wait) → (w ≡ ForNothing) ⊎ (w ≡ ForLast) → (w ≡ ForLast → ⊥) → w ≡ ForNothing
-free_not_last w (inl none) never = none
-free_not_last w (inr last) never = absurd (never last)
 
 -- ---- a deed by which a slot leaves the state of waiting
 

@@ -1,6 +1,6 @@
 -- The FISes of a stretch of calls that are commands for a disk are those of slots of its device.
-use Rattle.std.proofs.Common.{◌≡◌, ℕ, zero, suc, ◌+◌, ◌≤◌, ◌&&◌, Bool, true, false, List, [], ◌∷◌, ◌++◌, append_assoc, append-nil, length, map}
-use Rattle.std.proofs.{Common.{Result, Ok, Err, refl, sym, ap, subst, ◌∙◌, arith}, lemmas.{Bool.{eq-eqb, false≢true}, Grind.{flat_map-append}}}
+use Rattle.std.proofs.Common.{◌≡◌, ℕ, ◌≤◌, ◌&&◌, Bool, true, false, List, [], ◌∷◌, ◌++◌, length, map}
+use Rattle.std.proofs.{Common.{Result, Ok, Err, refl, sym, ap, ◌∙◌, arith}, lemmas.{Bool.{eq-eqb, false≢true}, Grind.{flat_map-append}}}
 use Rattle.std.proofs.lemmas.List.{length-append}
 use Rattle.std.specs.{Prelude.{◌==◌, if◌then◌else◌}, List.flat_map}
 use Rattle.fis_view.specs.{Frames.{Stamped, marked}, Seen.seen, declared.view.{Fis.Fis, FisFault.FisFault}}
@@ -14,9 +14,9 @@ use Rattle.sata_disk.specs.Hearing.{is_command}
 use Rattle.sata_disk_laws.specs.{Calls.{Answers, Asks, Call, Hears, Plugs, Sends, Starts}, Once.place_in}
 use Rattle.ahci_machine.specs.{Gathers.host_stamp, States.MachineState}
 use Rattle.machine_laws.specs.{ControllerLaws.{RunsRuled, calls_in}, Controllers.deed_calls, Deeds.Deed, Falling.{heard_by, sent_by, sent_in}}
-use Rattle.machine_theorem.specs.{Ending.AllUnqueued, Identity.{heard_as, is_for, picks}, InTurn.{commands, heard_in, is_asking}, Singles.AllOfDevice}
-use Rattle.machine_theorem.specs.{Tags.{asks_with, once_if}, Following.AllHeardWell, Waits.{AllKeepWaiting, commanded_in, is_commanded, taken_in}}
-use Rattle.machine_theorem.proofs.{Asking.{AllDataAskNone, DataAskNone}, Fallen.{if_one, map_both}, OneConn.no_length, Within.picks_both}
+use Rattle.machine_theorem.specs.{Identity.{heard_as, is_for, picks}, InTurn.{commands, heard_in, is_asking}, Singles.AllOfDevice}
+use Rattle.machine_theorem.specs.{Tags.{asks_with, once_if}, Waits.{commanded_in, is_commanded}}
+use Rattle.machine_theorem.proofs.{Asking.{AllDataAskNone, DataAskNone}, Fallen.{if_one, map_both}, Within.picks_both}
 
 -- ---- what a disk heard
 
@@ -189,111 +189,3 @@ module _ (many : Bool) (n : ℕ) where
         let rest = asked_few later run.1.0 now run.1.2 none.1 of.1 in
         let both = ap (λ (l : List (List ℕ)). length l) (asked_both (e ∷ []) later) ∙ length-append (asked (e ∷ [])) (asked later) in
         omega (arith, first, rest, both)
-
-    -- ---- the last of them
-
-    pub record LastAsked (old : ControllerState) (events : List Event) (now : ControllerState) (run : Runs old events now) : Type 0 where
-      pub before : List Event
-      pub at : ControllerState
-      pub led : Runs old before at
-      pub to : ℕ
-      pub slot : ℕ
-      pub fis : List ℕ
-      pub later : List Event
-      pub rest : Runs at (call.Turned (next.Order to slot fis) ∷ later) now
-      pub is : events ≡ before ++ call.Turned (next.Order to slot fis) ∷ later
-      pub own : is_for many n (record { bytes = fis; stamp = host_stamp to }) ≡ true
-      pub asks : is_asking (marked fis 0) ≡ true
-      pub last : asked events ≡ asked before ++ marked fis 0 ∷ []
-      pub commanded : commanded_in dev old events now run ≡ commanded_in dev old before at led + commanded_in dev at (call.Turned (next.Order to slot fis) ∷ later) now rest
-      pub taken : taken_in dev events ≡ taken_in dev before + taken_in dev later
-      pub none : AreNoCommands before
-      pub of : AllOfDevice many n dev old before at led
-      pub of_rest : AllOfDevice many n dev at (call.Turned (next.Order to slot fis) ∷ later) now rest
-      pub keeps : AllKeepWaiting dev old before at led
-      pub keeps_rest : AllKeepWaiting dev at (call.Turned (next.Order to slot fis) ∷ later) now rest
-      pub well : AllHeardWell dev old events now run → AllHeardWell dev old before at led × AllHeardWell dev at (call.Turned (next.Order to slot fis) ∷ later) now rest
-      pub unqueued : AllUnqueued dev old events now run → AllUnqueued dev old before at led × AllUnqueued dev at (call.Turned (next.Order to slot fis)
-          ∷ later) now rest
-
-    here_at : (to slot : ℕ) (fis : List ℕ) (later : List Event) (old now : ControllerState) (run : Runs old (call.Turned (next.Order to slot fis) ∷ later) now)
-        → AllOfDevice many n dev old (call.Turned (next.Order to slot fis) ∷ later) now run → AllKeepWaiting dev old (call.Turned (next.Order to slot fis) ∷ later) now run
-        → is_for many n (stamped to fis) ≡ true → is_asking (marked fis 0) ≡ true → asked (call.Turned (next.Order to slot fis) ∷ []) ≡ marked fis 0 ∷ [] → asked later ≡ []
-        → LastAsked old (call.Turned (next.Order to slot fis) ∷ later) now run
-    here_at to slot fis later old now run of keeps own asks one none =
-        let x : Event = call.Turned (next.Order to slot fis) in
-        record {
-          before = [];
-          at = old;
-          led = (run.0, refl);
-          to = to;
-          slot = slot;
-          fis = fis;
-          later = later;
-          rest = run;
-          is = refl;
-          own = own;
-          asks = asks;
-          last = asked_both (x ∷ []) later ∙ ap (λ (l : List (List ℕ)). asked (x ∷ []) ++ l) none ∙ append-nil (asked (x ∷ [])) ∙ one;
-          commanded = omega arith;
-          taken = omega arith;
-          none = tt;
-          of = tt;
-          of_rest = of;
-          keeps = tt;
-          keeps_rest = keeps;
-          well = λ w. (tt, w);
-          unqueued = λ w. (tt, w);
-        }
-
-    -- it is the first call
-    here : (e : Event) (later : List Event) (old now : ControllerState) (run : Runs old (e ∷ later) now) → AllOfDevice many n dev old (e ∷ later) now run → AllKeepWaiting dev old (e ∷ later) now run
-        → IsAsking e → asked later ≡ [] → LastAsked old (e ∷ later) now run
-    here e later old now run of keeps it none =
-        subst (λ (x : Event). (run : Runs old (x ∷ later) now) → AllOfDevice many n dev old (x ∷ later) now run → AllKeepWaiting dev old (x ∷ later) now run → asked (x ∷ []) ≡ marked it.fis 0 ∷ []
-        → LastAsked old (x ∷ later) now run) (sym it.is) (λ run of keeps one. here_at it.to it.slot it.fis later old now run of keeps it.own it.asks one none) run of keeps (asked_one e it)
-
-    -- it is a later one
-    more : (e : Event) (later : List Event) (old now : ControllerState) (run : Runs old (e ∷ later) now) → IsNoCommand e → AllOfDevice many n dev old (e ∷ later) now run
-        → AllKeepWaiting dev old (e ∷ later) now run → LastAsked run.1.0 later now run.1.2 → LastAsked old (e ∷ later) now run
-    more e later old now run none of keeps l =
-        let x : Event = call.Turned (next.Order l.to l.slot l.fis) in
-        let commanded = l.commanded in
-        let taken = l.taken in
-        record {
-          before = e ∷ l.before;
-          at = l.at;
-          led = (run.0, (run.1.0, run.1.1, l.led));
-          to = l.to;
-          slot = l.slot;
-          fis = l.fis;
-          later = l.later;
-          rest = l.rest;
-          is = ap (λ (k : List Event). e ∷ k) l.is;
-          own = l.own;
-          asks = l.asks;
-          last = asked_both (e ∷ []) later ∙ ap (λ (k : List (List ℕ)). asked (e ∷ []) ++ k) l.last ∙ sym (append_assoc (asked (e ∷ [])) (asked l.before) (marked l.fis 0 ∷ []))
-              ∙ ap (λ (k : List (List ℕ)). k ++ marked l.fis 0 ∷ []) (sym (asked_both (e ∷ []) l.before));
-          commanded = omega (arith, commanded);
-          taken = omega (arith, taken);
-          none = (none, l.none);
-          of = (of.0, l.of);
-          of_rest = l.of_rest;
-          keeps = (keeps.0, l.keeps);
-          keeps_rest = l.keeps_rest;
-          well = λ w. let r = l.well w.1 in ((w.0, r.0), r.1);
-          unqueued = λ w. let r = l.unqueued w.2 in ((w.0, w.1, r.0), r.1);
-        }
-
-    pub last_asked : (events : List Event) (old now : ControllerState) (run : Runs old events now) → AreNoCommands events → AllOfDevice many n dev old events now run
-        → AllKeepWaiting dev old events now run → 1 ≤ length (asked events) → LastAsked old events now run
-    last_asked [] old now run none of keeps some = absurd (omega (arith, some))
-    last_asked (e ∷ later) old now run none of keeps some =
-        by (length (asked later)) refl (λ more_some. last_asked later run.1.0 now run.1.2 none.1 of.1 keeps.1 more_some)
-      where
-        both : length (asked (e ∷ later)) ≡ length (asked (e ∷ [])) + length (asked later)
-        both = ap (λ (l : List (List ℕ)). length l) (asked_both (e ∷ []) later) ∙ length-append (asked (e ∷ [])) (asked later)
-
-        by : (k : ℕ) → length (asked later) ≡ k → (1 ≤ length (asked later) → LastAsked run.1.0 later now run.1.2) → LastAsked old (e ∷ later) now run
-        by zero is tail = here e later old now run of keeps (asking_is e none.0 (omega (arith, both, some, is))) (no_length (asked later) is)
-        by (suc k) is tail = more e later old now run none.0 of keeps (tail (omega (arith, is)))

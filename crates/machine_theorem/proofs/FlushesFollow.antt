@@ -3,7 +3,7 @@ use Rattle.std.proofs.{Common.{◌≡◌, ℕ, Bool, true, false, List, [], ◌�
 use Rattle.std.proofs.lemmas.List.{append-nil}
 use Rattle.std.specs.Prelude.{◌==◌, if◌then◌else◌}
 use Rattle.fis_view.specs.Frames.{Stamped}
-use Rattle.slots.specs.Slots.{Issue, is_pio}
+use Rattle.slots.specs.Slots.{Issue}
 use Rattle.ahci_controller.specs.States.{ControllerState}
 use Rattle.controller_laws.specs.Events.{Event, Runs}
 use Rattle.block_disk.specs.Laws.{Page}
@@ -25,7 +25,7 @@ use Rattle.machine_laws.specs.{ControllerLaws.{RunsRuled, calls_in}, Deeds.{Deed
 use Rattle.machine_theorem.specs.{FirstDeeds.{first_deeds, first_run, machine_at}, Flushes.{IsFlushDone, OfSingles}, FlushesFollow.AreLeft}
 use Rattle.machine_theorem.specs.FlushesFollow.{FlushesWrites, HasEnded, IsReachedStill, IsStoredAndFlushed, WasCompleted, WasWritten}
 use Rattle.machine_theorem.specs.{FlushesFollow.WasCompleted.{Queued, Single}, Flushing.{IsFlushed, is_flushing}, Identity.calls_of}
-use Rattle.machine_theorem.specs.{InTurn.IsUnanswered, Singles.StartsWith}
+use Rattle.machine_theorem.specs.{Settled.IsUnsettled, Singles.StartsWith}
 use Rattle.machine_theorem.proofs.{FlushesOwn.{left_until, line_left, still_one}, TagCounts.{first_calls, one_call_more}, Transferring.rest_calls}
 
 -- ---- what is known of a sector comes from a store that was answered
@@ -210,12 +210,13 @@ module _ (n : ℕ) (old : MachineState) (before : List Deed) (at : MachineState)
       }
   ended_so (Single dev slot issue f done said is) =
       let until : List Call = calls_of n at done.sooner done.mid done.led in
+      let more : List Call = calls_of n done.after done.later now done.rest in
       record {
         ended = base ++ until;
         end = out.Of 32 replies.Done;
-        later = done.more ++ rest;
-        is = cut_of base until done.more rest (calls_of n at deeds now run) calls (Sends (out.Of 32 replies.Done)) are
-            (done.calls ∙ ap (λ (o : Out). until ++ Sends o ∷ done.more) said);
+        later = more ++ rest;
+        is = cut_of base until more rest (calls_of n at deeds now run) calls (Sends (out.Of 32 replies.Done)) are
+            (done.own ∙ ap (λ (o : Out). until ++ Sends o ∷ more) said);
         place = 32;
         ends = refl;
         page = (done.slots said).books ∙ ap Some is;
@@ -287,9 +288,9 @@ joined p limit calls first since h written s split e st fl =
 module _ (keeps : WritesAreKept) (n dev slot : ℕ) (old : MachineState) (before : List Deed) (at : MachineState) (first : RunsRuled old before at) (deeds : List Deed) (now : MachineState)
     (run : RunsRuled at deeds now) (p : Profile) (limit : ℕ) (base : List Call) (issue : Issue) (f : Stamped)
     (flush : IsFlushDone n dev slot old before at first deeds now run p limit base issue f) (are : AreCalls (new_disk p limit) (base ++ calls_of n at flush.done.sooner flush.done.mid flush.done.led))
-    (plain : is_pio issue.work.kind ≡ false) (flushing : is_flushing (flush.done.answers (flush.done.register plain)).command.bytes ≡ true) where
-  abbrev command : IsUnanswered (calls_of n at flush.done.sooner flush.done.mid flush.done.led)
-  command = (flush.done.answers (flush.done.register plain)).command
+    (flushing : is_flushing (flush.done.answers flush.answering).command.bytes ≡ true) where
+  abbrev command : IsUnsettled base (calls_of n at flush.done.sooner flush.done.mid flush.done.led)
+  command = (flush.done.answers flush.answering).command
 
   behind_end : (written : Page) → HasEnded p limit (base ++ command.front) written → (s : ℕ) → covers written.command.lba written.command.count s ≡ true
       → IsStoredAndFlushed p limit (base ++ calls_of n at flush.done.sooner flush.done.mid flush.done.led) written s
@@ -301,7 +302,7 @@ module _ (keeps : WritesAreKept) (n dev slot : ℕ) (old : MachineState) (before
       let front : AreCalls (new_disk p limit) (base ++ command.front) =
       first_calls (base ++ command.front) (x ∷ command.later) (new_disk p limit) (subst (AreCalls (new_disk p limit)) split are) in
       joined p limit calls (base ++ command.front) command.later x written s split e
-      (write_stored keeps p limit (base ++ command.front) written front e s covered) (flush.flushed plain flushing).flush
+      (write_stored keeps p limit (base ++ command.front) written front e s covered) (flush.flushed flushing).flush
 
   behind_seen : (written : Page) → WasWritten n old at p limit base written → (s : ℕ) → covers written.command.lba written.command.count s ≡ true
       → IsStoredAndFlushed p limit (base ++ calls_of n at flush.done.sooner flush.done.mid flush.done.led) written s
@@ -309,14 +310,14 @@ module _ (keeps : WritesAreKept) (n dev slot : ℕ) (old : MachineState) (before
       behind_end written (ended_more p limit base command.front written
       (ended_so n old was.before was.at was.first was.deeds was.seen was.run p limit was.base base (calls_of n was.seen was.since at was.rest) written was.writes was.are was.completed))
 
-  behind_here : (k : ℕ) (since : List Event) → (flush.done.answers (flush.done.register plain)).slots.ordered.before
+  behind_here : (k : ℕ) (since : List Event) → (flush.done.answers flush.answering).slots.ordered.before
       ≡ calls_in at (first_deeds k deeds) (machine_at k at deeds now run) (first_run k at deeds now run) ++ since
       → (written : Page) → WasWritten n old (machine_at k at deeds now run) p limit (base ++ calls_of n at (first_deeds k deeds) (machine_at k at deeds now run) (first_run k at deeds now run)) written
       → (s : ℕ) → covers written.command.lba written.command.count s ≡ true
       → IsStoredAndFlushed p limit (base ++ calls_of n at flush.done.sooner flush.done.mid flush.done.led) written s
   behind_here k since sent written was =
       let first : List Call = calls_of n at (first_deeds k deeds) (machine_at k at deeds now run) (first_run k at deeds now run) in
-      let w : StartsWith first command.front = flush.done.went (flush.done.register plain) k since sent in
+      let w : StartsWith first command.front = flush.done.went flush.answering k since sent in
       behind_end written (subst (λ (l : List Call). HasEnded p limit l written) (append_assoc base first w.more ∙ ap (λ (l : List Call). base ++ l) (sym w.is))
       (ended_more p limit (base ++ first) w.more written
       (ended_so n old was.before was.at was.first was.deeds was.seen was.run p limit was.base (base ++ first) (calls_of n was.seen was.since (machine_at k at deeds now run) was.rest) written was.writes was.are
@@ -325,17 +326,17 @@ module _ (keeps : WritesAreKept) (n dev slot : ℕ) (old : MachineState) (before
 pub flushes_follow : DisksGoOn → WritesAreKept → (Waits : (dev : ℕ) → (old : ControllerState) → (events : List Event) → (now : ControllerState) → Runs old events now → Type 0)
     → OfSingles Waits IsFlushDone → OfSingles Waits FlushesWrites
 flushes_follow disks keeps Waits flushes ports legacy old opening before at first many n c dev slot below dev_low low begins p limit base are same idle deeds now run has_link lasts line on runs of waiting
-    took new does rules own shows hides none issue there mine plain =
+    took new does rules own shows hides none issue there mine plain other =
     let f : Stamped = does.does.frame in
     let flush : IsFlushDone n dev slot old before at first deeds now run p limit base issue f =
     flushes ports legacy old opening before at first many n c dev slot below dev_low low begins p limit base are same idle deeds now run has_link lasts line on runs of waiting
-    took new does rules own shows hides none issue there mine plain in
+    took new does rules own shows hides none issue there mine plain other in
     let left : AreLeft n flush.done.sooner = left_until n flush.done.sooner (Moved (act.Speaks n flush.done.said)) flush.done.later deeds flush.done.is (line_left many n c dev deeds at now run line) in
     let it : IsReachedStill n flush.done.mid p limit (base ++ calls_of n at flush.done.sooner flush.done.mid flush.done.led) =
     still_one disks n at p limit base (record { are = are; there = begins.there ∙ ap Disk same }) flush.done.sooner flush.done.mid flush.done.led left in
     record {
       flush = flush;
-      ended = λ other flushing. behind_end keeps n dev slot old before at first deeds now run p limit base issue f flush it.are other flushing;
-      seen = λ other flushing. behind_seen keeps n dev slot old before at first deeds now run p limit base issue f flush it.are other flushing;
-      here = λ other flushing. behind_here keeps n dev slot old before at first deeds now run p limit base issue f flush it.are other flushing;
+      ended = behind_end keeps n dev slot old before at first deeds now run p limit base issue f flush it.are;
+      seen = behind_seen keeps n dev slot old before at first deeds now run p limit base issue f flush it.are;
+      here = behind_here keeps n dev slot old before at first deeds now run p limit base issue f flush it.are;
     }

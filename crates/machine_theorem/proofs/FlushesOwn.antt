@@ -1,5 +1,5 @@
 -- A FLUSH CACHE whose bit of PxCI falls: the disk had heard it while its host waited for nothing, and answered it by an end. So its caller had flushed.
-use Rattle.std.proofs.Common.{◌≡◌, ℕ, ◌+◌, Bool, true, List, [], ◌∷◌, ◌++◌, append_assoc, Some, sym, ap, subst, ◌∙◌, inl, inr, arith, refl}
+use Rattle.std.proofs.{Common.{◌≡◌, ℕ, Bool, true, List, [], ◌∷◌, ◌++◌, append_assoc, Some, sym, ap, subst, ◌∙◌, inl, inr, arith, refl}, lemmas.Bool.{false≢true}}
 use Rattle.fis_view.specs.Frames.{Stamped}
 use Rattle.slots.specs.Slots.{Issue}
 use Rattle.ahci_controller.specs.States.{ControllerState}
@@ -7,22 +7,21 @@ use Rattle.controller_laws.specs.Events.{Event, Runs}
 use Rattle.disk_pages.specs.declared.profile.Profile.{Profile}
 use Rattle.sata_disk.specs.{Sending.{IsFis, IsOut}, State.{DiskState, new_disk}, declared.out.Out.Out}
 use Rattle.sata_disk.specs.declared.out.Out.TheVariants as out
-use Rattle.sata_disk_laws.specs.{Calls.{AreCalls, Call, Hears, Sends, after_calls}, Laws.reached, Once.{host_of, new_host}}
+use Rattle.sata_disk_laws.specs.{Calls.{AreCalls, Call, Hears, Sends, after_calls}, Laws.reached}
 use Rattle.sata_disk_laws.proofs.Door.{calls_after, calls_both}
 use Rattle.ahci_machine.specs.{States.{MachineState, bay_at}, declared.bay.Unit.TheVariants.Disk}
 use Rattle.ahci_machine.specs.declared.act.Act.TheVariants as act
 use Rattle.machine_laws.specs.{ControllerLaws.RunsRuled, Deeds.{Deed, Does, Moved}, Disks.{DisksGoOn, GoesOn, calls_at}, Rising.risen}
 use Rattle.machine_theorem.specs.{Completed.CompletionsAreOfDevices, Flushes.{IsFlushDone, OfSingles}, FlushesFollow.{AreLeft, DisksAreReachedStill}}
 use Rattle.machine_theorem.specs.{FlushesFollow.IsReachedStill, Flushing.{FlushesEndSo, HasFlushed, is_failure, is_flushing}, Given.IsWhole}
-use Rattle.machine_theorem.specs.{Identity.calls_of, InTurn.{AreKeptOn, CommandsGoInTurn, IsIdle, IsUnanswered, answered_in, is_answering}}
-use Rattle.machine_theorem.specs.{OwnSlots.AllKeepLine, Singles.{IsDoneSingle, IsSlotsAnswer, SinglesAreOfSlotsIf}}
-use Rattle.machine_theorem.proofs.{Answered.answered_both, EndsFew.disk_same, ErrorNone.{IsErrorFis, failed_fis}, Fallen.left_there, OwnPlace.head_or}
-use Rattle.machine_theorem.proofs.{SinglesOwn.{kept_behind, kept_first, no_error}, Stretch.whole_run, TagCounts.first_calls}
+use Rattle.machine_theorem.specs.{Identity.calls_of, InTurn.{AreKeptOn, is_answering}, OwnSlots.AllKeepLine, PioIn.{IsAnsweredThere, IsDoneThere}}
+use Rattle.machine_theorem.specs.{PioIn.UnqueuedAreOfSlotsIf, Settled.IsUnsettled}
+use Rattle.machine_theorem.proofs.{EndedByData.answered_less, EndsFew.disk_same, ErrorNone.{IsErrorFis, failed_fis}, Fallen.left_there, OwnPlace.head_or}
+use Rattle.machine_theorem.proofs.{SinglesOwn.{kept_behind, kept_first, no_error}, Stretch.whole_run}
 
 pub record Laws : Type 0 where
   pub completed : CompletionsAreOfDevices
   pub disks : DisksGoOn
-  pub turn : CommandsGoInTurn
   pub flush : FlushesEndSo
 
 -- ---- a disk that stays at its port
@@ -79,8 +78,8 @@ failure_is old k other new does is = absurd (cc)
 
 module _ (laws : Laws) (n dev slot : ℕ) (old : MachineState) (before : List Deed) (at : MachineState) (first : RunsRuled old before at) (deeds : List Deed) (now : MachineState)
     (run : RunsRuled at deeds now) (p : Profile) (limit : ℕ) (base : List Call) (issue : Issue) (f : Stamped)
-    (done : IsDoneSingle n dev slot old before at first deeds now run p limit base issue f) (d : DiskState) (there : (bay_at at n).unit ≡ Disk d) (same : d ≡ reached p limit base)
-    (are : AreCalls (new_disk p limit) base) (idle : IsIdle (host_of new_host base)) (left : AreLeft n deeds) (on : AreKeptOn (calls_of n at deeds now run))
+    (done : IsDoneThere n dev slot old before at first deeds now run p limit base issue f) (d : DiskState) (there : (bay_at at n).unit ≡ Disk d) (same : d ≡ reached p limit base)
+    (are : AreCalls (new_disk p limit) base) (left : AreLeft n deeds) (on : AreKeptOn (calls_of n at deeds now run))
     (well : IsErrorFis f.bytes → ⊥) where
   abbrev then' : List Call
   then' = calls_of n at done.sooner done.mid done.led
@@ -106,21 +105,17 @@ module _ (laws : Laws) (n dev slot : ℕ) (old : MachineState) (before : List De
   has_flushed : (answering : is_answering f.bytes ≡ true) → is_flushing (done.answers answering).command.bytes ≡ true → HasFlushed (done.answers answering).command.later done.said
   has_flushed answering flushing =
       let h = done.does.does.does.1 in
-      let a : IsSlotsAnswer dev slot old before at first deeds now run then' done.said = done.answers answering in
-      let u : IsUnanswered then' = a.command in
+      let a : IsAnsweredThere dev slot old before at first deeds now run base then' done.said = done.answers answering in
+      let u : IsUnsettled base then' = a.command in
       let x : Call = Hears u.bytes in
       let t : IsThen = is_then in
       let split : base ++ then' ≡ (base ++ u.front) ++ x ∷ u.later = ap (λ (l : List Call). base ++ l) u.split ∙ sym (append_assoc base u.front (x ∷ u.later)) in
       let whole : AreCalls (new_disk p limit) ((base ++ u.front) ++ x ∷ u.later) = subst (AreCalls (new_disk p limit)) split t.whole in
-      let front : AreCalls (new_disk p limit) (base ++ u.front) = first_calls (base ++ u.front) (x ∷ u.later) (new_disk p limit) whole in
-      let on_then : AreKeptOn then' = kept_first then' (Sends done.said ∷ done.more) (subst AreKeptOn done.calls on) in
+      let on_then : AreKeptOn then' = kept_first then' (Sends done.said ∷ calls_of n done.after done.later now done.rest) (subst AreKeptOn done.own on) in
       let on_both : AreKeptOn (u.front ++ x ∷ u.later) = subst AreKeptOn u.split on_then in
-      let all : answered_in then' ≡ answered_in u.front + (0 + answered_in u.later) = ap answered_in u.split ∙ answered_both u.front (x ∷ u.later) in
+      let less = answered_less u.later in
       let quiet = u.quiet in
-      let few = a.prior in
-      let idle_then : IsIdle (host_of new_host (base ++ u.front)) =
-      (laws.turn p limit base u.front front idle (kept_first u.front (x ∷ u.later) on_both)).idle (omega (arith, few, all, quiet)) in
-      elim (laws.flush p limit (base ++ u.front) u.bytes u.later whole flushing idle_then (kept_behind u.front x u.later on_both) a.none u.quiet done.said h.frame.bytes
+      elim (laws.flush p limit (base ++ u.front) u.bytes u.later whole flushing u.idle (kept_behind u.front x u.later on_both) a.none (omega (arith, less, quiet)) done.said h.frame.bytes
       (subst (λ (l : List Call). IsOut (reached p limit l) (Some done.said)) split t.says) (subst (λ (l : List Call). IsFis (reached p limit l) done.said h.frame.bytes) split t.fis) a.answer) [
         | inl is ↦ is
         | inr failed ↦ absurd (well (subst (λ (y : Stamped). IsErrorFis y.bytes) (ap (λ (l : List Stamped). head_or f l) done.sent) (failure_is done.mid n done.said done.after done.does failed)))
@@ -128,18 +123,19 @@ module _ (laws : Laws) (n dev slot : ℕ) (old : MachineState) (before : List De
 
 -- ---- the law
 
-pub flushes_are : Laws → (Waits : (dev : ℕ) → (old : ControllerState) → (events : List Event) → (now : ControllerState) → Runs old events now → Type 0) → SinglesAreOfSlotsIf Waits
+pub flushes_are : Laws → (Waits : (dev : ℕ) → (old : ControllerState) → (events : List Event) → (now : ControllerState) → Runs old events now → Type 0) → UnqueuedAreOfSlotsIf Waits
     → OfSingles Waits IsFlushDone
 flushes_are laws Waits singles ports legacy old opening before at first many n c dev slot below dev_low low begins p limit base are same idle deeds now run has_link lasts keeps on runs of waiting
-    took new does rules own shows hides none issue there mine plain =
+    took new does rules own shows hides none issue there mine plain other =
     let f : Stamped = does.does.frame in
-    let done : IsDoneSingle n dev slot old before at first deeds now run p limit base issue f =
+    let done : IsDoneThere n dev slot old before at first deeds now run p limit base issue f =
     singles ports legacy old opening before at first many n c dev slot below dev_low low begins p limit base are same idle deeds now run has_link lasts keeps on runs of waiting
-    took new does rules own shows hides none issue there mine plain in
+    took new does rules own shows hides none issue there mine plain (λ pio. absurd (false≢true (sym other ∙ pio))) in
     let whole : IsWhole old before at first deeds now run = whole_run before old at first deeds now run in
     let ended = (laws.completed ports legacy old opening (before ++ deeds) now whole.all took new does rules slot low shows hides none).ended in
     record {
       done = done;
-      flushed = λ other. has_flushed laws n dev slot old before at first deeds now run p limit base issue f done begins.disk begins.there same are idle
+      answering = done.register other;
+      flushed = has_flushed laws n dev slot old before at first deeds now run p limit base issue f done begins.disk begins.there same are
           (line_left many n c dev deeds at now run keeps) on (no_error slot now.controller f.bytes ended) (done.register other);
     }

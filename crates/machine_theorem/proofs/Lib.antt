@@ -105,6 +105,8 @@ mod FirstCalls
 mod SlotFree
 mod CameFirst
 mod HeardBehind
+mod HeardFirst
+mod NotLast
 mod HeardSince
 mod WrittenSupplied
 mod HeardAfter
@@ -121,7 +123,6 @@ mod ErrorNone
 mod SinglesOwn
 mod AllWent
 mod DataTail
-mod PlainDeeds
 mod FedSingles
 mod SingleWritesOwn
 mod AnswersHeard

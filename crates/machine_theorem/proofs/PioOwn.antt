@@ -1,6 +1,6 @@
 -- The command that is not queued, and whose bit of PxCI falls, is the one that its disk ended, be it by a Register FIS or by the last Data of a PIO data-in.
-use Rattle.std.proofs.Common.{◌≡◌, ◌⊎◌, ℕ, suc, ◌+◌, ◌<◌, ◌≤◌, ◌&&◌, Bool, true, false, not, List, [], ◌∷◌, ◌++◌, append_assoc, length, Option, Some}
-use Rattle.std.proofs.{Common.{None, refl, sym, ap, subst, ◌∙◌, inl, inr, arith}, lemmas.{Bool.{eq-eqb}, List.{length-append}}}
+use Rattle.std.proofs.Common.{◌≡◌, ℕ, suc, ◌+◌, ◌<◌, ◌≤◌, ◌&&◌, Bool, true, false, not, List, [], ◌∷◌, ◌++◌, append_assoc, length, Option, Some}
+use Rattle.std.proofs.{Common.{None, refl, sym, ap, subst, ◌∙◌, inl, inr, arith}, lemmas.{Bool.{eq-eqb, false≢true}, List.{length-append}}}
 use Rattle.std.specs.{Prelude.{◌==◌, ◌||◌, if◌then◌else◌, nat_lt, MatchOption}, List.flat_map}
 use Rattle.fis_view.specs.{Frames.{Stamped, marked}, Seen.seen}
 use Rattle.multiplier.specs.Passing.{of_conn}
@@ -18,27 +18,29 @@ use Rattle.sata_disk.specs.{Sending.IsOut, State.{DiskState, new_disk}, declared
 use Rattle.sata_disk.specs.declared.out.Out.TheVariants as out
 use Rattle.sata_disk_books.specs.{Books.page_in, Ended.SinglesAreOfPages, LastData.sets_up_last}
 use Rattle.sata_disk_laws.specs.{Calls.{AreCalls, Call, Hears, Sends, after_calls}, Laws.reached, Once.{AnswersAreSingle, ForLast, ForNothing, Host}}
-use Rattle.sata_disk_laws.specs.Once.{IsDataAt, IsOutDue, Wait, data_got_by, host_after, host_of, new_host}
+use Rattle.sata_disk_laws.specs.Once.{IsDataAt, IsOutDue, host_of, new_host, out_got}
 use Rattle.sata_disk_laws.proofs.Door.{calls_after, calls_both}
-use Rattle.ahci_machine.specs.{States.{IsOpeningMachine, MachineState, bay_at}, declared.bay.Unit.TheVariants.Disk}
+use Rattle.ahci_machine.specs.{Gathers.host_stamp, States.{IsOpeningMachine, MachineState, bay_at}, declared.bay.Unit.TheVariants.Disk}
 use Rattle.ahci_machine.specs.declared.act.Act.TheVariants as act
 use Rattle.machine_laws.specs.{ControllerLaws.{ControllerRuns, OpensSo, RunsRuled, calls_in}, Controllers.GathersDue, Deeds.{Deed, Does}}
 use Rattle.machine_laws.specs.{Deeds.{FrameOffered, Moved}, Disks.{DisksGoOn, calls_at}, Falling.{AllLast, HasLink, heard_by}, Feeding.IsOrderOf}
 use Rattle.machine_laws.specs.{Feeding.IsOrdered, Rising.{AreLinked, Frames, FramesAreTaken, FramesRise, HaveRisen, bytes_of, frames_in, frames_of}}
 use Rattle.machine_laws.specs.Rising.{no_frames, risen, sent_by}
 use Rattle.machine_theorem.specs.{Completed.CompletionsAreOfDevices, Given.IsWhole, Ending.{AllKeepEnding, SentLastWait, UnqueuedCommandsWait}}
-use Rattle.machine_theorem.specs.{Ending.carries, Identity.{calls_of, picks}, InTurn.{AreKeptOn, IsIdle, heard_in, is_answer, is_answering}}
+use Rattle.machine_theorem.specs.{Ending.carries, Identity.{calls_of, is_for, picks}, InTurn.{AreKeptOn, IsIdle, heard_in, is_answer, is_answering}}
 use Rattle.machine_theorem.specs.{InTurn.is_asking, OwnSlots.{AllKeepLine, KeepsLine, is_of}, PioIn.{IsAnsweredThere, IsDoneThere, IsEndedThere}}
 use Rattle.machine_theorem.specs.{PioIn.{IsLeftIdle, IsWholeThere, PlainUnqueuedAreOfSlots, UnqueuedAreOfSlots}, Settled.AreSettled}
 use Rattle.machine_theorem.specs.Settled.{CommandsAreSettledInTurn, IsAskedInTurn, IsBehindLastBlock, IsSettledLast, IsUnsettled, SectorsEndByData}
-use Rattle.machine_theorem.specs.{Settled.{IsWholeInTurn, is_data, settled_in}, Singles.{AllOfDevice, BeginsIdle, IsFromSlot, IsSlots}, Tags.once_if}
+use Rattle.machine_theorem.specs.{FirstDeeds.{first_deeds, first_run, machine_at}, Settled.{IsWholeInTurn, is_data, is_settling, settled_in}}
+use Rattle.machine_theorem.specs.{Singles.{AllOfDevice, BeginsIdle, IsFromSlot, IsSlots, StartsWith}, Tags.once_if}
 use Rattle.machine_theorem.specs.{Transfers.{TransfersEndSo, is_transferring}, Waits.{IsWaitingAlone, commanded_in, is_commanded, waits_in}}
 use Rattle.machine_theorem.specs.Crossing.{Within}
 use Rattle.machine_theorem.proofs.{Answered.heard_both, AsSupplied.supplied_in, Asking.all_none as data_none, Closing.{EndsTrue, await_settled, due}}
 use Rattle.machine_theorem.proofs.{Closing.{due_shut, settled_last, taken_kinds}, Commanded.{AreNoCommands, all_none, asked, asked_few, heard_long}}
 use Rattle.machine_theorem.proofs.{EndsFew.{disk_same, sent_of}, ErrorNone.{IsErrorFis, fails_with}, Fallen.{heard_among, line_stays}, Falls.Told}
 use Rattle.machine_theorem.proofs.{Falls.{kept_of, told_after, told_now}, FallsFew.came_of, KindsSent.{frames_kinds, said_kinds, said_long}}
-use Rattle.machine_theorem.proofs.{KindsSent.{sent_within, taken_within}, LastSent.{LastSent, last_sent}, OneConn.ends_same, Ordered.first_ruled}
+use Rattle.machine_theorem.proofs.{HeardFirst.heard_first, KindsSent.{sent_within, taken_within}, LastSent.{LastSent, last_sent}, OneConn.ends_same}
+use Rattle.machine_theorem.proofs.{NotLast.{data_over, free_not_last, out_not_last, waits_none}, Ordered.first_ruled, Settled.settled_both}
 use Rattle.machine_theorem.proofs.{Own.last_ruled, OwnPlace.{Found, InOrder, came_one, find, frames_are, head_or, in_order, linked, port_is}}
 use Rattle.machine_theorem.proofs.{OwnPlace.untaken_is, RegistersSent.says, SentFises.{GoneOn, offers_none, sender_is, stretch_made}, Still.fis_of}
 use Rattle.machine_theorem.proofs.{Stretch.whole_run, Shutting.is_shut, SinglesOwn.{completed_by, completed_waits, earns, kept_behind, kept_first}}
@@ -158,6 +160,10 @@ once_most false = omega arith
 
 abbrev LastOf : Stretch → Type 0
 LastOf s = LastSent s.many s.n s.dev s.at.controller (events s) s.now.controller s.runs.calls
+
+pub either : {A : Type 0} (b : Bool) → (b ≡ true → A) → (b ≡ false → A) → A
+either true one other = one refl
+either false one other = other refl
 
 module _ (laws : Laws) (s : Stretch) where
   abbrev start : ControllerState
@@ -317,16 +323,39 @@ module _ (laws : Laws) (s : Stretch) where
         pub most : commanded s ≤ suc (heard_in front)
 
       -- so it is where no more were settled and are due
-      most_of : (k : ℕ) → settled_in then' + due s.dev end ≤ suc k → commanded s ≤ suc k
+      pub most_of : (k : ℕ) → settled_in then' + due s.dev end ≤ suc k → commanded s ≤ suc k
       most_of k less =
           let among = fewer (taken_kinds s.dev (events s)) (said_kinds then') said in
           let said_many = said_long then' in
           let ordered = (counts laws s).ordered in
           omega (arith, less, among, said_many, ordered)
 
+      pub due_one : due s.dev end ≤ 1
+      due_one = once_most (waits_in s.dev end && not (is_shut s.dev end))
+
+      -- The FIS went from a slot, and no other command for the disk was sent since.
+      pub record WentFrom (slot : ℕ) (bytes : List ℕ) : Type 0 where
+        pub from : IsFromSlot s.dev slot s.old s.before s.at s.first s.deeds s.now s.run bytes
+        pub is_its : is_for s.many s.n (record { bytes = from.order; stamp = host_stamp s.dev }) ≡ true
+        pub last : asked s.many s.n (events s) ≡ asked s.many s.n from.ordered.before ++ marked from.order 0 ∷ []
+
+      -- the disk heard it behind what it did until the FIS went
+      abbrev Went : (front : List Call) → (until : List Event) → Type 0
+      Went front until = (k : ℕ) (since : List Event) → until ≡ calls_in s.at (first_deeds k s.deeds) (machine_at k s.at s.deeds s.now s.run) (first_run k s.at s.deeds s.now s.run) ++ since
+          → StartsWith (calls_of s.n s.at (first_deeds k s.deeds) (machine_at k s.at s.deeds s.now s.run) (first_run k s.at s.deeds s.now s.run)) front
+
+      pub record FromWent (front : List Call) (bytes : List ℕ) (slot : ℕ) : Type 0 where
+        pub source : WentFrom slot bytes
+        pub went : Went front source.from.ordered.before
+
       pub record IsLast (it : IsBehind) : Type 0 where
         pub none : heard_in it.later ≡ 0
+        pub few : heard_in it.front ≤ settled_in then'
         pub slots : IsFrom it.bytes
+        -- the disk heard all commands that were sent, and this one is the last
+        pub more : heard_in (it.later ++ behind) ≡ 0
+        pub all : picks is_asking (flat_map heard_by (calls s)) ≡ asked s.many s.n (events s)
+        pub got : FromWent it.front it.bytes s.slot
 
       -- it is that of the slot
       pub is_last : (it : IsBehind) → IsLast it
@@ -353,30 +382,48 @@ module _ (laws : Laws) (s : Stretch) where
           let whole : IsWhole s.old s.before s.at s.first s.deeds s.now s.run = whole_run s.before s.old s.at s.first s.deeds s.now s.run in
           let went : events s ≡ l.before ++ call.Turned (next.Order s.dev l.slot l.fis) ∷ l.later =
           l.is ∙ ap (λ (j : ℕ). l.before ++ call.Turned (next.Order j l.slot l.fis) ∷ l.later) w.same in
+          let among = fewer (taken_kinds s.dev (events s)) (said_kinds then') said in
+          let said_many = said_long then' in
+          let ordered = q.ordered in
+          let least = due_one in
+          let long_last = ap (λ (x : List (List ℕ)). length x) l.last ∙ length-append (asked s.many s.n l.before) (marked l.fis 0 ∷ []) in
+          let whole_heard = ap (λ (x : List (List ℕ)). length x) same in
+          let prior_heard : length (asked s.many s.n l.before) ≤ heard_in it.front = omega (arith, long_last, whole_heard, long, sum, one, none) in
+          let got : FromWent it.front it.bytes s.slot = subst (λ (j : ℕ). FromWent it.front it.bytes j) (sym here) (record {
+            source = record {
+              from = record {
+                order = l.fis;
+                ordered = record {
+                  before = l.before;
+                  later = l.later;
+                  is = went;
+                  at = l.at;
+                  first = l.led;
+                  ordered = subst (λ (j : ℕ). IsOrdered l.at j l.slot l.fis) w.same (order_at l.at l.rest.1.0 l.to l.slot l.fis l.rest.0 l.rest.1.1);
+                };
+                heard = is;
+                alone = w.waits.alone;
+                whole = whole;
+                supplied = supplied_in laws.falls laws.kept s.ports s.legacy s.old s.opening s.before s.at s.first s.deeds s.now s.run l.slot w.low w.waits.issue w.waits.is whole s.dev l.fis
+                    (record { before = l.before; later = l.later; is = went; alone = w.waits.alone });
+              };
+              is_its = ap (λ (j : ℕ). is_for s.many s.n (record { bytes = l.fis; stamp = host_stamp j })) (sym w.same) ∙ l.own;
+              last = l.last;
+            };
+            went = λ k since first.
+                heard_first laws.falls laws.falling s.ports s.legacy s.old s.opening s.before s.at s.first s.many s.n s.c s.dev s.begins s.deeds s.now s.run s.has_link s.lasts s.keeps
+                it.front it.bytes more split it.asks k l.before since first prior_heard;
+          }) in
           record {
             none = omega (arith, none, both);
-            slots = subst (λ (j : ℕ). IsFromSlot s.dev j s.old s.before s.at s.first s.deeds s.now s.run it.bytes) (sym here) (record {
-              order = l.fis;
-              ordered = record {
-                before = l.before;
-                later = l.later;
-                is = went;
-                at = l.at;
-                first = l.led;
-                ordered = subst (λ (j : ℕ). IsOrdered l.at j l.slot l.fis) w.same (order_at l.at l.rest.1.0 l.to l.slot l.fis l.rest.0 l.rest.1.1);
-              };
-              heard = is;
-              alone = w.waits.alone;
-              whole = whole;
-              supplied = supplied_in laws.falls laws.kept s.ports s.legacy s.old s.opening s.before s.at s.first s.deeds s.now s.run l.slot w.low w.waits.issue w.waits.is whole s.dev l.fis
-                  (record { before = l.before; later = l.later; is = went; alone = w.waits.alone });
-            });
+            few = omega (arith, sum, one, a, b, ordered, among, said_many, least);
+            slots = got.source.from;
+            more = none;
+            all = same;
+            got = got;
           }
 
-      due_one : due s.dev end ≤ 1
-      due_one = once_most (waits_in s.dev end && not (is_shut s.dev end))
-
-      module _ (well : IsErrorFis f.bytes → ⊥) (clear : context_of start.core.slots s.dev ≡ None) where
+      module _ (well : IsErrorFis f.bytes → ⊥) where
         -- ---- a Register FIS
 
         -- of a command that moves sectors it is the end
@@ -396,9 +443,14 @@ module _ (laws : Laws) (s : Stretch) where
               | inr failed ↦ absurd (well (subst (λ (y : Stamped). IsErrorFis y.bytes) (risen_is k o does sent) (fails_with found.cut.mid k o found.cut.next does failed)))
             ]
 
-        is_answers : (k : ℕ) (o : Out) (does : Does found.cut.mid (Moved (act.Speaks k o)) found.cut.next)
-            → sent_by found.cut.mid (Moved (act.Speaks k o)) found.cut.next does ≡ f ∷ [] → is_answering f.bytes ≡ true
-            → IsAnsweredThere s.dev s.slot s.old s.before s.at s.first s.deeds s.now s.run s.base then' o
+        pub record IsAnswers (o : Out) : Type 0 where
+          pub answers : IsAnsweredThere s.dev s.slot s.old s.before s.at s.first s.deeds s.now s.run s.base then' o
+          pub went : Went answers.command.front answers.slots.ordered.before
+          -- no command is heard behind it
+          pub quiet : heard_in behind ≡ 0
+
+        pub is_answers : (k : ℕ) (o : Out) (does : Does found.cut.mid (Moved (act.Speaks k o)) found.cut.next)
+            → sent_by found.cut.mid (Moved (act.Speaks k o)) found.cut.next does ≡ f ∷ [] → is_answering f.bytes ≡ true → IsAnswers o
         is_answers k o does sent answering =
             let t : IsThen o = is_then k o does sent in
             let answer : is_answer o ≡ true =
@@ -407,7 +459,11 @@ module _ (laws : Laws) (s : Stretch) where
             let behind_all = u.behind in
             let one = due_one in
             let it = is_last (record { front = u.front; bytes = u.bytes; later = u.later; split = u.split; asks = u.asks; most = most_of (heard_in u.front) (omega (arith, behind_all, one)) }) in
-            record { command = u; none = it.none; slots = it.slots; answer = answer; ends = ends_it k o does sent t answer u it.none }
+            record {
+              answers = record { command = u; none = it.none; prior = it.few; slots = it.got.source.from; answer = answer; ends = ends_it k o does sent t answer u it.none };
+              went = it.got.went;
+              quiet = let both = heard_both u.later behind in let none = it.more in omega (arith, both, none);
+            }
 
         -- ---- an end by a Register FIS
 
@@ -427,7 +483,7 @@ module _ (laws : Laws) (s : Stretch) where
             let it = is_last (record { front = turn.front; bytes = turn.asked.bytes; later = turn.asked.later; split = turn.split; asks = turn.asks; most = most_of (heard_in turn.front) (omega (arith, behind_all, one)) }) in
             record { page = e.page; books = e.is; earned = e.earned; asked = turn.asked; slots = it.slots }
 
-        done_slots : (o : Out) (does : Does found.cut.mid (Moved (act.Speaks s.n o)) found.cut.next)
+        pub done_slots : (o : Out) (does : Does found.cut.mid (Moved (act.Speaks s.n o)) found.cut.next)
             → sent_by found.cut.mid (Moved (act.Speaks s.n o)) found.cut.next does ≡ f ∷ []
             → o ≡ out.Of 32 replies.Done → IsSlots s.dev s.slot s.old s.before s.at s.first s.deeds s.now s.run s.p s.limit (s.base ++ then')
         done_slots o does sent is =
@@ -435,171 +491,85 @@ module _ (laws : Laws) (s : Stretch) where
             → IsSlots s.dev s.slot s.old s.before s.at s.first s.deeds s.now s.run s.p s.limit (s.base ++ then'))
             (sym is) (λ d same. is_slots s.n 32 d same) does sent
 
-        -- ---- the last Data
+        -- the calls of the stretch are those until then, this one, and others
+        pub said_calls : (spoke : IsSpoken found.deed) → calls s ≡ then' ++ Sends spoke.o ∷ calls_of s.n found.cut.next found.cut.later s.now found.cut.rest
+        said_calls spoke = all_calls ∙ ap (λ (l : List Call). then' ++ (l ++ calls_of s.n found.cut.next found.cut.later s.now found.cut.rest))
+            (ap (λ (d : Deed). calls_at found.cut.mid d s.n) spoke.is ∙ ap (λ (b : Bool). if b then Sends spoke.o ∷ [] else []) (eq-eqb s.n s.n refl))
 
-        no_due : is_shut s.dev end ≡ true → due s.dev end ≡ 0
-        no_due shuts = due_shut s.dev end shuts
+        -- ---- behind the FIS
 
-        -- all that were heard were settled, the last one by the PIO Setup FIS of its last block
-        record IsAllSettled : Type 0 where
-          all : heard_in then' ≤ settled_in then'
-          last : IsBehindLastBlock then'
-          none : heard_in behind ≡ 0
+        abbrev over_then : Out → List Call
+        over_then o = (s.base ++ then') ++ Sends o ∷ []
 
-        all_settled : AreSettled s.p s.limit s.base then' → is_shut s.dev end ≡ true → IsAllSettled
-        all_settled turn shuts =
-            let q : Counts s = counts laws s in
-            let t : Told start = told_now laws.falls s.ports s.legacy s.old s.opening s.before s.at s.first in
-            let among = fewer (taken_kinds s.dev (events s)) (said_kinds then') said in
-            let said_many = said_long then' in
-            let sum : heard_in (calls s) ≡ heard_in then' + heard_in behind = ap heard_in all_calls ∙ heard_both then' behind in
-            let free = no_due shuts in
-            let a = q.heard in
-            let b = q.asked in
-            let c = q.ordered in
-            let less = turn.fewer in
-            let all : heard_in then' ≤ settled_in then' = omega (arith, among, said_many, sum, free, a, b, c) in
-            let none : heard_in behind ≡ 0 = omega (arith, among, said_many, sum, free, a, b, c, less) in
-            let full : length (said_kinds then') ≤ length (taken_kinds s.dev (events s)) = omega (arith, said_many, sum, free, a, b, c, less) in
-            let same : taken_kinds s.dev (events s) ≡ said_kinds then' = all_of (taken_kinds s.dev (events s)) (said_kinds then') said full in
-            elim (settled_last (waiting_laws laws) s.dev s.dev_low start end (events s) s.runs.calls s.waiting (t.past s.dev) (t.told s.dev s.dev_low) clear some_wait shuts) [
-              | inl ends ↦ record { all = all; last = behind_block then' (subst EndsTrue same ends); none = none }
-              | inr strict ↦ absurd (omega (arith, strict, among, said_many, sum, a, b, less))
-            ]
-
-        not_queued : (h : Host) (place n : ℕ) → IsOutDue h (out.Data place n) → h.waits ≡ ForLast → place ≡ 32
-        not_queued h place n due_it waits_last = by (nat_lt place 32) due_it
-          where
-            no_wait : ForLast ≡ ForNothing → ⊥
-            no_wait e = cc
-
-            by : (b : Bool) → IsDataAt h place b → place ≡ 32
-            by true queued = absurd (no_wait (sym waits_last ∙ queued.2))
-            by false single = single.0
-
-        is_ended : (k : ℕ) (o : Out) (does : Does found.cut.mid (Moved (act.Speaks k o)) found.cut.next)
-            → sent_by found.cut.mid (Moved (act.Speaks k o)) found.cut.next does ≡ f ∷ []
-            → carries (seen f.bytes) ≡ true → is_shut s.dev end ≡ true
-            → IsEndedThere s.dev s.slot s.old s.before s.at s.first s.deeds s.now s.run s.p s.limit s.base then' o
-        is_ended k o does sent data' shuts =
-            let t : IsThen o = is_then k o does sent in
-            let turn : AreSettled s.p s.limit s.base then' = settled t.whole in
-            let g : IsAllSettled = all_settled turn shuts in
-            let is : is_data o ≡ true =
-            says_data found.cut.mid k o found.cut.next does (subst (λ (y : Stamped). carries (seen y.bytes) ≡ true) (sym (risen_is k o does sent)) data') in
-            let waits_last : (host_of new_host (s.base ++ then')).waits ≡ ForLast = turn.alone o t.says is g.all g.last in
-            let u : IsSettledLast then' = turn.lasts waits_last in
-            let behind_all = u.behind in
-            let free = no_due shuts in
-            let it = is_last (record { front = u.front; bytes = u.bytes; later = u.later; split = u.split; asks = u.asks; most = most_of (heard_in u.front) (omega (arith, behind_all, free)) }) in
-            record {
-              payload = is;
-              waits = waits_last;
-              command = u;
-              none = it.none;
-              slots = it.slots;
-              sectors = λ moves. laws.sectors s.p s.limit s.base then' t.whole s.idle on_then g.all g.last u moves o t.says is;
-              place = λ place n same.
-                  let more : AreCalls (new_disk s.p s.limit) ((s.base ++ then') ++ Sends o ∷ []) = calls_both (s.base ++ then') (Sends o ∷ []) (new_disk s.p s.limit) t.whole (t.says, tt) in
-                  not_queued (host_of new_host (s.base ++ then')) place n
-                  (subst (λ (x : Out). IsOutDue (host_of new_host (s.base ++ then')) x) same (due_at (s.base ++ then') (Sends o) new_host (laws.single s.p s.limit ((s.base ++ then') ++ Sends o ∷ []) more)))
-                  waits_last;
-              read = λ n same. is_read turn free n (subst (λ (x : Out). IsOut (reached s.p s.limit (s.base ++ then')) (Some x)) same t.says) waits_last;
-            }
-          where
-            is_read : AreSettled s.p s.limit s.base then' → due s.dev end ≡ 0 → (n : ℕ) → IsOut (reached s.p s.limit (s.base ++ then')) (Some (out.Data 32 n))
-                → (host_of new_host (s.base ++ then')).waits ≡ ForLast
-                → IsWholeThere s.dev s.slot s.old s.before s.at s.first s.deeds s.now s.run s.p s.limit s.base then' n
-            is_read turn free n says_it waits_last =
-                let r : IsWholeInTurn s.p s.limit s.base then' n = turn.reads n says_it waits_last in
-                let behind_all = r.turn.behind in
-                let it = is_last (record {
-                  front = r.turn.front;
-                  bytes = r.turn.asked.bytes;
-                  later = r.turn.asked.later;
-                  split = r.turn.split;
-                  asks = r.turn.asks;
-                  most = most_of (heard_in r.turn.front) (omega (arith, behind_all, free));
-                }) in
-                record { read = r; slots = it.slots }
-
-        -- ---- behind the last Data
-
-        idle_over : (h : Host) (w : Wait) → w ≡ ForLast → h.in_reset ≡ false → IsIdle (data_got_by h w)
-        idle_over h ForLast is clear = record { waits = refl; clear = clear }
-        idle_over h other is clear = absurd (cc)
-
-        -- they are the last ones that the host waits for
-        data_over : (h : Host) (o : Out) → is_data o ≡ true → h.waits ≡ ForLast → h.in_reset ≡ false → IsIdle (host_after h (Sends o))
-        data_over h (out.Page page) is waits_last clear = idle_over h h.waits waits_last clear
-        data_over h (out.Data place n) is waits_last clear = idle_over h h.waits waits_last clear
-        data_over h other is waits_last clear = absurd (cc)
-
-        abbrev Over : Host → Type 0
-        Over h = (h.waits ≡ ForNothing) ⊎ (h.waits ≡ ForLast)
-
-        -- what follows them while no command is heard
-        is_left : (o : Out) (does : Does found.cut.mid (Moved (act.Speaks s.n o)) found.cut.next)
-            → sent_by found.cut.mid (Moved (act.Speaks s.n o)) found.cut.next does ≡ f ∷ []
-            → found.deed ≡ Moved (act.Speaks s.n o) → carries (seen f.bytes) ≡ true → is_shut s.dev end ≡ true
+        -- where its host waits for nothing then, and no command is heard since, so it is now
+        left_behind : (o : Out) → found.deed ≡ Moved (act.Speaks s.n o) → heard_in behind ≡ 0 → IsIdle (host_of new_host (over_then o))
             → IsLeftIdle s.n s.p s.limit s.now (s.base ++ calls s)
-        is_left o does sent spoke data' shuts =
-            let t : IsThen o = is_then s.n o does sent in
-            let turn : AreSettled s.p s.limit s.base then' = settled t.whole in
-            let g : IsAllSettled = all_settled turn shuts in
-            let is : is_data o ≡ true =
-            says_data found.cut.mid s.n o found.cut.next does
-            (subst (λ (y : Stamped). carries (seen y.bytes) ≡ true) (sym (risen_is s.n o does sent)) data') in
-            let waits_last : (host_of new_host (s.base ++ then')).waits ≡ ForLast = turn.alone o t.says is g.all g.last in
+        left_behind o spoke none idle =
             let x : Call = Sends o in
             let rest : List Call = calls_of s.n found.cut.next found.cut.later s.now found.cut.rest in
-            let then2 : List Call = (s.base ++ then') ++ x ∷ [] in
-            let idle : IsIdle (host_of new_host then2) =
-            subst IsIdle (sym (host_then (s.base ++ then') x new_host))
-            (data_over (host_of new_host (s.base ++ then')) o is waits_last (turn.idle g.all).0) in
-            let behind_is : behind ≡ x ∷ rest = calls_by_now spoke in
+            let behind_is : behind ≡ x ∷ rest =
+            ap (λ (l : List Call). l ++ rest)
+            (ap (λ (d : Deed). calls_at found.cut.mid d s.n) spoke ∙ ap (λ (b : Bool). if b then Sends o ∷ [] else []) (eq-eqb s.n s.n refl)) in
             let split : calls s ≡ then' ++ x ∷ rest = all_calls ∙ ap (λ (l : List Call). then' ++ l) behind_is in
-            let whole_is : s.base ++ calls s ≡ then2 ++ rest =
+            let whole_is : s.base ++ calls s ≡ over_then o ++ rest =
             ap (λ (l : List Call). s.base ++ l) split ∙ sym (append_assoc s.base then' (x ∷ rest)) ∙ sym (append_assoc (s.base ++ then') (x ∷ []) rest) in
             let gone : GoneOn s.many s.n s.c s.dev s.begins.disk (calls s) (of_conn s.n s.c (sent_of s.at s.deeds s.now s.run)) (bay_at s.now s.n).unit =
             stretch_made s.many s.n s.c s.dev laws.disks s.deeds s.at s.now s.run s.keeps s.begins.disk s.begins.there in
             let are : AreCalls (new_disk s.p s.limit) (s.base ++ calls s) =
             calls_both s.base (calls s) (new_disk s.p s.limit) s.are (subst (λ (y : DiskState). AreCalls y (calls s)) s.same gone.are) in
             let on : AreKeptOn rest = kept_behind then' x rest (subst AreKeptOn split s.on) in
-            let same : 0 + heard_in rest ≡ 0 = sym (ap heard_in behind_is) ∙ g.none in
+            let same : 0 + heard_in rest ≡ 0 = sym (ap heard_in behind_is) ∙ none in
             let quiet : heard_in rest ≡ 0 = omega (arith, same) in
-            let turn2 : AreSettled s.p s.limit then2 rest =
-            laws.turn s.p s.limit then2 rest (subst (AreCalls (new_disk s.p s.limit)) whole_is are) idle on in
-            let over = turn2.idle (omega (arith, quiet)) in
+            let turn : AreSettled s.p s.limit (over_then o) rest =
+            laws.turn s.p s.limit (over_then o) rest (subst (AreCalls (new_disk s.p s.limit)) whole_is are) idle on in
+            let over = turn.idle (omega (arith, quiet)) in
             record {
               are = are;
               there = gone.is
                   ∙ ap Disk (ap (λ (y : DiskState). after_calls y (calls s)) s.same ∙ sym (calls_after s.base (calls s) (new_disk s.p s.limit)));
               idle = subst (λ (l : List Call). IsIdle (host_of new_host l)) (sym whole_is)
-                  (record { waits = waits_none rest quiet turn2 over.1; clear = over.0 });
+                  (record { waits = waits_none s.p s.limit (over_then o) rest quiet turn over.1; clear = over.0 });
             }
-          where
-            calls_by_now : found.deed ≡ Moved (act.Speaks s.n o) → behind ≡ Sends o ∷ calls_of s.n found.cut.next found.cut.later s.now found.cut.rest
-            calls_by_now is =
-                ap (λ (l : List Call). l ++ calls_of s.n found.cut.next found.cut.later s.now found.cut.rest)
-                (ap (λ (d : Deed). calls_at found.cut.mid d s.n) is ∙ ap (λ (b : Bool). if b then Sends o ∷ [] else []) (eq-eqb s.n s.n refl))
 
-            waits_none : (rest : List Call) → heard_in rest ≡ 0 → AreSettled s.p s.limit ((s.base ++ then') ++ Sends o ∷ []) rest
-                → Over (host_of new_host (((s.base ++ then') ++ Sends o ∷ []) ++ rest))
-                → (host_of new_host (((s.base ++ then') ++ Sends o ∷ []) ++ rest)).waits ≡ ForNothing
-            waits_none rest quiet turn2 (inl none) = none
-            waits_none rest quiet turn2 (inr last) =
-                let u : IsSettledLast rest = turn2.lasts last in
-                let sum : heard_in rest ≡ heard_in u.front + (once_if (is_asking u.bytes) + heard_in u.later) =
-                ap heard_in u.split ∙ heard_both u.front (Hears u.bytes ∷ u.later) in
-                let one : once_if (is_asking u.bytes) ≡ 1 = ap once_if u.asks in
-                absurd (omega (arith, quiet, sum, one))
+        -- so it is behind an answer
+        pub left_answered : (spoke : IsSpoken found.deed) → is_answering f.bytes ≡ true → IsLeftIdle s.n s.p s.limit s.now (s.base ++ calls s)
+        left_answered spoke answering =
+            let o : Out = spoke.o in
+            let t : IsThen o = is_then s.n o spoke.does spoke.sent in
+            let answered : IsAnswers o = is_answers s.n o spoke.does spoke.sent answering in
+            let a = answered.answers in
+            let u : IsUnsettled s.base then' = a.command in
+            let rest : List Call = calls_of s.n found.cut.next found.cut.later s.now found.cut.rest in
+            let first : List Call = then' ++ Sends o ∷ [] in
+            let joined : s.base ++ first ≡ over_then o = sym (append_assoc s.base then' (Sends o ∷ [])) in
+            let split : calls s ≡ first ++ rest = said_calls spoke ∙ sym (append_assoc then' (Sends o ∷ []) rest) in
+            let are : AreCalls (new_disk s.p s.limit) (over_then o) = calls_both (s.base ++ then') (Sends o ∷ []) (new_disk s.p s.limit) t.whole (t.says, tt) in
+            let turn : AreSettled s.p s.limit s.base first =
+            laws.turn s.p s.limit s.base first (subst (AreCalls (new_disk s.p s.limit)) (sym joined) are) s.idle (kept_first first rest (subst AreKeptOn split s.on)) in
+            let x : Call = Hears u.bytes in
+            let heard_then : heard_in then' ≡ heard_in u.front + (once_if (is_asking u.bytes) + heard_in u.later) = ap heard_in u.split ∙ heard_both u.front (x ∷ u.later) in
+            let one : once_if (is_asking u.bytes) ≡ 1 = ap once_if u.asks in
+            let none = a.none in
+            let prior_settled = a.prior in
+            let heard : heard_in first ≡ heard_in then' + (0 + 0) = heard_both then' (Sends o ∷ []) in
+            let settles : settled_in first ≡ settled_in then' + (once_if (is_settling o) + 0) = settled_both then' (Sends o ∷ []) in
+            let settling : once_if (is_settling o) ≡ 1 = ap (λ (b : Bool). once_if (b || sets_up_last o)) a.answer in
+            let over = turn.idle (omega (arith, heard_then, one, none, prior_settled, heard, settles, settling)) in
+            let host : host_of new_host (s.base ++ first) ≡ out_got (host_of new_host (s.base ++ then')) o = ap (host_of new_host) joined ∙ host_then (s.base ++ then') (Sends o) new_host in
+            left_behind o spoke.is answered.quiet (subst (λ (l : List Call). IsIdle (host_of new_host l)) joined (record {
+              waits = free_not_last (host_of new_host (s.base ++ first)).waits over.1
+                  (λ last. out_not_last (host_of new_host (s.base ++ then')) o (inl a.answer) (sym (ap (λ (h : Host). h.waits) host) ∙ last));
+              clear = over.0;
+            }))
 
-        -- all of it
-        is_done : (spoke : IsSpoken found.deed) → (is_pio issue.work.kind ≡ false → is_answering f.bytes ≡ true)
-            → (is_answering f.bytes ≡ false → (is_shut s.dev end ≡ true) × (carries (seen f.bytes) ≡ true))
+        -- ---- all of it
+
+        -- what another FIS than a Register FIS does is said by the last two
+        unfoldable pub done_by : (spoke : IsSpoken found.deed) → (is_pio issue.work.kind ≡ false → is_answering f.bytes ≡ true)
+            → (is_answering f.bytes ≡ false → IsEndedThere s.dev s.slot s.old s.before s.at s.first s.deeds s.now s.run s.p s.limit s.base then' spoke.o)
+            → (is_answering f.bytes ≡ false → IsLeftIdle s.n s.p s.limit s.now (s.base ++ calls s))
             → IsDoneThere s.n s.dev s.slot s.old s.before s.at s.first s.deeds s.now s.run s.p s.limit s.base issue f
-        is_done spoke register ends = record {
+        done_by spoke register ends left = record {
           register = register;
           sooner = found.cut.sooner;
           mid = found.cut.mid;
@@ -608,13 +578,131 @@ module _ (laws : Laws) (s : Stretch) where
           after = found.cut.next;
           does = spoke.does;
           later = found.cut.later;
+          rest = found.cut.rest;
           is = found.cut.is ∙ ap (λ (d : Deed). found.cut.sooner ++ d ∷ found.cut.later) spoke.is;
+          own = said_calls spoke;
           sent = spoke.sent;
-          answers = λ answering. is_answers s.n spoke.o spoke.does spoke.sent answering;
-          ends = λ other. is_ended s.n spoke.o spoke.does spoke.sent (ends other).1 (ends other).0;
-          left = λ other. is_left spoke.o spoke.does spoke.sent spoke.is (ends other).1 (ends other).0;
+          answers = λ answering. (is_answers s.n spoke.o spoke.does spoke.sent answering).answers;
+          went = λ answering. (is_answers s.n spoke.o spoke.does spoke.sent answering).went;
+          ends = ends;
+          left = either (is_answering f.bytes) (left_answered spoke) left;
           slots = λ is. done_slots spoke.o spoke.does spoke.sent is;
         }
+
+        module _ (clear : context_of start.core.slots s.dev ≡ None) where
+          -- ---- the last Data
+
+          no_due : is_shut s.dev end ≡ true → due s.dev end ≡ 0
+          no_due shuts = due_shut s.dev end shuts
+
+          -- all that were heard were settled, the last one by the PIO Setup FIS of its last block
+          record IsAllSettled : Type 0 where
+            all : heard_in then' ≤ settled_in then'
+            last : IsBehindLastBlock then'
+            none : heard_in behind ≡ 0
+
+          all_settled : AreSettled s.p s.limit s.base then' → is_shut s.dev end ≡ true → IsAllSettled
+          all_settled turn shuts =
+              let q : Counts s = counts laws s in
+              let t : Told start = told_now laws.falls s.ports s.legacy s.old s.opening s.before s.at s.first in
+              let among = fewer (taken_kinds s.dev (events s)) (said_kinds then') said in
+              let said_many = said_long then' in
+              let sum : heard_in (calls s) ≡ heard_in then' + heard_in behind = ap heard_in all_calls ∙ heard_both then' behind in
+              let free = no_due shuts in
+              let a = q.heard in
+              let b = q.asked in
+              let c = q.ordered in
+              let less = turn.fewer in
+              let all : heard_in then' ≤ settled_in then' = omega (arith, among, said_many, sum, free, a, b, c) in
+              let none : heard_in behind ≡ 0 = omega (arith, among, said_many, sum, free, a, b, c, less) in
+              let full : length (said_kinds then') ≤ length (taken_kinds s.dev (events s)) = omega (arith, said_many, sum, free, a, b, c, less) in
+              let same : taken_kinds s.dev (events s) ≡ said_kinds then' = all_of (taken_kinds s.dev (events s)) (said_kinds then') said full in
+              elim (settled_last (waiting_laws laws) s.dev s.dev_low start end (events s) s.runs.calls s.waiting (t.past s.dev) (t.told s.dev s.dev_low) clear some_wait shuts) [
+                | inl ends ↦ record { all = all; last = behind_block then' (subst EndsTrue same ends); none = none }
+                | inr strict ↦ absurd (omega (arith, strict, among, said_many, sum, a, b, less))
+              ]
+
+          not_queued : (h : Host) (place n : ℕ) → IsOutDue h (out.Data place n) → h.waits ≡ ForLast → place ≡ 32
+          not_queued h place n due_it waits_last = by (nat_lt place 32) due_it
+            where
+              no_wait : ForLast ≡ ForNothing → ⊥
+              no_wait e = cc
+
+              by : (b : Bool) → IsDataAt h place b → place ≡ 32
+              by true queued = absurd (no_wait (sym waits_last ∙ queued.2))
+              by false single = single.0
+
+          is_ended : (k : ℕ) (o : Out) (does : Does found.cut.mid (Moved (act.Speaks k o)) found.cut.next)
+              → sent_by found.cut.mid (Moved (act.Speaks k o)) found.cut.next does ≡ f ∷ []
+              → carries (seen f.bytes) ≡ true → is_shut s.dev end ≡ true
+              → IsEndedThere s.dev s.slot s.old s.before s.at s.first s.deeds s.now s.run s.p s.limit s.base then' o
+          is_ended k o does sent data' shuts =
+              let t : IsThen o = is_then k o does sent in
+              let turn : AreSettled s.p s.limit s.base then' = settled t.whole in
+              let g : IsAllSettled = all_settled turn shuts in
+              let is : is_data o ≡ true =
+              says_data found.cut.mid k o found.cut.next does (subst (λ (y : Stamped). carries (seen y.bytes) ≡ true) (sym (risen_is k o does sent)) data') in
+              let waits_last : (host_of new_host (s.base ++ then')).waits ≡ ForLast = turn.alone o t.says is g.all g.last in
+              let u : IsSettledLast then' = turn.lasts waits_last in
+              let behind_all = u.behind in
+              let free = no_due shuts in
+              let it = is_last (record { front = u.front; bytes = u.bytes; later = u.later; split = u.split; asks = u.asks; most = most_of (heard_in u.front) (omega (arith, behind_all, free)) }) in
+              record {
+                payload = is;
+                waits = waits_last;
+                command = u;
+                none = it.none;
+                slots = it.slots;
+                sectors = λ moves. laws.sectors s.p s.limit s.base then' t.whole s.idle on_then g.all g.last u moves o t.says is;
+                place = λ place n same.
+                    let more : AreCalls (new_disk s.p s.limit) ((s.base ++ then') ++ Sends o ∷ []) = calls_both (s.base ++ then') (Sends o ∷ []) (new_disk s.p s.limit) t.whole (t.says, tt) in
+                    not_queued (host_of new_host (s.base ++ then')) place n
+                    (subst (λ (x : Out). IsOutDue (host_of new_host (s.base ++ then')) x) same (due_at (s.base ++ then') (Sends o) new_host (laws.single s.p s.limit ((s.base ++ then') ++ Sends o ∷ []) more)))
+                    waits_last;
+                read = λ n same. is_read turn free n (subst (λ (x : Out). IsOut (reached s.p s.limit (s.base ++ then')) (Some x)) same t.says) waits_last;
+              }
+            where
+              is_read : AreSettled s.p s.limit s.base then' → due s.dev end ≡ 0 → (n : ℕ) → IsOut (reached s.p s.limit (s.base ++ then')) (Some (out.Data 32 n))
+                  → (host_of new_host (s.base ++ then')).waits ≡ ForLast
+                  → IsWholeThere s.dev s.slot s.old s.before s.at s.first s.deeds s.now s.run s.p s.limit s.base then' n
+              is_read turn free n says_it waits_last =
+                  let r : IsWholeInTurn s.p s.limit s.base then' n = turn.reads n says_it waits_last in
+                  let behind_all = r.turn.behind in
+                  let it = is_last (record {
+                    front = r.turn.front;
+                    bytes = r.turn.asked.bytes;
+                    later = r.turn.asked.later;
+                    split = r.turn.split;
+                    asks = r.turn.asks;
+                    most = most_of (heard_in r.turn.front) (omega (arith, behind_all, free));
+                  }) in
+                  record { read = r; slots = it.slots }
+
+          -- ---- behind the last Data
+
+          is_left : (o : Out) (does : Does found.cut.mid (Moved (act.Speaks s.n o)) found.cut.next)
+              → sent_by found.cut.mid (Moved (act.Speaks s.n o)) found.cut.next does ≡ f ∷ []
+              → found.deed ≡ Moved (act.Speaks s.n o) → carries (seen f.bytes) ≡ true → is_shut s.dev end ≡ true
+              → IsLeftIdle s.n s.p s.limit s.now (s.base ++ calls s)
+          is_left o does sent spoke data' shuts =
+              let t : IsThen o = is_then s.n o does sent in
+              let turn : AreSettled s.p s.limit s.base then' = settled t.whole in
+              let g : IsAllSettled = all_settled turn shuts in
+              let is : is_data o ≡ true =
+              says_data found.cut.mid s.n o found.cut.next does
+              (subst (λ (y : Stamped). carries (seen y.bytes) ≡ true) (sym (risen_is s.n o does sent)) data') in
+              let waits_last : (host_of new_host (s.base ++ then')).waits ≡ ForLast = turn.alone o t.says is g.all g.last in
+              left_behind o spoke g.none
+              (subst IsIdle (sym (host_then (s.base ++ then') (Sends o) new_host))
+              (data_over (host_of new_host (s.base ++ then')) o is waits_last (turn.idle g.all).0))
+
+        is_done : (is_answering f.bytes ≡ false → context_of start.core.slots s.dev ≡ None) → (spoke : IsSpoken found.deed)
+            → (is_pio issue.work.kind ≡ false → is_answering f.bytes ≡ true)
+            → (is_answering f.bytes ≡ false → (is_shut s.dev end ≡ true) × (carries (seen f.bytes) ≡ true))
+            → IsDoneThere s.n s.dev s.slot s.old s.before s.at s.first s.deeds s.now s.run s.p s.limit s.base issue f
+        is_done clear spoke register ends =
+            done_by spoke register (λ other. is_ended (clear other) s.n spoke.o spoke.does spoke.sent (ends other).1 (ends other).0)
+            (λ other. is_left (clear other) spoke.o spoke.does spoke.sent spoke.is (ends other).1 (ends other).0)
 
 -- ---- a FIS of the connection is taken behind the stretch
 
@@ -640,9 +728,13 @@ found_of laws s took new does own =
 
 -- ---- the law
 
+is_true : (b : Bool) → (b ≡ false → ⊥) → b ≡ true
+is_true true never = refl
+is_true false never = absurd (never refl)
+
 pub unqueued_are : Laws → UnqueuedAreOfSlots
-unqueued_are laws ports legacy old opening before at first many n c dev slot below dev_low low begins clear p limit base are same idle deeds now run has_link lasts keeps on runs of waits_so took new does rules own
-    shows hides none issue there mine plain =
+unqueued_are laws ports legacy old opening before at first many n c dev slot below dev_low low begins p limit base are same idle deeds now run has_link lasts keeps on runs of waits_so took new does rules own
+    shows hides none issue there mine plain clear =
     let s : Stretch = record {
       ports = ports;
       legacy = legacy;
@@ -685,12 +777,13 @@ unqueued_are laws ports legacy old opening before at first many n c dev slot bel
     let waits : is_waiting issue ≡ true = completed_waits slot low now.controller k f.bytes done issue there plain in
     let well : IsErrorFis f.bytes → ⊥ = no_error slot now.controller f.bytes done in
     let pre : List Stamped = of_conn n c (came s) in
-    is_done laws s f own pre found issue there mine waits refl well clear (spoken laws s f own pre found found.deed found.cut.does found.line found.sent)
-    (completed_by slot now.controller f.bytes done issue there plain)
+    let by_register = completed_by slot now.controller f.bytes done issue there plain in
+    is_done laws s f own pre found issue there mine waits refl well (λ other. clear (is_true (is_pio issue.work.kind) (λ no. false≢true (sym other ∙ by_register no))) other)
+    (spoken laws s f own pre found found.deed found.cut.does found.line found.sent) by_register
     (λ other. let d = data_ends slot low now.controller k f.bytes done issue there plain other in (ap (λ (j : ℕ). is_shut j now.controller) (sym mine) ∙ d.shuts, d.data'))
 
 pub plain_are : Laws → UnqueuedCommandsWait → PlainUnqueuedAreOfSlots
-plain_are laws wait ports legacy old opening before at first many n c dev slot below dev_low low begins clear p limit base are same idle deeds now run has_link lasts keeps on runs of plain =
+plain_are laws wait ports legacy old opening before at first many n c dev slot below dev_low low begins p limit base are same idle deeds now run has_link lasts keeps on runs of plain =
     let t : Told at.controller = told_now laws.falls ports legacy old opening before at first in
-    unqueued_are laws ports legacy old opening before at first many n c dev slot below dev_low low begins clear p limit base are same idle deeds now run has_link lasts keeps on runs of
+    unqueued_are laws ports legacy old opening before at first many n c dev slot below dev_low low begins p limit base are same idle deeds now run has_link lasts keeps on runs of
     (wait dev dev_low at.controller now.controller (calls_in at deeds now run) runs.calls (t.past dev) (t.told dev dev_low) plain)

@@ -15,34 +15,33 @@ use Rattle.disk_pages.specs.declared.profile.Profile.{Profile}
 use Rattle.sata_disk.specs.{Sending.IsOut, State.new_disk, declared.out.Out.Out}
 use Rattle.sata_disk.specs.declared.out.Out.TheVariants as out
 use Rattle.sata_disk_books.specs.Books.{IsAskedFor, page_in}
-use Rattle.sata_disk_laws.specs.{Calls.{AreCalls, Call, Hears}, Laws.reached, Once.{host_of, new_host}}
+use Rattle.sata_disk_laws.specs.{Calls.{AreCalls, Call, Hears}, Laws.reached}
 use Rattle.ahci_machine.specs.{Gathers.host_stamp, States.{HasRules, MachineState}}
 use Rattle.ahci_machine.specs.declared.act.Act.TheVariants as act
 use Rattle.machine_laws.specs.{ControllerLaws.{OpensSo, RunsRuled, calls_in}, Controllers.GathersDue, Deeds.{Deed, Does, Moved}, Falling.heard_by}
-use Rattle.machine_laws.specs.{Falling.{sent_by as goes_by, sent_in}, Feeding.{IsReading, OrdersAreIssued, came_in}, Rising.{AreLinked, Frames}}
-use Rattle.machine_laws.specs.Rising.{HaveRisen, frames_in, no_frames, sent_by}
+use Rattle.machine_laws.specs.{Falling.{sent_by as goes_by, sent_in}, Feeding.{IsReading, OrdersAreIssued, came_in}, Rising.sent_by}
 use Rattle.machine_theorem.specs.{Commands.AreNotIssued, Completed.IsEndedInHistory, Crossing.Within, DataCame.{AreOfHeard, DataComeBehind}}
-use Rattle.machine_theorem.specs.{DataCame.IsWrittenBehind, Given.IsWhole, Identity.{calls_of, heard_as, is_for, picks}, InTurn.{AreKeptOn, IsIdle}}
-use Rattle.machine_theorem.specs.{InTurn.{IsUnanswered, answered_in, is_answering, is_asking}, OwnSlots.is_of, OwnWrites.AreOwnData}
-use Rattle.machine_theorem.specs.{SingleData.{HasNoQueued, went_in}, SingleWrites.{AllKeepPlain, IsFedSince, IsFedWhole, IsSuppliedSingle}}
-use Rattle.machine_theorem.specs.{SingleWrites.{SingleWritesAreAsSupplied, went_to}, Singles.IsFromSlot, Waits.{HasPlain, PlainCommandsWait}}
-use Rattle.machine_theorem.specs.{Waits.is_commanded, Writes.payloads}
-use Rattle.machine_theorem.proofs.{AllWent.all_went, Answered.answered_both, AtMoments.more, Commanded.asked, DataDeeds.all_plain, DataDown.ArePlain}
+use Rattle.machine_theorem.specs.{DataCame.IsWrittenBehind, Ending.{HasNoQueued, UnqueuedCommandsWait}, Given.IsWhole, Identity.{heard_as, is_for, picks}}
+use Rattle.machine_theorem.specs.{InTurn.{AreKeptOn, heard_in, is_answering, is_asking}, OwnSlots.is_of, OwnWrites.AreOwnData}
+use Rattle.machine_theorem.specs.{PioReads.{AllKeepUnqueued, KeepsUnqueued}, Settled.IsUnsettled, SingleData.went_in, Singles.IsFromSlot}
+use Rattle.machine_theorem.specs.{SingleWrites.{IsFedSince, IsFedWhole, IsSuppliedSingle, SingleWritesAreAsSupplied, went_to}, Waits.is_commanded}
+use Rattle.machine_theorem.specs.Writes.{payloads}
+use Rattle.machine_theorem.proofs.{AllWent.all_went, AtMoments.more, Commanded.asked, Cut.Cut, DataDeeds.all_plain, DataDown.ArePlain}
 use Rattle.machine_theorem.proofs.{DataDown.{as_heard, data_sent, data_within, is_data}, DataTail.{all_bytes, behind_within, data_heard}}
-use Rattle.machine_theorem.proofs.{DataTail.{marked_payloads, tail_within}, EndsFew.sent_of, ErrorNone.IsErrorFis, Fallen.{heard_among, line_stays}}
-use Rattle.machine_theorem.proofs.{Fallen.map_both, Falls.{Told, controller_runs, kept_of, told_now}, FedFor.{Good, opens_good, run_good}}
-use Rattle.machine_theorem.proofs.{FedSingles.{Along, fed_along, went_long}, Ordered.first_ruled, Own.last_ruled, OwnPlace.{Found, InOrder, find}}
-use Rattle.machine_theorem.proofs.{OwnPlace.{frames_are, in_order, linked, untaken_is}, PlainDeeds.{OrderCut, PlainRun, find_order, none_queued}}
-use Rattle.machine_theorem.proofs.{PlainDeeds.{plain_first, plain_run}, SingleCalls.{Going, begins}, SinglesOwn.{IsSpoken, IsThen, Stretch, WentFrom}}
-use Rattle.machine_theorem.proofs.SinglesOwn.{behind, came, completed_by, completed_waits, done_slots, earns, events, is_answers, is_last, is_then}
-use Rattle.machine_theorem.proofs.{SinglesOwn.{kept_first, last_heard, no_error, on_then, said_calls, same_issue, spoken, then'}, Stretch.whole_run}
-use Rattle.machine_theorem.proofs.{TagCounts.first_calls, Within.{first_within, picks_both, within_picks, within_then}}
+use Rattle.machine_theorem.proofs.{DataTail.{marked_payloads, tail_within}, ErrorNone.IsErrorFis, Fallen.{heard_among, line_stays, map_both}}
+use Rattle.machine_theorem.proofs.{Falls.{Told, controller_runs, kept_of, told_now}, FedFor.{Good, opens_good, run_good}}
+use Rattle.machine_theorem.proofs.{FedSingles.{Along, fed_along, unqueued_first, went_long}, OrderCut.{OrderAt, order_at}, Ordered.first_ruled}
+use Rattle.machine_theorem.proofs.{Own.last_ruled, OwnPlace.Found, PioOwn.{IsSpoken, IsThen, Stretch, WentFrom, behind, calls, came, done_by}}
+use Rattle.machine_theorem.proofs.PioOwn.{due_one, events, found_of, is_last, is_then, most_of, on_then, settled, spoken, then'}
+use Rattle.machine_theorem.proofs.{SingleCalls.{Going, begins}, SinglesOwn.{completed_by, completed_waits, earns, last_heard}}
+use Rattle.machine_theorem.proofs.{SinglesOwn.{no_error, same_issue}, Stretch.whole_run, WaitingRun.{WaitingRun, waiting_run}}
+use Rattle.machine_theorem.proofs.Within.{first_within, picks_both, within_picks, within_then}
 use Rattle.machine_theorem.proofs.FedSingles as fed_singles
-use Rattle.machine_theorem.proofs.SinglesOwn as singles
+use Rattle.machine_theorem.proofs.PioOwn as own
 
 pub record Laws : Type 0 where
-  pub singles : singles.Laws
-  pub wait : PlainCommandsWait
+  pub own : own.Laws
+  pub wait : UnqueuedCommandsWait
   pub fed : fed_singles.Laws
   pub came : DataComeBehind
   pub orders : OrdersAreIssued
@@ -63,6 +62,13 @@ went_is dev (call.Turned said ∷ later) = went_is dev later
 went_is dev (call.Said write ∷ later) = went_is dev later
 went_is dev (call.NotThere d number fed ∷ later) = went_is dev later
 
+event_tail : (x y : Event) (xs ys : List Event) → x ∷ xs ≡ y ∷ ys → xs ≡ ys
+event_tail x y xs ys e = cc
+
+cancel : (front xs ys : List Event) → front ++ xs ≡ front ++ ys → xs ≡ ys
+cancel [] xs ys e = e
+cancel (x ∷ front) xs ys e = cancel front xs ys (event_tail x x (front ++ xs) (front ++ ys) e)
+
 own_behind : (many : Bool) (n dev : ℕ) (xs : List Event) (y : Event) (ys : List Event) → AreOwnData many n dev (xs ++ y ∷ ys) → AreOwnData many n dev ys
 own_behind many n dev [] y ys own = own.1
 own_behind many n dev (x ∷ xs) y ys own = own_behind many n dev xs y ys own.1
@@ -70,10 +76,6 @@ own_behind many n dev (x ∷ xs) y ys own = own_behind many n dev xs y ys own.1
 plain_behind : (xs : List Event) (y : Event) (ys : List Event) → ArePlain (xs ++ y ∷ ys) → ArePlain ys
 plain_behind [] y ys plain = plain.1
 plain_behind (x ∷ xs) y ys plain = plain_behind xs y ys plain.1
-
-plain_last : (many : Bool) (n dev : ℕ) (deeds : List Deed) (old now : MachineState) (run : RunsRuled old deeds now) → AllKeepPlain many n dev old deeds now run → HasPlain dev now.controller
-plain_last many n dev [] old now run keeps = subst (λ (m : MachineState). HasPlain dev m.controller) (sym run.1) keeps
-plain_last many n dev (deed ∷ later) old now run keeps = plain_last many n dev later run.1.0 now run.1.2 keeps.1
 
 -- what the commands of a stretch of calls were, as they are heard
 abbrev frames_for : (many : Bool) → (n : ℕ) → List Event → List (List ℕ)
@@ -96,15 +98,18 @@ record Came (p : Profile) (limit : ℕ) (all : List Call) (bytes : List ℕ) (la
   is : asked.bytes ≡ bytes
   came : AreOfHeard later page.ledger.came
 
-module _ (laws : Laws) (s : Stretch) (plain : AllKeepPlain s.many s.n s.dev s.at s.deeds s.now s.run) (own_data : AreOwnData s.many s.n s.dev (events s)) (issue : Issue)
-    (there : issue_at s.now.controller.core.slots s.slot ≡ Some issue) (mine : issue.dev ≡ s.dev) (waits : is_waiting issue ≡ true) (f : Stamped) (own : is_of s.n s.c f ≡ true)
-    (found : Found s.many s.n s.c s.dev s.at s.deeds s.now s.run (of_conn s.n s.c (came s)) f) (well : IsErrorFis f.bytes → ⊥) (ended : IsEndedInHistory s.now.controller f.bytes s.slot)
-    (plain_now : HasPlain s.dev s.now.controller) where
+module _ (laws : Laws) (s : Stretch) (unqueued : AllKeepUnqueued s.many s.n s.dev s.at s.deeds s.now s.run) (none_queued : HasNoQueued s.dev s.now.controller)
+    (own_data : AreOwnData s.many s.n s.dev (events s)) (issue : Issue) (there : issue_at s.now.controller.core.slots s.slot ≡ Some issue) (mine : issue.dev ≡ s.dev)
+    (waits : is_waiting issue ≡ true) (plain : is_pio issue.work.kind ≡ false) (f : Stamped) (own : is_of s.n s.c f ≡ true)
+    (found : Found s.many s.n s.c s.dev s.at s.deeds s.now s.run (of_conn s.n s.c (came s)) f) (well : IsErrorFis f.bytes → ⊥) (ended : IsEndedInHistory s.now.controller f.bytes s.slot) where
+  abbrev prior : List Stamped
+  prior = of_conn s.n s.c (came s)
+
   abbrev until_then : List Call
-  until_then = then' laws.singles s issue there mine waits f own found
+  until_then = then' laws.own s f own prior found
 
   abbrev since_then : List Call
-  since_then = behind laws.singles s issue there mine waits f own found
+  since_then = behind laws.own s f own prior found
 
   abbrev Whole : Type 0
   Whole = IsFedWhole s.n s.dev s.slot s.old s.before s.at s.first s.deeds s.now s.run s.p s.limit (s.base ++ until_then) issue
@@ -120,31 +125,49 @@ module _ (laws : Laws) (s : Stretch) (plain : AllKeepPlain s.many s.n s.dev s.at
   opened : OpensSo s.old
   opened = laws.fed.fed.opens s.ports s.legacy s.old s.opening (first_ruled s.before s.old s.at s.first)
 
-  module _ (order : List ℕ) (back : List Event) (c : OrderCut s.many s.n s.dev s.dev s.slot order s.at s.deeds s.now s.run back) (clear : AreNotIssued s.slot back)
+  module _ (order : List ℕ) (front back : List Event) (is : events s ≡ front ++ call.Turned (next.Order s.dev s.slot order) ∷ back) (clear : AreNotIssued s.slot back)
       (to : is_for s.many s.n (record { bytes = order; stamp = host_stamp s.dev }) ≡ true) (asks : is_asking (marked order 0) ≡ true) where
+    at_order : OrderAt s.dev s.slot order s.at s.deeds s.now s.run front
+    at_order = order_at s.dev s.slot order s.deeds s.at s.now s.run front back is
+
+    abbrev cut : Cut (Moved (act.Turns (next.Order s.dev s.slot order))) s.at s.deeds s.now s.run
+    cut = at_order.cut
+
+    -- the calls behind it
+    back_is : calls_in cut.next cut.later s.now cut.rest ≡ back
+    back_is =
+        let rest : List Event = calls_in cut.next cut.later s.now cut.rest in
+        let x : Event = call.Turned (next.Order s.dev s.slot order) in
+        event_tail x x rest back
+        (cancel front (x ∷ rest) (x ∷ back) (ap (λ (l : List Event). l ++ x ∷ rest) (sym at_order.prior) ∙ sym cut.events ∙ is))
+
+    abbrev parts : AllKeepUnqueued s.many s.n s.dev s.at cut.sooner cut.mid cut.led × KeepsUnqueued s.many s.n s.dev cut.mid (Moved (act.Turns (next.Order s.dev s.slot order))) cut.next cut.does
+        × AllKeepUnqueued s.many s.n s.dev cut.next cut.later s.now cut.rest
+    parts = cut.unqueued s.many s.n s.dev unqueued
+
     abbrev deed : Deed
     deed = Moved (act.Turns (next.Order s.dev s.slot order))
 
     abbrev mid : MachineState
-    mid = c.cut.mid
+    mid = cut.mid
 
     abbrev sent : MachineState
-    sent = c.cut.next
+    sent = cut.next
 
     rules_mid : HasRules mid
-    rules_mid = last_ruled c.cut.sooner s.at mid c.cut.led
+    rules_mid = last_ruled cut.sooner s.at mid cut.led
 
     rules_sent : HasRules sent
-    rules_sent = first_ruled c.cut.later sent s.now c.cut.rest
+    rules_sent = first_ruled cut.later sent s.now cut.rest
 
-    until : RunsRuled s.old (s.before ++ (c.cut.sooner ++ deed ∷ [])) sent
-    until = (whole_run s.before s.old s.at s.first (c.cut.sooner ++ deed ∷ []) sent (more c.cut.sooner s.at mid sent deed c.cut.led c.cut.does rules_sent)).all
+    until : RunsRuled s.old (s.before ++ (cut.sooner ++ deed ∷ [])) sent
+    until = (whole_run s.before s.old s.at s.first (cut.sooner ++ deed ∷ []) sent (more cut.sooner s.at mid sent deed cut.led cut.does rules_sent)).all
 
-    led : RunsRuled s.old (s.before ++ c.cut.sooner) mid
-    led = (whole_run s.before s.old s.at s.first c.cut.sooner mid c.cut.led).all
+    led : RunsRuled s.old (s.before ++ cut.sooner) mid
+    led = (whole_run s.before s.old s.at s.first cut.sooner mid cut.led).all
 
-    reading : IsReading sent s.dev (came_in s.dev [] s.old (s.before ++ (c.cut.sooner ++ deed ∷ [])) sent until)
-    reading = laws.fed.fed.read s.dev s.dev_low s.old (s.before ++ (c.cut.sooner ++ deed ∷ [])) sent until opened.due [] (laws.fed.fed.unread s.ports s.legacy s.old s.opening s.dev)
+    reading : IsReading sent s.dev (came_in s.dev [] s.old (s.before ++ (cut.sooner ++ deed ∷ [])) sent until)
+    reading = laws.fed.fed.read s.dev s.dev_low s.old (s.before ++ (cut.sooner ++ deed ∷ [])) sent until opened.due [] (laws.fed.fed.unread s.ports s.legacy s.old s.opening s.dev)
 
     good_at : (deeds : List Deed) (now : MachineState) → RunsRuled s.old deeds now → Good laws.fed.fed now
     good_at deeds now run = run_good laws.fed.fed deeds s.old now run (opens_good laws.fed.fed s.ports s.legacy s.old s.opening opened)
@@ -153,48 +176,49 @@ module _ (laws : Laws) (s : Stretch) (plain : AllKeepPlain s.many s.n s.dev s.at
     going : Going s.dev s.slot 0 sent.controller
     going =
         let run : Runs mid.controller (call.Turned (next.Order s.dev s.slot order) ∷ []) sent.controller =
-        laws.fed.fed.goes mid deed sent c.cut.does rules_mid rules_sent (good_at (s.before ++ c.cut.sooner) mid led).due in
-        let t : Told mid.controller = told_now laws.singles.falls s.ports s.legacy s.old s.opening (s.before ++ c.cut.sooner) mid led in
-        let commanded : is_commanded s.dev mid.controller (call.Turned (next.Order s.dev s.slot order)) ≡ true = c.keeps.of to asks in
-        let none : HasNoQueued s.dev mid.controller = none_queued s.dev mid.controller c.keeps.plain in
+        laws.fed.fed.goes mid deed sent cut.does rules_mid rules_sent (good_at (s.before ++ cut.sooner) mid led).due in
+        let t : Told mid.controller = told_now laws.own.falls s.ports s.legacy s.old s.opening (s.before ++ cut.sooner) mid led in
+        let commanded : is_commanded s.dev mid.controller (call.Turned (next.Order s.dev s.slot order)) ≡ true = (parts.1.of run).0 to asks in
+        let none : HasNoQueued s.dev mid.controller = (parts.1.unqueued run).0 in
         let none_sent : HasNoQueued s.dev run.1.0 =
-        none_queued s.dev run.1.0 (subst (HasPlain s.dev) run.1.2.1 (plain_first s.many s.n s.dev c.cut.later sent s.now c.cut.rest c.after)) in
+        subst (HasNoQueued s.dev) run.1.2.1
+        (unqueued_first laws.fed.fed.goes laws.fed.fed.stays s.many s.n s.dev cut.later sent s.now cut.rest (good_at (s.before ++ (cut.sooner ++ deed ∷ [])) sent until).due parts.2 none_queued) in
         subst (Going s.dev s.slot 0) (sym run.1.2.1)
         (begins laws.fed.singles s.dev s.dev_low s.slot s.low order mid.controller run.1.0 run.0 run.1.2.0 run.1.1 commanded none none_sent (t.past s.dev) (t.told s.dev s.dev_low))
 
-    along : Along laws.fed s.many s.n s.dev s.dev_low s.slot s.low 0 (came_in s.dev [] s.old (s.before ++ (c.cut.sooner ++ deed ∷ [])) sent until) sent c.cut.later s.now c.cut.rest
+    along : Along laws.fed s.many s.n s.dev s.dev_low s.slot s.low 0 (came_in s.dev [] s.old (s.before ++ (cut.sooner ++ deed ∷ [])) sent until) sent cut.later s.now cut.rest
     along =
-        fed_along laws.fed s.many s.n s.dev s.dev_low s.slot s.low c.cut.later sent s.now c.cut.rest (good_at (s.before ++ (c.cut.sooner ++ deed ∷ [])) sent until)
-        (came_in s.dev [] s.old (s.before ++ (c.cut.sooner ++ deed ∷ [])) sent until) reading (subst (AreNotIssued s.slot) (sym c.is) clear) c.after (ap is_some there) 0 going
+        fed_along laws.fed s.many s.n s.dev s.dev_low s.slot s.low cut.later sent s.now cut.rest (good_at (s.before ++ (cut.sooner ++ deed ∷ [])) sent until)
+        (came_in s.dev [] s.old (s.before ++ (cut.sooner ++ deed ∷ [])) sent until) reading (subst (AreNotIssued s.slot) (sym back_is) clear) parts.2 none_queued (ap is_some there) 0 going
 
     fed : Fed order back
     fed =
         let a = along in
         let inside = a.last.inside in
         let same = ap (λ (i : Issue). i.work.len) (same_issue (issue_at s.now.controller.core.slots s.slot) a.last.issue issue a.last.is there) in
-        let long = went_long s.dev (calls_in sent c.cut.later s.now c.cut.rest) in
+        let long = went_long s.dev (calls_in sent cut.later s.now cut.rest) in
         record {
           since = record {
-            sooner = c.cut.sooner;
+            sooner = cut.sooner;
             mid = mid;
-            led = c.cut.led;
+            led = cut.led;
             sent = sent;
-            does = c.cut.does;
-            later = c.cut.later;
-            rest = c.cut.rest;
-            is = c.cut.is;
-            alone = subst (AreNotIssued s.slot) (sym c.is) clear;
-            done = s.before ++ (c.cut.sooner ++ deed ∷ []);
+            does = cut.does;
+            later = cut.later;
+            rest = cut.rest;
+            is = cut.is;
+            alone = subst (AreNotIssued s.slot) (sym back_is) clear;
+            done = s.before ++ (cut.sooner ++ deed ∷ []);
             until = until;
             done_is = refl;
             fed = a.fed;
           };
-          is = c.is;
+          is = back_is;
           few = omega (arith, inside, same, long);
           whole = λ way.
-              (let q = plain_now s.slot issue there mine in
-              let k : IsController s.now.controller = kept_of laws.singles.falls s.now (last_ruled s.deeds s.at s.now s.run) in
-              let all = all_went s.dev s.slot s.low s.now.controller k issue there mine (0 + went_in s.dev (calls_in sent c.cut.later s.now c.cut.rest)) a.last f.bytes ended q.0 q.1 way in
+              (let k : IsController s.now.controller = kept_of laws.own.falls s.now (last_ruled s.deeds s.at s.now s.run) in
+              let all = all_went s.dev s.slot s.low s.now.controller k issue there mine (0 + went_in s.dev (calls_in sent cut.later s.now cut.rest)) a.last f.bytes ended
+              (none_queued s.slot issue there mine) plain way in
               omega (arith, all, long));
         }
 
@@ -202,8 +226,8 @@ module _ (laws : Laws) (s : Stretch) (plain : AllKeepPlain s.many s.n s.dev s.at
 
   -- behind the last command, some of the Data that went since
   heard_since : (front later : List Call) (bytes order : List ℕ) (before_it back : List Event) → is_asking bytes ≡ true
-      → (all : picks is_asking (flat_map heard_by (singles.calls s)) ≡ asked s.many s.n (events s)) → singles.calls s ≡ front ++ Hears bytes ∷ (later ++ since_then)
-      → picks is_asking (flat_map heard_by (singles.calls s)) ≡ picks is_asking (flat_map heard_by front) ++ bytes ∷ []
+      → (all : picks is_asking (flat_map heard_by (calls s)) ≡ asked s.many s.n (events s)) → calls s ≡ front ++ Hears bytes ∷ (later ++ since_then)
+      → picks is_asking (flat_map heard_by (calls s)) ≡ picks is_asking (flat_map heard_by front) ++ bytes ∷ []
       → events s ≡ before_it ++ call.Turned (next.Order s.dev s.slot order) ∷ back → is_for s.many s.n (record { bytes = order; stamp = host_stamp s.dev }) ≡ true
       → asked s.many s.n (events s) ≡ asked s.many s.n before_it ++ marked order 0 ∷ []
       → Within (picks is_data (flat_map heard_by later)) (map as_heard (data_sent s.dev back))
@@ -214,11 +238,11 @@ module _ (laws : Laws) (s : Stretch) (plain : AllKeepPlain s.many s.n s.dev s.at
       let ls : List (List ℕ) = flat_map heard_by (later ++ since_then) in
       let ss : List (List ℕ) = frames_for s.many s.n before_it in
       let ts : List (List ℕ) = frames_for s.many s.n back in
-      let due : GathersDue s.at = (laws.singles.falls.runs s.old s.before s.at s.first opened.due).due in
-      let among : Within (flat_map heard_by (singles.calls s)) (frames_for s.many s.n (events s)) =
-      heard_among laws.singles.falling s.many s.n s.deeds s.at s.now s.run s.begins.disk s.begins.there (line_stays s.many s.n s.c s.dev s.deeds s.at s.now s.run s.keeps) due s.has_link s.lasts
+      let due : GathersDue s.at = (laws.own.falls.runs s.old s.before s.at s.first opened.due).due in
+      let among : Within (flat_map heard_by (calls s)) (frames_for s.many s.n (events s)) =
+      heard_among laws.own.falling s.many s.n s.deeds s.at s.now s.run s.begins.disk s.begins.there (line_stays s.many s.n s.c s.dev s.deeds s.at s.now s.run s.keeps) due s.has_link s.lasts
       s.begins.leaving s.begins.down in
-      let heard_is : flat_map heard_by (singles.calls s) ≡ hs ++ bytes ∷ ls = ap (flat_map heard_by) calls_are ∙ flat_map-append heard_by front (Hears bytes ∷ (later ++ since_then)) in
+      let heard_is : flat_map heard_by (calls s) ≡ hs ++ bytes ∷ ls = ap (flat_map heard_by) calls_are ∙ flat_map-append heard_by front (Hears bytes ∷ (later ++ since_then)) in
       let sent_is : frames_for s.many s.n (events s) ≡ ss ++ marked order 0 ∷ ts =
       ap (λ (l : List Event). frames_for s.many s.n l) is ∙ for_both s.many s.n before_it (x ∷ back)
       ∙ ap (λ (l : List (List ℕ)). ss ++ l) (for_one (is_for s.many s.n o) o (picks (is_for s.many s.n) (sent_in back)) to) in
@@ -227,7 +251,7 @@ module _ (laws : Laws) (s : Stretch) (plain : AllKeepPlain s.many s.n s.dev s.at
       let sent_long = length-append (picks is_asking ss) (marked order 0 ∷ []) in
       let few : length (picks is_asking ss) ≤ length (picks is_asking hs) = omega (arith, one, long, sent_long) in
       let both : Within (hs ++ bytes ∷ ls) (ss ++ marked order 0 ∷ ts) =
-      subst (λ (l : List (List ℕ)). Within l (ss ++ marked order 0 ∷ ts)) heard_is (subst (λ (l : List (List ℕ)). Within (flat_map heard_by (singles.calls s)) l) sent_is among) in
+      subst (λ (l : List (List ℕ)). Within l (ss ++ marked order 0 ∷ ts)) heard_is (subst (λ (l : List (List ℕ)). Within (flat_map heard_by (calls s)) l) sent_is among) in
       let tail : Within ls ts = behind_within bytes ls (marked order 0) ts (tail_within is_asking hs bytes ls ss (marked order 0 ∷ ts) asks few both) in
       let first : flat_map heard_by (later ++ since_then) ≡ flat_map heard_by later ++ flat_map heard_by since_then = flat_map-append heard_by later since_then in
       let begin : Within (picks is_data (flat_map heard_by later)) (picks is_data ls) =
@@ -240,7 +264,7 @@ module _ (laws : Laws) (s : Stretch) (plain : AllKeepPlain s.many s.n s.dev s.at
     where
       plain_all : ArePlain (events s)
       plain_all =
-          let led = controller_runs laws.singles.falls s.ports s.legacy s.old s.opening s.before s.at s.first in
+          let led = controller_runs laws.own.falls s.ports s.legacy s.old s.opening s.before s.at s.first in
           all_plain laws.orders laws.fed.fed.goes laws.fed.fed.stays s.old.controller s.opening.controller s.deeds s.at s.now s.run led.due (calls_in s.old s.before s.at s.first) led.calls
 
   -- ---- the moment at which the disk said so
@@ -249,35 +273,35 @@ module _ (laws : Laws) (s : Stretch) (plain : AllKeepPlain s.many s.n s.dev s.at
       → sent_by found.cut.mid (Moved (act.Speaks k (out.Of 32 replies.Done))) found.cut.next does ≡ f ∷ [] → Whole
   whole_at k does sent =
       let all : List Call = s.base ++ until_then in
-      let t : IsThen laws.singles s issue there mine waits f own found (out.Of 32 replies.Done) = is_then laws.singles s issue there mine waits f own found k (out.Of 32 replies.Done) does sent in
-      let on : AreKeptOn until_then = on_then laws.singles s issue there mine waits f own found in
-      let u : IsUnanswered until_then = (laws.singles.turn s.p s.limit s.base until_then t.whole s.idle on).answers (out.Of 32 replies.Done) t.says refl in
-      let l = is_last laws.singles s issue there mine waits f own found (record { front = u.front; bytes = u.bytes; later = u.later; split = u.split; asks = u.asks; answered = u.behind }) in
-      let e = earns (page_in s.p s.limit all 32) (laws.singles.pages s.p s.limit all 32 does.does.does.1.frame.bytes t.whole t.says does.does.does.1.bytes) in
+      let t : IsThen laws.own s f own prior found (out.Of 32 replies.Done) = is_then laws.own s f own prior found k (out.Of 32 replies.Done) does sent in
+      let on : AreKeptOn until_then = on_then laws.own s f own prior found in
+      let u : IsUnsettled s.base until_then = (settled laws.own s f own prior found t.whole).answers (out.Of 32 replies.Done) t.says refl in
+      let behind_all = u.behind in
+      let one = due_one laws.own s f own prior found issue there mine waits refl in
+      let l = is_last laws.own s f own prior found issue there mine waits refl (record {
+        front = u.front;
+        bytes = u.bytes;
+        later = u.later;
+        split = u.split;
+        asks = u.asks;
+        most = most_of laws.own s f own prior found issue there mine waits refl (heard_in u.front) (omega (arith, behind_all, one));
+      }) in
+      let e = earns (page_in s.p s.limit all 32) (laws.own.pages s.p s.limit all 32 does.does.does.1.frame.bytes t.whole t.says does.does.does.1.bytes) in
       let x : Call = Hears u.bytes in
       let split : all ≡ (s.base ++ u.front) ++ x ∷ u.later = ap (λ (q : List Call). s.base ++ q) u.split ∙ sym (append_assoc s.base u.front (x ∷ u.later)) in
       let whole : AreCalls (new_disk s.p s.limit) ((s.base ++ u.front) ++ x ∷ u.later) = subst (AreCalls (new_disk s.p s.limit)) split t.whole in
-      let front : AreCalls (new_disk s.p s.limit) (s.base ++ u.front) = first_calls (s.base ++ u.front) (x ∷ u.later) (new_disk s.p s.limit) whole in
-      let on_split : AreKeptOn (u.front ++ x ∷ u.later) = subst AreKeptOn u.split on in
-      let sum : answered_in until_then ≡ answered_in u.front + (0 + answered_in u.later) = ap answered_in u.split ∙ answered_both u.front (x ∷ u.later) in
-      let quiet = u.quiet in
-      let few = l.few in
-      let idle : IsIdle (host_of new_host (s.base ++ u.front)) =
-      (laws.singles.turn s.p s.limit s.base u.front front s.idle (kept_first u.front (x ∷ u.later) on_split)).idle (omega (arith, few, sum, quiet)) in
       let w : IsWrittenBehind s.p s.limit (s.base ++ u.front) u.bytes u.later e.page =
-      laws.came s.p s.limit (s.base ++ u.front) u.bytes u.later whole idle l.none (subst (λ (q : List Call). IsOut (reached s.p s.limit q) (Some (out.Of 32 replies.Done))) split t.says) e.page
+      laws.came s.p s.limit (s.base ++ u.front) u.bytes u.later whole u.idle l.none (subst (λ (q : List Call). IsOut (reached s.p s.limit q) (Some (out.Of 32 replies.Done))) split t.says) e.page
       (subst (λ (q : List Call). page_in s.p s.limit q 32 ≡ Some e.page) split e.is) in
       let c : Came s.p s.limit all u.bytes u.later e.page =
       subst (λ (q : List Call). Came s.p s.limit q u.bytes u.later e.page) (sym split) (record { asked = w.asked; is = w.is; came = w.came }) in
-      let q : WentFrom laws.singles s issue there mine waits f own found s.slot u.bytes = l.source in
+      let q : WentFrom laws.own s f own prior found issue there mine waits refl s.slot u.bytes = l.got.source in
       let from : IsFromSlot s.dev s.slot s.old s.before s.at s.first s.deeds s.now s.run u.bytes = q.from in
-      let calls_are : singles.calls s ≡ u.front ++ x ∷ (u.later ++ since_then) =
+      let calls_are : calls s ≡ u.front ++ x ∷ (u.later ++ since_then) =
       found.cut.own s.n ∙ ap (λ (y : List Call). y ++ since_then) u.split ∙ append_assoc u.front (x ∷ u.later) since_then in
-      let last = last_heard (singles.calls s) u.front (u.later ++ since_then) u.bytes calls_are u.asks l.more in
+      let last = last_heard (calls s) u.front (u.later ++ since_then) u.bytes calls_are u.asks l.more in
       let asks : is_asking (marked from.order 0) ≡ true = ap is_asking (sym from.heard) ∙ u.asks in
-      let cut : OrderCut s.many s.n s.dev s.dev s.slot from.order s.at s.deeds s.now s.run from.ordered.later =
-      find_order s.many s.n s.dev s.dev s.slot from.order s.deeds s.at s.now s.run plain from.ordered.before from.ordered.later from.ordered.is in
-      let g : Fed from.order from.ordered.later = fed from.order from.ordered.later cut from.alone q.is_its asks in
+      let g : Fed from.order from.ordered.later = fed from.order from.ordered.before from.ordered.later from.ordered.is from.alone q.is_its asks in
       let went : List (List ℕ) = went_to s.dev (calls_in g.since.sent g.since.later s.now g.since.rest) in
       let went_is_sent : data_sent s.dev from.ordered.later ≡ went = ap (data_sent s.dev) (sym g.is) ∙ sym (went_is s.dev (calls_in g.since.sent g.since.later s.now g.since.rest)) in
       let all_data : Within (picks is_data (flat_map heard_by u.later)) (map as_heard (data_sent s.dev from.ordered.later)) =
@@ -316,40 +340,24 @@ module _ (laws : Laws) (s : Stretch) (plain : AllKeepPlain s.many s.n s.dev s.at
       subst (λ (x : Out). (d : Does found.cut.mid (Moved (act.Speaks s.n x)) found.cut.next) → sent_by found.cut.mid (Moved (act.Speaks s.n x)) found.cut.next d ≡ f ∷ [] → Whole)
       (sym is) (λ d same. whole_at s.n d same) does sent
 
-  pub is_supplied : IsSpoken laws.singles s issue there mine waits f own found found.deed → (is_pio issue.work.kind ≡ false → is_answering f.bytes ≡ true)
+  pub is_supplied : IsSpoken laws.own s f own prior found found.deed → (is_pio issue.work.kind ≡ false → is_answering f.bytes ≡ true)
       → IsSuppliedSingle s.n s.dev s.slot s.old s.before s.at s.first s.deeds s.now s.run s.p s.limit s.base issue f
+  unfolding done_by
   is_supplied spoke register = record {
-    done = record {
-      register = register;
-      sooner = found.cut.sooner;
-      mid = found.cut.mid;
-      led = found.cut.led;
-      said = spoke.o;
-      after = found.cut.next;
-      does = spoke.does;
-      later = found.cut.later;
-      is = found.cut.is ∙ ap (λ (d : Deed). found.cut.sooner ++ d ∷ found.cut.later) spoke.is;
-      sent = spoke.sent;
-      rest = found.cut.rest;
-      own = said_calls laws.singles s issue there mine waits f own found spoke;
-      more = calls_of s.n found.cut.next found.cut.later s.now found.cut.rest;
-      calls = said_calls laws.singles s issue there mine waits f own found spoke;
-      answers = λ answering. (is_answers laws.singles s issue there mine waits f own found s.n spoke.o spoke.does spoke.sent well answering).answers;
-      went = λ answering. (is_answers laws.singles s issue there mine waits f own found s.n spoke.o spoke.does spoke.sent well answering).went;
-      slots = λ is. done_slots laws.singles s issue there mine waits f own found spoke.o spoke.does spoke.sent is;
-    };
+    done = done_by laws.own s f own prior found issue there mine waits refl well spoke register (λ other. absurd (false≢true (sym other ∙ register plain)))
+        (λ other. absurd (false≢true (sym other ∙ register plain)));
     whole = λ is. whole_if spoke.o spoke.does spoke.sent is;
   }
 
 -- ---- the law
 
 pub supplied_are : Laws → SingleWritesAreAsSupplied
-supplied_are laws ports legacy old opening before at first many n c dev slot below dev_low low begins_at p limit base are same idle deeds now run has_link lasts keeps on plain own_data took new does rules own
-    shows hides none issue there mine =
-    let opened : OpensSo old = laws.singles.falls.opens ports legacy old opening (first_ruled before old at first) in
-    let due : GathersDue at = (laws.singles.falls.runs old before at first opened.due).due in
-    let q : PlainRun many n dev at deeds now run = plain_run laws.fed.fed.goes laws.fed.fed.stays many n dev deeds at now run due plain in
-    let t : Told at.controller = told_now laws.singles.falls ports legacy old opening before at first in
+supplied_are laws ports legacy old opening before at first many n c dev slot below dev_low low begins_at p limit base are same idle deeds now run has_link lasts keeps on unqueued none_queued own_data took new
+    does rules own shows hides none issue there mine plain =
+    let opened : OpensSo old = laws.own.falls.opens ports legacy old opening (first_ruled before old at first) in
+    let due : GathersDue at = (laws.own.falls.runs old before at first opened.due).due in
+    let w : WaitingRun many n dev at deeds now run = waiting_run laws.fed.fed.goes laws.fed.fed.stays many n dev deeds at now run due unqueued in
+    let t : Told at.controller = told_now laws.own.falls ports legacy old opening before at first in
     let s : Stretch = record {
       ports = ports;
       legacy = legacy;
@@ -380,26 +388,17 @@ supplied_are laws ports legacy old opening before at first many n c dev slot bel
       lasts = lasts;
       keeps = keeps;
       on = on;
-      runs = q.runs;
-      of = q.of;
-      waiting = laws.wait dev dev_low at.controller now.controller (calls_in at deeds now run) q.runs.calls (t.past dev) (t.told dev dev_low) q.plain;
+      runs = w.runs;
+      of = w.of;
+      waiting = laws.wait dev dev_low at.controller now.controller (calls_in at deeds now run) w.runs.calls (t.past dev) (t.told dev dev_low) w.unqueued;
     } in
-    let h = does.does in
-    let f : Stamped = h.frame in
-    let link : AreLinked deeds = linked many n c dev deeds at now run keeps in
-    let was : Frames = frames_in no_frames old before at first in
-    let risen_at : HaveRisen at was = laws.singles.falls.rising old before at first no_frames (laws.singles.falls.opens_rising ports legacy old opening) in
-    let all : Frames = frames_in was at deeds now run in
-    let risen_now : HaveRisen now all = laws.singles.falls.rising at deeds now run was risen_at in
-    let order : InOrder n c (came s) (sent_of at deeds now run) f =
-    in_order n c at now was all (came s) (sent_of at deeds now run) f (laws.singles.order at was risen_at n c below) (laws.singles.order now all risen_now n c below)
-    (frames_are deeds at now run was link) begins_at.up begins_at.lasts (untaken_is now f h.once h.on) own in
-    let found : Found many n c dev at deeds now run (of_conn n c (came s)) f = find many n c dev deeds at now run keeps (of_conn n c (came s)) order.rest f order.is in
+    let f : Stamped = does.does.frame in
+    let pre : List Stamped = of_conn n c (came s) in
+    let found : Found many n c dev at deeds now run pre f = found_of laws.own s took new does own in
     let whole : IsWhole old before at first deeds now run = whole_run before old at first deeds now run in
-    let done = (laws.singles.completed ports legacy old opening (before ++ deeds) now whole.all took new does rules slot low shows hides none).ended in
-    let not_queued : is_queued_issue issue ≡ false = (plain_last many n dev deeds at now run plain slot issue there mine).0 in
-    let waits : is_waiting issue ≡ true = completed_waits slot low now.controller (kept_of laws.singles.falls now (last_ruled deeds at now run)) f.bytes done issue there not_queued in
+    let done = (laws.own.completed ports legacy old opening (before ++ deeds) now whole.all took new does rules slot low shows hides none).ended in
+    let not_queued : is_queued_issue issue ≡ false = none_queued slot issue there mine in
+    let waits : is_waiting issue ≡ true = completed_waits slot low now.controller (kept_of laws.own.falls now (last_ruled deeds at now run)) f.bytes done issue there not_queued in
     let well : IsErrorFis f.bytes → ⊥ = no_error slot now.controller f.bytes done in
-    is_supplied laws s plain own_data issue there mine waits f own found well done (plain_last many n dev deeds at now run plain)
-    (spoken laws.singles s issue there mine waits f own found found.deed found.cut.does found.line found.sent)
+    is_supplied laws s unqueued none_queued own_data issue there mine waits plain f own found well done (spoken laws.own s f own pre found found.deed found.cut.does found.line found.sent)
     (completed_by slot now.controller f.bytes done issue there not_queued)

@@ -25,10 +25,10 @@ use Rattle.machine_theorem.proofs.{BroughtAt.Brought, BroughtRead.{none_first}, 
 use Rattle.machine_theorem.proofs.{Fallen.line_stays, Falls.{Told, kept_of, told_now}}
 use Rattle.machine_theorem.proofs.{Ordered.first_ruled, Own.last_ruled}
 use Rattle.machine_theorem.proofs.{CameRead.all_sent, PlainRun.PlainRun}
-use Rattle.machine_theorem.proofs.{PlainRun.plain_run, TakenRead.hear_first, WaitingRun.all_unqueued}
-use Rattle.machine_theorem.proofs.{SinglesBrought.{by_event, came, not_queued, single_is}, SinglesOwn.{IsSpoken, IsThen, LastOf, Stretch, Waits}}
-use Rattle.machine_theorem.proofs.SinglesOwn.{begins_free, completed_by, completed_waits, found_of, is_last, is_then, issue_is, kept_first, mine}
-use Rattle.machine_theorem.proofs.{SinglesOwn.{no_error, on_then, sent_waits, set_up_sent, spoken, then'}, Stretch.whole_run}
+use Rattle.machine_theorem.proofs.{PlainRun.plain_run, WaitingRun.all_unqueued}
+use Rattle.machine_theorem.proofs.{SinglesBrought.{by_event, came, not_queued}, SinglesOwn.{Stretch}}
+use Rattle.machine_theorem.proofs.SinglesOwn.{begins_free, completed_by, found_of, issue_is, mine}
+use Rattle.machine_theorem.proofs.{SinglesOwn.{sent_waits, spoken}, Stretch.whole_run}
 use Rattle.machine_theorem.proofs.{Waiting.some_waits}
 use Rattle.machine_theorem.proofs.Anew as anew
 use Rattle.machine_theorem.proofs.Fallen as fallen
@@ -173,10 +173,8 @@ module _ (laws : Laws) (ports : ℕ) (legacy : Bool) (d : DiskStretch) (opening 
     pub free : once_if (waits_in dev d.at.controller) ≡ 0
     free =
         let found = found_of laws.singles s done.took done.new done.does of_it in
-        let waits : is_waiting issue ≡ true =
-        completed_waits d.tag low d.now.controller (kept_of laws.singles.falls d.now rules) end.bytes ended issue done.is plain in
-        let spoke = spoken laws.singles s issue done.is is_dev waits end of_it found found.deed found.cut.does found.line found.sent in
-        begins_free laws.singles s issue done.is is_dev waits end of_it found d.n spoke.o spoke.does spoke.sent
+        let spoke = spoken laws.singles s end of_it found found.deed found.cut.does found.line found.sent in
+        begins_free laws.singles s end of_it found d.n spoke.o spoke.does spoke.sent
         (completed_by d.tag d.now.controller end.bytes ended issue done.is plain other)
 
     pub none : holds (is_sent_read issue.dev) (issue_at d.at.controller.core.slots d.tag) ≡ false

@@ -18,10 +18,10 @@ use Rattle.sata_disk_laws.specs.{Calls.{Call, Hears}, Laws.reached}
 use Rattle.ahci_machine.specs.States.{IsOpeningMachine, MachineState}
 use Rattle.machine_laws.specs.{ControllerLaws.{RunsRuled, calls_in}, Deeds.Deed, Feeding.came_in}
 use Rattle.machine_theorem.specs.{CountedAlike.IsCountedAlike, Identity.calls_of, InTurn.{heard_in, is_answering, is_asking}}
-use Rattle.machine_theorem.specs.{IssuedWork.IssuesMoveAsSupplied, SingleWrites.{AllKeepPlain, IsFedWhole, IsSuppliedSingle}}
+use Rattle.machine_theorem.specs.{IssuedWork.IssuesMoveAsSupplied, SingleWrites.{IsFedWhole, IsSuppliedSingle}}
 use Rattle.machine_theorem.specs.{SingleWrites.{SingleWritesAreAsSupplied, went_to}, StoredSingles.{CompletedSinglesAreStored, IsByteFed}}
 use Rattle.machine_theorem.specs.{StoredSingles.{IsEndedWrite, IsNamedBy, IsStoredWhole, is_write, is_writing, writes}, Tags.once_if}
-use Rattle.machine_theorem.specs.{Transfers.{is_transfer, is_transferring, transfers}, Waits.HasPlain, Writes.payloads}
+use Rattle.machine_theorem.specs.{Transfers.{is_transfer, is_transferring, transfers}, Writes.payloads}
 use Rattle.machine_theorem.proofs.{BytesFed.byte_fed, Counts.{counted_alike, frame_is}, WriteNames.{are_named, writing}}
 
 -- ---- the command that was heard last
@@ -74,11 +74,6 @@ writes_transfers (Ok (view.RegH2D f)) is =
     ∙ write_transfers (transfer_of (field H2d Command f)) (field H2d Command f) both.1
 writes_transfers (Ok other) is = absurd (false≢true is)
 writes_transfers (Err fault) is = absurd (false≢true is)
-
-plain_last : (many : Bool) (n dev : ℕ) (deeds : List Deed) (old now : MachineState) (run : RunsRuled old deeds now)
-    → AllKeepPlain many n dev old deeds now run → HasPlain dev now.controller
-plain_last many n dev [] old now run keeps = subst (λ (m : MachineState). HasPlain dev m.controller) (sym run.1) keeps
-plain_last many n dev (deed ∷ later) old now run keeps = plain_last many n dev later run.1.0 now run.1.2 keeps.1
 
 -- ---- the write
 
@@ -148,12 +143,11 @@ module _ (moves : IssuesMoveAsSupplied) (ports : ℕ) (legacy : Bool) (old : Mac
 
 pub stored_are : Laws → CompletedSinglesAreStored
 stored_are laws ports legacy old opening before at first many n c dev slot below dev_low low begins p limit base are same idle deeds now run has_link
-    lasts keeps on plain own_data took new does rules own shows hides none issue there mine =
+    lasts keeps on unqueued none_queued own_data took new does rules own shows hides none issue there mine plain =
     let s =
     laws.singles ports legacy old opening before at first many n c dev slot below dev_low low begins p limit base are same idle deeds now run
-    has_link lasts keeps on plain own_data took new does rules own shows hides none issue there mine in
-    let answering : is_answering does.does.frame.bytes ≡ true =
-    s.done.register (plain_last many n dev deeds at now run plain slot issue there mine).1 in
+    has_link lasts keeps on unqueued none_queued own_data took new does rules own shows hides none issue there mine plain in
+    let answering : is_answering does.does.frame.bytes ≡ true = s.done.register plain in
     let a = s.done.answers answering in
     record {
       done = s;

@@ -21,8 +21,8 @@ use Rattle.ahci_machine.specs.States.{HasRules, IsOpeningMachine, MachineState}
 use Rattle.ahci_machine.specs.declared.act.Act.TheVariants as act
 use Rattle.machine_laws.specs.{ControllerLaws.RunsRuled, Deeds.{Deed, Does, Moved}}
 use Rattle.machine_theorem.specs.{Completed.CompletionsAreOfDevices, CountedAlike.IsCountedAlike, InTurn.{commands, is_asking}}
-use Rattle.machine_theorem.specs.{IssuedWork.IssuesMoveAsSupplied, PioIn.UnqueuedAreOfSlotsIf, Singles.{IsFromSlot, SinglesAreOfSlotsIf}}
-use Rattle.machine_theorem.specs.WholeSingles.{MovesSectors, SinglesAreWholeIf, UnqueuedAreWholeIf}
+use Rattle.machine_theorem.specs.{IssuedWork.IssuesMoveAsSupplied, PioIn.UnqueuedAreOfSlotsIf, Singles.IsFromSlot}
+use Rattle.machine_theorem.specs.WholeSingles.{MovesSectors, UnqueuedAreWholeIf}
 use Rattle.machine_theorem.proofs.{Counts.{control_at, counted_alike, frame_is, marked_fields, work_at}, Own.last_ruled, SinglesOwn.completed_waits}
 use Rattle.machine_theorem.proofs.Stretch.{whole_run}
 
@@ -93,32 +93,14 @@ module _ (laws : Laws) (ports : ℕ) (legacy : Bool) (old : MachineState) (openi
 
 -- ---- the laws
 
-pub singles_whole : Laws
-    → (Waits : (dev : ℕ) → (old : ControllerState) → (events : List Event) → (now : ControllerState) → Runs old events now → Type 0)
-    → SinglesAreOfSlotsIf Waits → SinglesAreWholeIf Waits
-singles_whole laws Waits law ports legacy old opening before at first many n c dev slot below dev_low low begins p limit base are same idle deeds
-    now run has_link lasts keeps on runs of waiting took new does rules own shows hides none issue there mine plain =
-    let done =
-    law ports legacy old opening before at first many n c dev slot below dev_low low begins p limit base are same idle deeds now run
-    has_link lasts keeps on runs of waiting took new does rules own shows hides none issue there mine plain in
-    let command : is_control issue.work.kind ≡ false =
-    is_sent laws ports legacy old opening before at first dev slot low deeds now run issue there took new does rules shows hides none plain in
-    record {
-      done = done;
-      moved = λ said moves.
-          (let s = done.slots said in
-          of_slot laws ports legacy old opening before at first dev slot low deeds now run issue there command p limit _ s.page.command s.asked
-          s.slots moves);
-    }
-
 pub unqueued_whole : Laws
     → (Waits : (dev : ℕ) → (old : ControllerState) → (events : List Event) → (now : ControllerState) → Runs old events now → Type 0)
     → UnqueuedAreOfSlotsIf Waits → UnqueuedAreWholeIf Waits
-unqueued_whole laws Waits law ports legacy old opening before at first many n c dev slot below dev_low low begins clear p limit base are same idle
-    deeds now run has_link lasts keeps on runs of waiting took new does rules own shows hides none issue there mine plain =
+unqueued_whole laws Waits law ports legacy old opening before at first many n c dev slot below dev_low low begins p limit base are same idle
+    deeds now run has_link lasts keeps on runs of waiting took new does rules own shows hides none issue there mine plain clear =
     let done =
-    law ports legacy old opening before at first many n c dev slot below dev_low low begins clear p limit base are same idle deeds now run
-    has_link lasts keeps on runs of waiting took new does rules own shows hides none issue there mine plain in
+    law ports legacy old opening before at first many n c dev slot below dev_low low begins p limit base are same idle deeds now run
+    has_link lasts keeps on runs of waiting took new does rules own shows hides none issue there mine plain clear in
     let command : is_control issue.work.kind ≡ false =
     is_sent laws ports legacy old opening before at first dev slot low deeds now run issue there took new does rules shows hides none plain in
     record {

@@ -1,9 +1,9 @@
 -- A flush reaches what was written before: where the guest saw a write completed, queued or not, and then a FLUSH CACHE, the disk's caller answered a flush
 -- well that was asked for after the stores of the write were answered (AHCI 1.3.1, 3.3.13, PxSACT, and 3.3.14, PxCI; Serial ATA 3.x, 10.5, Set Device Bits
 -- and Register Device to Host; ACS-3, 7.10, FLUSH CACHE, and 7.11, FLUSH CACHE EXT).
-use Rattle.std.specs.Prelude.{ℕ, ◌≡◌, ◌<◌, Bool, true, false, List, [], ◌∷◌, ◌++◌, Some, None}
+use Rattle.std.specs.Prelude.{ℕ, ◌≡◌, ◌<◌, Bool, true, List, [], ◌∷◌, ◌++◌, Some, None}
 use Rattle.fis_view.specs.Frames.{Stamped}
-use Rattle.slots.specs.Slots.{Issue, is_pio}
+use Rattle.slots.specs.Slots.{Issue}
 use Rattle.block_disk.specs.Laws.{Page}
 use Rattle.controller_laws.specs.Events.{Event}
 use Rattle.block_engine.specs.declared.request.{Answer.TheVariants.Done, Request.Request}
@@ -18,7 +18,7 @@ use Rattle.sata_disk_media.specs.{Cells.{covers, sector_of}, Laws.{AreSparing, E
 use Rattle.ahci_machine.specs.{States.{MachineState, bay_at}, declared.bay.Unit.TheVariants.Disk}
 use Rattle.machine_laws.specs.{ControllerLaws.{RunsRuled, calls_in}, Deeds.Deed}
 use Rattle.machine_theorem.specs.{Completions.IsDone, FirstDeeds.{first_deeds, first_run, machine_at}, Flushes.{IsFlushDone, OfSingles}}
-use Rattle.machine_theorem.specs.{Flushing.is_flushing, Identity.{calls_of, is_left}, Singles.IsDoneSingle, Waits.{AllKeepWaiting, AllPlain}}
+use Rattle.machine_theorem.specs.{Ending.{AllKeepEnding, AllUnqueued}, Flushing.is_flushing, Identity.{calls_of, is_left}, PioIn.IsDoneThere}
 
 -- ---- the write
 
@@ -36,12 +36,12 @@ pub record HasEnded (p : Profile) (limit : ℕ) (calls : List Call) (written : P
 -- ---- the write that the guest saw completed
 
 -- The write of a page is the command that the disk ended well, and whose bit fell behind a stretch: of PxSACT, as `completions_are_of_their_slots` says of a
--- queued one; or of PxCI, as `singles_are_of_their_slots` says of one that is not queued.
+-- queued one; or of PxCI, as `unqueued_commands_are_of_their_slots` says of one that is not queued.
 pub data WasCompleted (n : ℕ) (old : MachineState) (before : List Deed) (at : MachineState) (first : RunsRuled old before at) (deeds : List Deed)
     (now : MachineState) (run : RunsRuled at deeds now) (p : Profile) (limit : ℕ) (base : List Call) (written : Page) : Type 0 where
   Queued : (many : Bool) (tag : ℕ) (f : Stamped) → tag < 32 → (done : IsDone many n tag old before at first deeds now run p limit base f)
       → done.page ≡ written → WasCompleted n old before at first deeds now run p limit base written
-  Single : (dev slot : ℕ) (issue : Issue) (f : Stamped) → (done : IsDoneSingle n dev slot old before at first deeds now run p limit base issue f)
+  Single : (dev slot : ℕ) (issue : Issue) (f : Stamped) → (done : IsDoneThere n dev slot old before at first deeds now run p limit base issue f)
       → (said : done.said ≡ out.Of 32 replies.Done) → (done.slots said).page ≡ written → WasCompleted n old before at first deeds now run p limit base written
 
 -- It was behind a stretch of the run that led to this machine. The calls of the disk until now are those before this stretch, those of it, and those since.
@@ -96,17 +96,17 @@ pub record FlushesWrites (n dev slot : ℕ) (old : MachineState) (before : List 
   pub flush : IsFlushDone n dev slot old before at first deeds now run p limit base issue f
   -- Take a write that the disk had ended well as it heard a FLUSH CACHE. Each of its sectors was stored as it came, and then flushed, before the disk said that
   -- the FLUSH CACHE ended.
-  pub ended : (plain : is_pio issue.work.kind ≡ false) → is_flushing (flush.done.answers (flush.done.register plain)).command.bytes ≡ true
-      → (written : Page) → HasEnded p limit (base ++ (flush.done.answers (flush.done.register plain)).command.front) written
+  pub ended : is_flushing (flush.done.answers flush.answering).command.bytes ≡ true
+      → (written : Page) → HasEnded p limit (base ++ (flush.done.answers flush.answering).command.front) written
       → (s : ℕ) → covers written.command.lba written.command.count s ≡ true
       → IsStoredAndFlushed p limit (base ++ calls_of n at flush.done.sooner flush.done.mid flush.done.led) written s
   -- Such a write is each that the guest had seen completed as the stretch began.
-  pub seen : (plain : is_pio issue.work.kind ≡ false) → is_flushing (flush.done.answers (flush.done.register plain)).command.bytes ≡ true
+  pub seen : is_flushing (flush.done.answers flush.answering).command.bytes ≡ true
       → (written : Page) → WasWritten n old at p limit base written → (s : ℕ) → covers written.command.lba written.command.count s ≡ true
       → IsStoredAndFlushed p limit (base ++ calls_of n at flush.done.sooner flush.done.mid flush.done.led) written s
   -- And so is each that it had seen completed at a moment of the stretch, before the FIS of the FLUSH CACHE went from its slot: behind the first k deeds.
-  pub here : (plain : is_pio issue.work.kind ≡ false) → is_flushing (flush.done.answers (flush.done.register plain)).command.bytes ≡ true
-      → (k : ℕ) (since : List Event) → (flush.done.answers (flush.done.register plain)).slots.ordered.before
+  pub here : is_flushing (flush.done.answers flush.answering).command.bytes ≡ true
+      → (k : ℕ) (since : List Event) → (flush.done.answers flush.answering).slots.ordered.before
       ≡ calls_in at (first_deeds k deeds) (machine_at k at deeds now run) (first_run k at deeds now run) ++ since
       → (written : Page) → WasWritten n old (machine_at k at deeds now run) p limit
       (base ++ calls_of n at (first_deeds k deeds) (machine_at k at deeds now run) (first_run k at deeds now run)) written
@@ -116,10 +116,10 @@ pub record FlushesWrites (n dev slot : ℕ) (old : MachineState) (before : List 
 -- ---- the laws
 
 abbrev pub FlushesFollowWrites : Type 0
-FlushesFollowWrites = OfSingles AllKeepWaiting FlushesWrites
+FlushesFollowWrites = OfSingles AllKeepEnding FlushesWrites
 
 abbrev pub PlainFlushesFollowWrites : Type 0
-PlainFlushesFollowWrites = OfSingles AllPlain FlushesWrites
+PlainFlushesFollowWrites = OfSingles AllUnqueued FlushesWrites
 
 -- ---- the calls of a disk from one stretch to the next
 

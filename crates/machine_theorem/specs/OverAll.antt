@@ -19,7 +19,7 @@ use Rattle.sata_disk_media.specs.{Cells.{covers, sector_of}, Laws.{EndsWell, nex
 use Rattle.ahci_machine.specs.{States.{MachineState, bay_at}, declared.bay.Unit.TheVariants.Disk}
 use Rattle.ahci_machine.specs.declared.act.Act.TheVariants as act
 use Rattle.machine_laws.specs.{ControllerLaws.RunsRuled, Deeds.{Deed, Does, Moved}, Disks.is_removed}
-use Rattle.machine_theorem.specs.{Completions.IsDone, Identity.calls_of, InTurn.IsIdle, ReadBack.IsUntouched, Singles.IsDoneSingle}
+use Rattle.machine_theorem.specs.{Completions.IsDone, Identity.calls_of, InTurn.IsIdle, PioIn.IsDoneThere, ReadBack.IsUntouched}
 
 -- ---- what a disk says
 
@@ -70,7 +70,7 @@ pub data IsSeen (n slot : ℕ) (old : MachineState) (before : List Deed) (at : M
     (now : MachineState) (run : RunsRuled at deeds now) (p : Profile) (limit : ℕ) (base : List Call) (fis : Stamped) : Type 0 where
   Queued : (many : Bool) → slot < 32 → IsDone many n slot old before at first deeds now run p limit base fis
       → IsSeen n slot old before at first deeds now run p limit base fis
-  Single : (dev : ℕ) → (issue : Issue) → (done : IsDoneSingle n dev slot old before at first deeds now run p limit base issue fis)
+  Single : (dev : ℕ) → (issue : Issue) → (done : IsDoneThere n dev slot old before at first deeds now run p limit base issue fis)
       → done.said ≡ out.Of 32 replies.Done → IsSeen n slot old before at first deeds now run p limit base fis
 
 -- so the disk said at a moment of the stretch that the command ended well

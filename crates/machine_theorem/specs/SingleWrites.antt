@@ -1,11 +1,11 @@
 -- What a disk takes for a write that is not queued is what the caller had supplied for the command of its own slot, from the first byte on, in order, and
 -- the guest sees the write completed behind all of it (AHCI 1.3.1, 3.3.14, PxCI, 4.2.3.3, 5.3 and 9.3; Serial ATA 3.x, 10.5, DMA Activate, PIO Setup, Data
--- and Register Device to Host; ACS-3, 4, DMA and PIO data-out protocols). So it is over each stretch of a run as in Singles.
+-- and Register Device to Host; ACS-3, 4, DMA and PIO data-out protocols). So it is over each stretch of a run as in PioReads.
 use Rattle.std.specs.Prelude.{ℕ, ◌≡◌, ◌<◌, ◌≤◌, ◌+◌, ◌==◌, Bool, true, false, List, [], ◌∷◌, ◌++◌, length, map, Some, if◌then◌else◌}
 use Rattle.fis_view.specs.Frames.{Stamped, marked}
-use Rattle.slots.specs.{Slots.{Issue, has_bit, issue_at}, Work.is_read}
+use Rattle.slots.specs.{Slots.{Issue, has_bit, is_pio, issue_at}, Work.is_read}
 use Rattle.ahci_registers.specs.declared.register.Register.TheVariants.{PxCi, PxSact}
-use Rattle.ahci_controller.specs.{Reading.shown, States.ControllerState, declared.{feeding.Fed.TheVariants.Goes, latch.Edge.Edge, taking.Took.Took}}
+use Rattle.ahci_controller.specs.{Reading.shown, declared.{feeding.Fed.TheVariants.Goes, latch.Edge.Edge, taking.Took.Took}}
 use Rattle.ahci_controller.specs.declared.next.Next.TheVariants as next
 use Rattle.ata_reply.specs.declared.reply.Reply.TheVariants as replies
 use Rattle.block_command.specs.Laws.{IsEarned}
@@ -19,34 +19,11 @@ use Rattle.sata_disk_books.specs.Books.{IsAskedFor, page_in}
 use Rattle.sata_disk_laws.specs.{Calls.{AreCalls, Call, Hears}, Laws.reached, Once.{host_of, new_host}}
 use Rattle.ahci_machine.specs.States.{HasRules, IsOpeningMachine, MachineState}
 use Rattle.ahci_machine.specs.declared.act.Act.TheVariants as act
-use Rattle.machine_laws.specs.{ControllerLaws.{RunsRuled, calls_in}, Controllers.deed_calls, Deeds.{Deed, Does, Moved, Wrote}, Falling.AllLast}
+use Rattle.machine_laws.specs.{ControllerLaws.{RunsRuled, calls_in}, Controllers.deed_calls, Deeds.{Deed, Does, Moved}, Falling.AllLast}
 use Rattle.machine_laws.specs.{Falling.HasLink, Feeding.{came_by, came_in, data_with}}
 use Rattle.machine_theorem.specs.{Commands.AreNotIssued, Crossing.Within, Identity.calls_of, InTurn.{AreKeptOn, IsIdle, heard_in, is_asking}}
-use Rattle.machine_theorem.specs.{OwnSlots.{AllKeepLine, is_of}, OwnWrites.AreOwnData, SingleData.{GoesNext, went_in}, Singles.BeginsIdle}
-use Rattle.machine_theorem.specs.{Singles.{IsDoneSingle, IsFromSlot, IsOfDevice}, Waits.{HasPlain, waits_in}, Writes.payloads}
-
--- ---- what the guest keeps to
-
--- a write takes no command that waits from its slot
-abbrev pub SparesBy : (dev : ℕ) → ControllerState → Deed → ControllerState → Type 0
-SparesBy dev old (Wrote offset width value written) new = waits_in dev old ≡ true → waits_in dev new ≡ true
-SparesBy dev old deed new = Unit {0}
-
--- a FIS that is a command for the disk is that of a slot, for this device
-abbrev pub IsOfBy : (many : Bool) → (n dev : ℕ) → ControllerState → Deed → Type 0
-IsOfBy many n dev c (Moved (act.Turns said)) = IsOfDevice many n dev c (call.Turned said)
-IsOfBy many n dev c deed = Unit {0}
-
--- No queued command and no PIO data-in is issued for the device.
-pub record KeepsPlain (many : Bool) (n dev : ℕ) (old : MachineState) (deed : Deed) (new : MachineState) : Type 0 where
-  pub plain : HasPlain dev old.controller
-  pub spares : SparesBy dev old.controller deed new.controller
-  pub of : IsOfBy many n dev old.controller deed
-
--- so it is at each machine of a run, the first and the last, too
-abbrev pub AllKeepPlain : (many : Bool) → (n dev : ℕ) → (old : MachineState) → (deeds : List Deed) → (now : MachineState) → RunsRuled old deeds now → Type 0
-AllKeepPlain many n dev old [] now run = HasPlain dev old.controller
-AllKeepPlain many n dev old (deed ∷ later) now run = KeepsPlain many n dev old deed run.1.0 × AllKeepPlain many n dev run.1.0 later now run.1.2
+use Rattle.machine_theorem.specs.{Ending.HasNoQueued, OwnSlots.{AllKeepLine, is_of}, OwnWrites.AreOwnData, PioIn.IsDoneThere}
+use Rattle.machine_theorem.specs.{PioReads.AllKeepUnqueued, SingleData.{GoesNext, went_in}, Singles.{BeginsIdle, IsFromSlot}, Writes.payloads}
 
 -- ---- the Data that go
 
@@ -125,26 +102,27 @@ pub record IsFedWhole (n dev slot : ℕ) (old : MachineState) (before : List Dee
   pub whole : is_read issue.work.kind ≡ false → length (payloads (went_to dev (calls_in since.sent since.later now since.rest))) ≡ issue.work.len
   pub all : issue.work.len ≤ length page.ledger.came → page.ledger.came ≡ payloads (went_to dev (calls_in since.sent since.later now since.rest))
 
--- It is done as in Singles: the disk at the port sent the FIS at a moment of the stretch. If it says by it that a command ended well which is not queued,
+-- It is done as in PioIn: the disk at the port sent the FIS at a moment of the stretch. If it says by it that a command ended well which is not queued,
 -- and moves sectors, it is so.
 pub record IsSuppliedSingle (n dev slot : ℕ) (old : MachineState) (before : List Deed) (at : MachineState) (first : RunsRuled old before at)
     (deeds : List Deed) (now : MachineState) (run : RunsRuled at deeds now) (p : Profile) (limit : ℕ) (base : List Call) (issue : Issue) (f : Stamped) : Type 0 where
-  pub done : IsDoneSingle n dev slot old before at first deeds now run p limit base issue f
+  pub done : IsDoneThere n dev slot old before at first deeds now run p limit base issue f
   pub whole : done.said ≡ out.Of 32 replies.Done
       → IsFedWhole n dev slot old before at first deeds now run p limit (base ++ calls_of n at done.sooner done.mid done.led) issue
 
 -- ---- the law
 
--- Over each stretch as in Singles in which the guest keeps to this, and Data that may fall to the port go to the device: where a bit of PxCI falls behind
--- it as a FIS of the connection is taken, and the slot has a command for the device.
+-- Over each stretch as in PioReads in which the guest sends the disk no queued command, and Data that may fall to the port go to the device, whatever
+-- reads and writes end in it: where a bit of PxCI falls behind it as a FIS of the connection is taken, and the slot has a command for the device that is no
+-- PIO data-in.
 abbrev pub SingleWritesAreAsSupplied : Type 0
 SingleWritesAreAsSupplied = (ports : ℕ) (legacy : Bool) (old : MachineState) → IsOpeningMachine ports legacy old
     → (before : List Deed) (at : MachineState) (first : RunsRuled old before at) (many : Bool) (n c dev slot : ℕ) → n < 15 → dev < 16 → slot < 32
     → (begins : BeginsIdle n c at) → (p : Profile) (limit : ℕ) (base : List Call) → AreCalls (new_disk p limit) base → begins.disk ≡ reached p limit base
     → IsIdle (host_of new_host base) → (deeds : List Deed) (now : MachineState) (run : RunsRuled at deeds now)
     → HasLink deeds → AllLast n at deeds now run → AllKeepLine many n c dev at deeds now run → AreKeptOn (calls_of n at deeds now run)
-    → AllKeepPlain many n dev at deeds now run → AreOwnData many n dev (calls_in at deeds now run)
+    → AllKeepUnqueued many n dev at deeds now run → HasNoQueued dev now.controller → AreOwnData many n dev (calls_in at deeds now run)
     → (took : Took) (new : MachineState) → (does : Does now (Moved (act.Takes took)) new) → HasRules new → is_of n c does.does.frame ≡ true
     → has_bit (shown PxCi now.controller) slot ≡ true → has_bit (shown PxCi new.controller) slot ≡ false → has_bit (shown PxSact new.controller) slot ≡ false
-    → (issue : Issue) → issue_at now.controller.core.slots slot ≡ Some issue → issue.dev ≡ dev
+    → (issue : Issue) → issue_at now.controller.core.slots slot ≡ Some issue → issue.dev ≡ dev → is_pio issue.work.kind ≡ false
     → IsSuppliedSingle n dev slot old before at first deeds now run p limit base issue does.does.frame

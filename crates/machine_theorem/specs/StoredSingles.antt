@@ -6,7 +6,7 @@ use Rattle.std.specs.Prelude.{ℕ, ◌≡◌, ◌-◌, ◌<◌, ◌≤◌, ◌+�
 use Rattle.std.specs.Prelude.{Some, Result, Ok}
 use Rattle.fis_view.specs.{Frames.{Stamped, marked}, Seen.seen, Table.{H2d, Command, field}, declared.view.{Fis.Fis, FisFault.FisFault}}
 use Rattle.fis_view.specs.declared.view.Fis.TheVariants as view
-use Rattle.slots.specs.Slots.{Issue, has_bit, issue_at}
+use Rattle.slots.specs.Slots.{Issue, has_bit, is_pio, issue_at}
 use Rattle.guest_fetch.specs.Heads.{asked_work, fields_in}
 use Rattle.ahci_registers.specs.declared.register.Register.TheVariants.{PxCi, PxSact}
 use Rattle.ahci_controller.specs.{Reading.shown, declared.{feeding.Fed.TheVariants.Goes, latch.Edge.Edge, taking.Took.Took}}
@@ -23,7 +23,8 @@ use Rattle.ahci_machine.specs.States.{HasRules, IsOpeningMachine, MachineState}
 use Rattle.ahci_machine.specs.declared.act.Act.TheVariants as act
 use Rattle.machine_laws.specs.{ControllerLaws.{RunsRuled, calls_in}, Deeds.{Deed, Does, Moved}, Falling.{AllLast, HasLink}, Feeding.came_in}
 use Rattle.machine_theorem.specs.{Identity.calls_of, InTurn.{AreKeptOn, IsIdle, is_answering}, OwnSlots.{AllKeepLine, is_of}, OwnWrites.AreOwnData}
-use Rattle.machine_theorem.specs.{SingleWrites.{AllKeepPlain, IsFedNext, IsFedWhole, IsSuppliedSingle, went_to}, Singles.BeginsIdle, Writes.payloads}
+use Rattle.machine_theorem.specs.{Ending.HasNoQueued, PioReads.AllKeepUnqueued, Singles.BeginsIdle, Writes.payloads}
+use Rattle.machine_theorem.specs.SingleWrites.{IsFedNext, IsFedWhole, IsSuppliedSingle, went_to}
 
 -- ---- the commands
 
@@ -117,15 +118,15 @@ pub record IsStoredSingle (n dev slot : ℕ) (old : MachineState) (before : List
 -- ---- the law
 
 -- So it is over each stretch as in SingleWrites, of each bit of PxCI that falls behind it as a FIS of the connection is taken, where the slot has a
--- command for the device.
+-- command for the device that is no PIO data-in.
 abbrev pub CompletedSinglesAreStored : Type 0
 CompletedSinglesAreStored = (ports : ℕ) (legacy : Bool) (old : MachineState) → IsOpeningMachine ports legacy old
     → (before : List Deed) (at : MachineState) (first : RunsRuled old before at) (many : Bool) (n c dev slot : ℕ) → n < 15 → dev < 16
     → slot < 32 → (begins : BeginsIdle n c at) → (p : Profile) (limit : ℕ) (base : List Call) → AreCalls (new_disk p limit) base
     → begins.disk ≡ reached p limit base → IsIdle (host_of new_host base) → (deeds : List Deed) (now : MachineState) (run : RunsRuled at deeds now)
     → HasLink deeds → AllLast n at deeds now run → AllKeepLine many n c dev at deeds now run → AreKeptOn (calls_of n at deeds now run)
-    → AllKeepPlain many n dev at deeds now run → AreOwnData many n dev (calls_in at deeds now run)
+    → AllKeepUnqueued many n dev at deeds now run → HasNoQueued dev now.controller → AreOwnData many n dev (calls_in at deeds now run)
     → (took : Took) (new : MachineState) → (does : Does now (Moved (act.Takes took)) new) → HasRules new → is_of n c does.does.frame ≡ true
     → has_bit (shown PxCi now.controller) slot ≡ true → has_bit (shown PxCi new.controller) slot ≡ false
     → has_bit (shown PxSact new.controller) slot ≡ false → (issue : Issue) → issue_at now.controller.core.slots slot ≡ Some issue → issue.dev ≡ dev
-    → IsStoredSingle n dev slot old before at first deeds now run p limit base issue does.does.frame
+    → is_pio issue.work.kind ≡ false → IsStoredSingle n dev slot old before at first deeds now run p limit base issue does.does.frame

@@ -56,16 +56,7 @@ abbrev pub CommandsAwaitAnswers : Type 0
 CommandsAwaitAnswers = (dev : ℕ) (old now : ControllerState) (events : List Event) (run : Runs old events now) → AllKeepWaiting dev old events now run
     → commanded_in dev old events now run + once_if (waits_in dev old) ≤ taken_in dev events + once_if (waits_in dev now)
 
--- A command is sent to the device from a slot by this call, and none behind it, and no Register FIS of the device is taken.
-pub record IsLastCommand (dev slot : ℕ) (fis : List ℕ) (later : List Event) (now : ControllerState) : Type 0 where
-  pub at : ControllerState
-  pub run : Runs at (call.Turned (next.Order dev slot fis) ∷ later) now
-  pub commanded : is_commanded dev at (call.Turned (next.Order dev slot fis)) ≡ true
-  pub keeps : AllKeepWaiting dev run.1.0 later now run.1.2
-  pub none : commanded_in dev run.1.0 later now run.1.2 ≡ 0
-  pub untaken : taken_in dev later ≡ 0
-
--- Then the slot waits with this command, and nothing was issued there since; no other slot of the device waits.
+-- The slot waits with the command that went from it last, and nothing was issued there since; no other slot of the device waits.
 pub record IsWaitingAlone (dev slot : ℕ) (later : List Event) (now : ControllerState) : Type 0 where
   pub issue : Issue
   pub is : issue_at now.core.slots slot ≡ Some issue
@@ -73,10 +64,6 @@ pub record IsWaitingAlone (dev slot : ℕ) (later : List Event) (now : Controlle
   pub waits : is_waiting issue ≡ true
   pub alone : AreNotIssued slot later
   pub others : (s : ℕ) → s < 32 → (i : Issue) → issue_at now.core.slots s ≡ Some i → i.dev ≡ dev → is_waiting i ≡ true → s ≡ slot
-
-abbrev pub LastCommandsWait : Type 0
-LastCommandsWait = (dev : ℕ) → dev < 16 → (slot : ℕ) → slot < 32 → (fis : List ℕ) (later : List Event) (now : ControllerState)
-    → (last : IsLastCommand dev slot fis later now) → (past : History) → IsTold (view_of dev last.at.core) past → IsWaitingAlone dev slot later now
 
 -- ---- where a command waits
 

@@ -17,29 +17,30 @@ pub fn flushes_are_answered()
     sata_disk_laws::open_is_under_way();
 }
 
-/// A law for callers; it runs no code. Over each stretch of a run of a machine as in [`singles_are_of_their_slots`](crate::singles_are_of_their_slots): where a
+/// A law for callers; it runs no code. Over each stretch of a run of a machine as in
+/// [`unqueued_commands_are_of_their_slots`](crate::unqueued_commands_are_of_their_slots), with PIO data-in among its commands: where a
 /// bit of PxCI falls behind it as a FIS of the connection is taken, and the slot has a command for the device that is not queued and no PIO data-in, the
 /// disk answers by this FIS the command that the guest had supplied for the slot, as it was issued there last. If that is FLUSH CACHE or FLUSH CACHE EXT, the
 /// disk says that it ended well; and since it heard this command, in the stretch, it asked its caller for a flush, and the caller answered that very request,
-/// before the FIS was sent: it is done. It is enough that in the stretch the guest has no queued command and no PIO data-in in the slots for the device,
-/// and that no write takes a command that waits from its slot.
+/// before the FIS was sent: it is done. It is enough that in the stretch the guest has no queued command in the slots for the device, and that no write takes
+/// a command that waits from its slot.
 pub fn flushes_are_of_their_slots()
     ensures slots { FlushesAreOfSlots }
     ensures plain { PlainFlushesAreOfSlots }
 {
     crate::ends::completions_are_of_devices();
-    crate::in_turn::commands_go_in_turn();
-    crate::singles::singles_are_of_their_slots();
+    crate::pio::unqueued_commands_are_of_their_slots();
     flushes_are_answered();
     machine_laws::disks_go_on();
 }
 
 /// A law for callers; it runs no code. A flush reaches what was written before. Where the guest saw a write completed, be it queued, as
 /// [`completions_are_of_their_slots`](crate::completions_are_of_their_slots) says, or not, as
-/// [`singles_are_of_their_slots`](crate::singles_are_of_their_slots) does, and then a FLUSH CACHE, as in
-/// [`flushes_are_of_their_slots`](crate::flushes_are_of_their_slots), whose stretch begins later, or whose FIS went from its slot later in the stretch: each sector of the write was stored with the bytes that came for it, as the disk asked and
-/// the caller answered, and nothing else stored to it or discarded it before the write ended; and behind that the disk asked for a flush, and the caller answered
-/// that very request, before the disk said that the FLUSH CACHE ended.
+/// [`unqueued_commands_are_of_their_slots`](crate::unqueued_commands_are_of_their_slots) does, and then a FLUSH CACHE, as in
+/// [`flushes_are_of_their_slots`](crate::flushes_are_of_their_slots), whose stretch begins later, or whose FIS went from its slot later in the stretch: each
+/// sector of the write was stored with the bytes that came for it, as the disk asked and the caller answered, and nothing else stored to it or discarded it
+/// before the write ended; and behind that the disk asked for a flush, and the caller answered that very request, before the disk said that the FLUSH CACHE
+/// ended.
 /// So it is of each write that the disk had ended well as it heard the FLUSH CACHE. The disk of the later stretch is the one of the first as long as nothing is
 /// put at its port or taken from it, and its calls go on.
 pub fn flushes_follow_writes()

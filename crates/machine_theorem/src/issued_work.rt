@@ -3,9 +3,8 @@
 ghost use Rattle.machine_theorem.specs.CountedAlike.{CommandsAreCountedAlike};
 ghost use Rattle.machine_theorem.specs.Ending.{AllKeepEnding, AllUnqueued};
 ghost use Rattle.machine_theorem.specs.IssuedWork.{IssuesMoveAsSupplied};
-ghost use Rattle.machine_theorem.specs.Waits.{AllKeepWaiting, AllPlain};
 ghost use Rattle.machine_theorem.specs.WholeQueued.{QueuedCompletionsAreWhole};
-ghost use Rattle.machine_theorem.specs.WholeSingles.{SinglesAreWholeIf, UnqueuedAreWholeIf};
+ghost use Rattle.machine_theorem.specs.WholeSingles.{UnqueuedAreWholeIf};
 
 /// A law for callers; it runs no code. Over every run of a machine from its opening: what is issued in a slot moves what the FIS of the command asks
 /// for that was supplied for it, as it was issued there last: its kind, and how many bytes.
@@ -39,20 +38,9 @@ pub fn queued_completions_are_whole()
 }
 
 /// A law for callers; it runs no code. The same of a command that is not queued, over each stretch as in
-/// [`singles_are_of_their_slots`](crate::singles_are_of_their_slots): where a bit of PxCI falls behind it as a FIS of the connection is taken, the
-/// command is done as that law says; and if the disk says that it ended well, and its sectors were moved, the slot moved as many bytes as they have,
-/// the same way.
-pub fn single_completions_are_whole()
-    ensures slots { SinglesAreWholeIf AllKeepWaiting }
-    ensures plain { SinglesAreWholeIf AllPlain }
-{
-    issues_move_as_supplied();
-    crate::ends::completions_are_of_devices();
-    crate::singles::singles_are_of_their_slots();
-}
-
-/// A law for callers; it runs no code. The same with PIO data-in among the commands, over each stretch as in
-/// [`unqueued_commands_are_of_their_slots`](crate::unqueued_commands_are_of_their_slots).
+/// [`unqueued_commands_are_of_their_slots`](crate::unqueued_commands_are_of_their_slots): where a bit of PxCI falls behind it as a FIS of the connection is
+/// taken, the command is done as that law says; and if the disk says that it ended well, and its sectors were moved, the slot moved as many bytes as they
+/// have, the same way. So it is of a PIO data-in whose last Data end it.
 pub fn unqueued_completions_are_whole()
     ensures slots { UnqueuedAreWholeIf AllKeepEnding }
     ensures plain { UnqueuedAreWholeIf AllUnqueued }

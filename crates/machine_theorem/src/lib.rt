@@ -27,7 +27,6 @@ mod read_back;
 mod reads;
 mod single_reads;
 mod single_writes;
-mod singles;
 mod standing;
 mod stored_singles;
 mod stored_writes;
@@ -51,7 +50,7 @@ pub use identity::slots_name_their_disks_commands;
 pub use in_turn::commands_go_in_turn;
 pub use issued_work::{
     commands_are_counted_alike, issues_move_as_supplied, queued_completions_are_whole,
-    single_completions_are_whole, unqueued_completions_are_whole,
+    unqueued_completions_are_whole,
 };
 pub use moments::data_are_of_slots;
 pub use orders::commands_are_sent_once;
@@ -75,7 +74,6 @@ pub use single_reads::{
 pub use single_writes::{
     data_come_behind_commands, single_data_go_in_order, single_writes_are_as_supplied,
 };
-pub use singles::singles_are_of_their_slots;
 pub use standing::slots_have_one_command;
 pub use stored_singles::{completed_single_writes_are_stored, writes_are_named};
 pub use stored_writes::{

@@ -8,7 +8,7 @@ ghost use Rattle.machine_theorem.specs.Unheard.{SlotsTellOfWrites, UnheardIsSpar
 /// pulled and plugged, its link and the disk are reset, commands fail and others run; but it is not taken from the port. In a later stretch, as which
 /// begins nothing is under way at the place of a read, the disk says that this read ended well, queued or not (`ended`). So it is of what the guest sees
 /// completed, as [`completions_are_of_their_slots`](crate::completions_are_of_their_slots) and
-/// [`singles_are_of_their_slots`](crate::singles_are_of_their_slots) say it (`seen`). If the medium gives what it was last told to keep, the Data that the
+/// [`unqueued_commands_are_of_their_slots`](crate::unqueued_commands_are_of_their_slots) say it (`seen`). If the medium gives what it was last told to keep, the Data that the
 /// disk sent for the read have the bytes that came for the write, at each sector of both, unless the disk asked for another store or a discard of it since it
 /// said that the write ended. So it is of all Data that it has sent of a read by any moment of the later stretch (`sent`), whether the read ends or not.
 /// As the write ends, each store and each discard of a sector of it that was asked for before was answered, also one that a reset dropped (`settled`): so

@@ -34,12 +34,17 @@ pub fn commands_await_their_ends()
     hba_laws::core_delivers();
 }
 
-/// A law for callers; it runs no code. It says of each command that is not queued what `singles_are_of_their_slots` says of those that are no PIO data-in,
-/// over the same stretches, if nothing is set up for the device as they begin; and PIO data-in may be among the commands. Where the bit of PxCI of one falls
-/// as a FIS is taken that is no Register FIS, the disk sent this FIS at a moment of the stretch, as the last Data of the command that the guest had
-/// supplied for the slot, as it was issued there last: the FIS of this command went from the slot in the stretch, the disk heard no other since, and nothing
-/// was issued there since. If it moves sectors, the caller gave all of their bytes, and behind these Data all were sent. It is enough that in the stretch the
-/// guest has no queued command in the slots for the device, and that no write takes a command that waits from its slot.
+/// A law for callers; it runs no code. Over each stretch of a run of a machine that begins while nothing is under way at the disk at a port, and nothing is
+/// on its way to it or from it, and in which commands and ends go in turn: its connection lasts, the disk is not reset, all commands for it are of slots
+/// for one device, and a command that waits leaves its slot only as a Register FIS or a Data FIS of this device is taken. Where a bit of PxCI falls behind it
+/// as a FIS of the connection is taken, and the slot has a command for the device that is not queued, the disk sent this FIS at a moment of the stretch; unless
+/// the command is a PIO data-in, it is a Register FIS. Then the disk answers by it the command that the guest had supplied for the slot, as it was issued
+/// there last: the FIS of this command went from the slot in the stretch, the disk heard no other since, and nothing was issued there since. If the command
+/// moves sectors, the disk says that it ended well. Where it says so, this is what such a FIS asked for, and it had earned its end: of a read the caller gave
+/// all bytes of its sectors, and all were sent; of a write it stored all that came, and flushed where they are to last. Where the FIS is none, and nothing
+/// was set up for the device as the stretch began, the disk sent it as the last Data of the command that the guest had supplied for the slot; if this moves
+/// sectors, the caller gave all of their bytes, and behind these Data all were sent. It is enough that in the stretch the guest has no queued command in the
+/// slots for the device, and that no write takes a command that waits from its slot.
 pub fn unqueued_commands_are_of_their_slots()
     ensures slots { UnqueuedAreOfSlots }
     ensures plain { PlainUnqueuedAreOfSlots }

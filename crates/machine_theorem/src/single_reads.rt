@@ -62,7 +62,8 @@ pub fn single_data_are_counted()
     sata_disk_laws::singles_are_awaited();
 }
 
-/// A law for callers; it runs no code. Over each stretch of a run of a machine as in [`singles_are_of_their_slots`](crate::singles_are_of_their_slots), in which
+/// A law for callers; it runs no code. Over each stretch of a run of a machine as in
+/// [`unqueued_commands_are_of_their_slots`](crate::unqueued_commands_are_of_their_slots), in which
 /// the guest has no queued command and no PIO data-in in the slots for the device, and no write takes a command that waits from its slot: where the bit of
 /// PxCI of a READ DMA falls behind it, each of its bytes was brought in the stretch, by a Data FIS that the disk at the port sent at a moment of the stretch.
 /// Where it sent this for a command that moves sectors and is not queued, this is the command that the guest had supplied for the slot, as it was issued there

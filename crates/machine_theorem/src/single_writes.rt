@@ -25,10 +25,11 @@ pub fn data_come_behind_commands()
     sata_disk_laws::singles_are_awaited();
 }
 
-/// A law for callers; it runs no code. Over each stretch as in [`singles_are_of_their_slots`](crate::singles_are_of_their_slots) in which the guest has no
-/// queued command and no PIO data-in in the slots for the device, no write takes a command that waits from its slot, and Data that may fall to the port go
-/// to the device: a bit of PxCI falls behind it as a FIS of the connection is taken, and the slot has a command for the device. Then it is done as that
-/// law says (`done`). If the disk says by the FIS that it ended well, its books had what the FIS asked for that went from the slot in the stretch, as the
+/// A law for callers; it runs no code. Over each stretch of a run of a machine as in [`unqueued_reads_are_read`](crate::unqueued_reads_are_read), whatever
+/// reads and writes end in it, by DMA or by PIO: the guest sends the disk no queued command, no write takes a command that waits from its slot, and Data that
+/// may fall to the port go to the device. Where a bit of PxCI falls behind it as a FIS of the connection is taken, and the slot has a command for the device
+/// that is no PIO data-in, the disk answers it by this FIS, as [`unqueued_commands_are_of_their_slots`](crate::unqueued_commands_are_of_their_slots) says
+/// (`done`). If the disk says by the FIS that it ended well, its books had what the FIS asked for that went from the slot in the stretch, as the
 /// guest had supplied it there last, and this had earned its end: of a write the disk stored all that came, and flushed it where it is to last. All that
 /// came for it is the payload of Data FISes that went to the device behind that FIS, in order. Each that went there is of this slot, from the byte behind
 /// those that went before, and its payload is what the caller had supplied for the slot from that byte on; of a write as many bytes went as the slot's
@@ -39,9 +40,9 @@ pub fn single_writes_are_as_supplied()
 {
     data_come_behind_commands();
     crate::ends::completions_are_of_devices();
-    crate::in_turn::commands_go_in_turn();
+    crate::pio::commands_are_settled_in_turn();
+    crate::pio::commands_await_their_ends();
     crate::transfers::transfers_are_answered();
-    crate::waits::commands_await_their_answers();
     sata_disk_books::ends_are_of_pages();
     sata_disk_laws::answers_are_single();
     machine_laws::controller_goes_on();

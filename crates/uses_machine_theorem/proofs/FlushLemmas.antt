@@ -1,5 +1,5 @@
 -- Each clause of FLUSH CACHE is the law, of the run that led to the machine.
-use Rattle.std.proofs.{Common.{◌≡◌, ℕ, Bool, List, [], ◌∷◌, ◌++◌, Some, refl, sym, ap, subst, ◌∙◌}, lemmas.List.{append-nil}}
+use Rattle.std.proofs.{Common.{◌≡◌, ℕ, Bool, true, false, List, [], ◌∷◌, ◌++◌, Some, refl, sym, ap, subst, ◌∙◌}, lemmas.{Bool.{false≢true}, List.{append-nil}}}
 use Rattle.ahci_controller.specs.States.{ControllerState}
 use Rattle.controller_laws.specs.Events.{Event, Runs}
 use Rattle.sata_disk.specs.{Sending.{IsFis, IsOut}, State.DiskState}
@@ -9,7 +9,7 @@ use Rattle.ahci_machine.specs.declared.act.Act.TheVariants as act
 use Rattle.machine_laws.specs.{ControllerLaws.RunsRuled, Deeds.{Deed, Moved}, Heard.{life_in, no_life}}
 use Rattle.machine_theorem.specs.{Completions.CompletionsAreOfSlots, Flushes.{IsFlushDone, OfSingles}, FlushesFollow.{AreLeft, DisksAreReachedStill}}
 use Rattle.machine_theorem.specs.{FlushesFollow.{FlushesWrites, IsReachedStill, WasCompleted.{Queued, Single}}, Flushing.FlushesEndSo}
-use Rattle.machine_theorem.specs.{Identity.{AllKeep, calls_of}, Singles.SinglesAreOfSlotsIf}
+use Rattle.machine_theorem.specs.{Identity.{AllKeep, calls_of}, PioIn.UnqueuedAreOfSlotsIf}
 use Rattle.uses_machine_theorem.specs.Flushes.{KnowsFlushAnswers, KnowsFlushedWrites, KnowsFlushes, KnowsWrittenSingles}
 use Rattle.uses_machine_theorem.proofs.SlotLemmas.{new_one}
 
@@ -22,10 +22,14 @@ answered law now led n d there lived p limit new before bytes later is flushing 
 abbrev pub Keeping : Type 1
 Keeping = (dev : ℕ) → (old : ControllerState) → (events : List Event) → (now : ControllerState) → Runs old events now → Type 0
 
+-- what is no PIO data-in asks no more of the beginning
+pub no_pio : {A : Type 0} {b : Bool} → b ≡ false → b ≡ true → A
+no_pio other is = absurd (false≢true (sym other ∙ is))
+
 pub flushes : (Waits : Keeping) → OfSingles Waits IsFlushDone → (now : MachineState) → KnowsFlushes Waits now
-flushes Waits law now at led many n c dev slot below dev_low low begins p limit base are same idle deeds run linked lasts keeps on runs of waiting took new does rules own shows hides none issue is mine plain =
+flushes Waits law now at led many n c dev slot below dev_low low begins p limit base are same idle deeds run linked lasts keeps on runs of waiting took new does rules own shows hides none issue is mine plain other =
     law led.ports led.legacy led.first led.opens led.deeds at led.run many n c dev slot below dev_low low begins p limit base are same idle deeds now run linked lasts keeps on runs of waiting took new does
-    rules own shows hides none issue is mine plain
+    rules own shows hides none issue is mine plain other
 
 -- ---- from the write to the flush
 
@@ -42,7 +46,7 @@ disk_is a b e = cc
 
 pub flushed_writes : (Waits : Keeping) → CompletionsAreOfSlots → OfSingles Waits FlushesWrites → DisksAreReachedStill → (now : MachineState) → KnowsFlushedWrites Waits now
 flushed_writes Waits completions law still now first old many n tag below low rest sooner seen run_first linked_first lasts_first keeps p limit base are same end fallen falls ruled shows_first hides_first
-    queued is_first mine_first since at run_on left all c dev slot dev_low low_slot begins idle deeds run linked lasts line on runs of waiting took new does rules own shows hides none issue is mine plain =
+    queued is_first mine_first since at run_on left all c dev slot dev_low low_slot begins idle deeds run linked lasts line on runs of waiting took new does rules own shows hides none issue is mine plain other =
     let done = completions old.ports old.legacy old.first old.opens old.deeds first old.run many n tag below low rest sooner seen run_first linked_first lasts_first keeps p limit base are same
     end fallen falls ruled shows_first hides_first queued is_first mine_first in
     let more : RunsRuled seen (Moved (act.Takes end) ∷ since) at = ((last_ruled sooner first seen run_first).0, (fallen, falls, run_on)) in
@@ -52,7 +56,7 @@ flushed_writes Waits completions law still now first old many n tag below low re
     (Moved (act.Takes end) ∷ since) at more (refl, left) in (
       done,
       law old.ports old.legacy old.first old.opens ((old.deeds ++ sooner) ++ Moved (act.Takes end) ∷ since) at all many n c dev slot below dev_low low_slot begins p limit calls it.are
-          (disk_is begins.disk (reached p limit calls) (sym begins.there ∙ it.there)) idle deeds now run linked lasts line on runs of waiting took new does rules own shows hides none issue is mine plain,
+          (disk_is begins.disk (reached p limit calls) (sym begins.there ∙ it.there)) idle deeds now run linked lasts line on runs of waiting took new does rules own shows hides none issue is mine plain other,
       λ writes. record {
         before = old.deeds;
         at = first;
@@ -69,12 +73,13 @@ flushed_writes Waits completions law still now first old many n tag below low re
       },
     )
 
-pub written_singles : (Waits : Keeping) → SinglesAreOfSlotsIf Waits → (now : MachineState) → KnowsWrittenSingles Waits now
-written_singles Waits law now at led many n c dev slot below dev_low low begins p limit base are same idle deeds run linked lasts keeps on runs of waiting took new does rules own shows hides none issue is mine plain =
+pub written_singles : (Waits : Keeping) → UnqueuedAreOfSlotsIf Waits → (now : MachineState) → KnowsWrittenSingles Waits now
+written_singles Waits law now at led many n c dev slot below dev_low low begins p limit base are same idle deeds run linked lasts keeps on runs of waiting took new does rules own shows hides none issue is mine plain other =
     let done = law led.ports led.legacy led.first led.opens led.deeds at led.run many n c dev slot below dev_low low begins p limit base are same idle deeds now run linked lasts keeps on runs of waiting
-    took new does rules own shows hides none issue is mine plain in (
+    took new does rules own shows hides none issue is mine plain (no_pio other) in (
       done,
-      λ other transfers. (
+      done.register other,
+      λ transfers. (
         (done.answers (done.register other)).ends transfers,
         λ writes. record {
           before = led.deeds;

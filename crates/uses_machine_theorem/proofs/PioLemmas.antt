@@ -36,6 +36,6 @@ abbrev Keeping : Type 1
 Keeping = (dev : ℕ) → (old : ControllerState) → (events : List Event) → (now : ControllerState) → Runs old events now → Type 0
 
 pub unqueued : (Waits : Keeping) → UnqueuedAreOfSlotsIf Waits → (now : MachineState) → KnowsUnqueuedIf Waits now
-unqueued Waits law now at led many n c dev slot below dev_low low begins clear p limit base are same idle deeds run linked lasts keeps on runs of waiting took new does rules own shows hides none issue is mine plain =
-    law led.ports led.legacy led.first led.opens led.deeds at led.run many n c dev slot below dev_low low begins clear p limit base are same idle deeds now run linked lasts keeps on runs of waiting took new does
-    rules own shows hides none issue is mine plain
+unqueued Waits law now at led many n c dev slot below dev_low low begins p limit base are same idle deeds run linked lasts keeps on runs of waiting took new does rules own shows hides none issue is mine plain clear =
+    law led.ports led.legacy led.first led.opens led.deeds at led.run many n c dev slot below dev_low low begins p limit base are same idle deeds now run linked lasts keeps on runs of waiting took new does
+    rules own shows hides none issue is mine plain clear

@@ -1,23 +1,23 @@
 -- A command that the guest sees completed behind a stretch is what the laws of reads behind writes ask for.
-use Rattle.std.proofs.Common.{◌≡◌, ℕ, Bool, false, List, ◌++◌, inl, sym, subst, ◌∙◌}
+use Rattle.std.proofs.Common.{◌≡◌, false, List, ◌++◌, inl, sym, subst, ◌∙◌}
 use Rattle.sata_disk.specs.State.{DiskState, commands, is_taken}
 use Rattle.sata_disk_laws.specs.{Calls.Call, Laws.reached}
-use Rattle.ahci_machine.specs.{States.MachineState, declared.bay.Unit.TheVariants.Disk}
+use Rattle.ahci_machine.specs.{States.MachineState}
 use Rattle.machine_theorem.specs.{Completions.CompletionsAreOfSlots, FlushesFollow.{DisksAreReachedStill, IsReachedStill}, Identity.calls_of}
-use Rattle.machine_theorem.specs.{OverAll.{IsSeen.{Queued, Single}, SeenReadsFollow}, Singles.SinglesAreOfSlotsIf}
+use Rattle.machine_theorem.specs.{OverAll.{IsSeen.{Queued, Single}, SeenReadsFollow}, PioIn.UnqueuedAreOfSlotsIf}
 use Rattle.uses_machine_theorem.specs.Seen.{KnowsQueuedReadBack, KnowsSeenQueued, KnowsSeenSingle}
-use Rattle.uses_machine_theorem.proofs.FlushLemmas.{Keeping, disk_is, keeps_left}
+use Rattle.uses_machine_theorem.proofs.FlushLemmas.{Keeping, disk_is, keeps_left, no_pio}
 
 pub seen_queued : CompletionsAreOfSlots → (now : MachineState) → KnowsSeenQueued now
 seen_queued law now at led many n tag below low rest deeds run linked lasts keeps p limit base are same took new does rules shows hides issue is mine =
     Queued many low (law led.ports led.legacy led.first led.opens led.deeds at led.run many n tag below low rest deeds now run linked lasts keeps p limit base are same
     took new does rules shows hides issue is mine)
 
-pub seen_single : (Waits : Keeping) → SinglesAreOfSlotsIf Waits → (now : MachineState) → KnowsSeenSingle Waits now
-seen_single Waits law now at led many n c dev slot below dev_low low begins p limit base are same idle deeds run linked lasts keeps on runs of waiting took new does rules own shows hides none issue is mine plain =
+pub seen_single : (Waits : Keeping) → UnqueuedAreOfSlotsIf Waits → (now : MachineState) → KnowsSeenSingle Waits now
+seen_single Waits law now at led many n c dev slot below dev_low low begins p limit base are same idle deeds run linked lasts keeps on runs of waiting took new does rules own shows hides none issue is mine plain other =
     let done = law led.ports led.legacy led.first led.opens led.deeds at led.run many n c dev slot below dev_low low begins p limit base are same idle deeds now run linked lasts keeps on runs of waiting
-    took new does rules own shows hides none issue is mine plain in
-    (done, λ other transfers. Single dev issue done ((done.answers (done.register other)).ends transfers))
+    took new does rules own shows hides none issue is mine plain (no_pio other) in
+    (done, done.register other, λ transfers. Single dev issue done ((done.answers (done.register other)).ends transfers))
 
 pub queued_back : CompletionsAreOfSlots → SeenReadsFollow → DisksAreReachedStill → (now : MachineState) → KnowsQueuedReadBack now
 queued_back completions law still now at led many n w r below w_low r_low rest_w deeds mid run linked lasts keeps p limit base same end fallen falls fell shows_w hides_w writes is_w mine_w

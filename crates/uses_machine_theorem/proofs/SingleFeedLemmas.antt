@@ -20,6 +20,6 @@ came law now led n d there lived p limit new before bytes later is idle none nex
     law p limit before bytes later it.0 idle none (subst (λ (x : DiskState). IsOut x (Some (out.Of 32 replies.Done))) it.1 next) page books
 
 pub single_writes : SingleWritesAreAsSupplied → (now : MachineState) → KnowsSingleWrites now
-single_writes law now at led many n c dev slot below dev_low low begins p limit base are same idle deeds run linked lasts keeps on plain own_data took new does rules own shows hides none issue is mine =
-    law led.ports led.legacy led.first led.opens led.deeds at led.run many n c dev slot below dev_low low begins p limit base are same idle deeds now run linked lasts keeps on plain own_data took new
-    does rules own shows hides none issue is mine
+single_writes law now at led many n c dev slot below dev_low low begins p limit base are same idle deeds run linked lasts keeps on unqueued none_queued own_data took new does rules own shows hides none issue is mine plain =
+    law led.ports led.legacy led.first led.opens led.deeds at led.run many n c dev slot below dev_low low begins p limit base are same idle deeds now run linked lasts keeps on unqueued none_queued own_data took new
+    does rules own shows hides none issue is mine plain

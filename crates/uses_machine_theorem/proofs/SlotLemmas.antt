@@ -1,7 +1,5 @@
 -- What the laws say of the runs that led here.
 use Rattle.std.proofs.Common.{◌≡◌, ℕ, List, ◌∷◌, ◌++◌, Some, ap, subst, ◌∙◌}
-use Rattle.ahci_controller.specs.States.{ControllerState}
-use Rattle.controller_laws.specs.Events.{Event, Runs}
 use Rattle.disk_pages.specs.declared.profile.Profile.{Profile}
 use Rattle.sata_disk.specs.{Sending.IsOut, State.{DiskState, new_disk}}
 use Rattle.sata_disk_laws.specs.{Calls.{AreCalls, Call, Hears, after_calls}, Laws.reached}
@@ -11,10 +9,10 @@ use Rattle.machine_theorem.specs.{Brought.{CompletedReadsAreBrought, ReadsAreBro
 use Rattle.machine_theorem.specs.{Filled.FilledWereBrought, Given.{CommandsAreGiven, DataAreGiven}, Identity.CommandsAreTheSlots}
 use Rattle.machine_theorem.specs.{InTurn.CommandsGoInTurn, Orders.CommandsAreSentOnce, QueuedOnly.QueuedReadsAreBrought, ReadBack.GuestsReadBack}
 use Rattle.machine_theorem.specs.{Reads.ReadsAreAsSupplied, ReadsFollow.CompletedReadsFollowWrites, Tags.TagsOfNewDisks, ReadsWritten.ReadsAreWritten}
-use Rattle.machine_theorem.specs.{Singles.SinglesAreOfSlotsIf, Transfers.TransfersEndSo, Waits.CommandsAwaitAnswers}
+use Rattle.machine_theorem.specs.{Transfers.TransfersEndSo, Waits.CommandsAwaitAnswers}
 use Rattle.uses_machine_theorem.specs.Slots.{KnowsBrought, KnowsBroughtSince, KnowsBytes, KnowsData, KnowsEnds, KnowsFilled, KnowsGiven, KnowsOrders}
 use Rattle.uses_machine_theorem.specs.Slots.{KnowsQueued, KnowsReads, KnowsSlots, KnowsTags, stretch_of, KnowsFollowing, KnowsReadBack, KnowsWritten}
-use Rattle.uses_machine_theorem.specs.Slots.{KnowsSinglesIf, KnowsTransfers, KnowsTurns, KnowsWaits}
+use Rattle.uses_machine_theorem.specs.Slots.{KnowsTransfers, KnowsTurns, KnowsWaits}
 
 pub tags : TagsOfNewDisks → (now : MachineState) → KnowsTags now
 tags law now led n d there lived p limit new tag low = law led.ports led.legacy led.first led.opens led.deeds now led.run n d there lived p limit new tag low
@@ -99,12 +97,3 @@ ends_so law now led n d there lived p limit new before bytes later is transfers 
 
 pub waits : CommandsAwaitAnswers → (now : MachineState) → KnowsWaits now
 waits law now at led deeds run runs dev keeps = law dev at.controller now.controller _ runs.calls keeps
-
--- whatever has commands wait
-abbrev Keeping : Type 1
-Keeping = (dev : ℕ) → (old : ControllerState) → (events : List Event) → (now : ControllerState) → Runs old events now → Type 0
-
-pub singles : (Waits : Keeping) → SinglesAreOfSlotsIf Waits → (now : MachineState) → KnowsSinglesIf Waits now
-singles Waits law now at led many n c dev slot below dev_low low begins p limit base are same idle deeds run linked lasts keeps on runs of waiting took new does rules own shows hides none issue is mine plain =
-    law led.ports led.legacy led.first led.opens led.deeds at led.run many n c dev slot below dev_low low begins p limit base are same idle deeds now run linked lasts keeps on runs of waiting took new does
-    rules own shows hides none issue is mine plain

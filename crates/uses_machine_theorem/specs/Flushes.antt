@@ -15,8 +15,8 @@ use Rattle.machine_laws.specs.{ControllerLaws.{ControllerRuns, RunsRuled, calls_
 use Rattle.machine_laws.specs.Heard.{HasLived, life_in, no_life}
 use Rattle.machine_theorem.specs.{Completions.IsDone, Flushes.IsFlushDone, FlushesFollow.{AreLeft, FlushesWrites, WasWritten}, Flushing.HasFlushed}
 use Rattle.machine_theorem.specs.{Flushing.{is_failure, is_flushing}, Identity.{AllKeep, IsAtRest, calls_of, own_of}, InTurn.{AreKeptOn, IsIdle}}
-use Rattle.machine_theorem.specs.{InTurn.{answered_in, heard_in, is_answer}, OwnSlots.{AllKeepLine, is_of}, Singles.{AllOfDevice, BeginsIdle}}
-use Rattle.machine_theorem.specs.{Singles.IsDoneSingle, Transfers.is_transferring}
+use Rattle.machine_theorem.specs.{InTurn.{answered_in, heard_in, is_answer, is_answering}, OwnSlots.{AllKeepLine, is_of}, Singles.{AllOfDevice, BeginsIdle}}
+use Rattle.machine_theorem.specs.{PioIn.IsDoneThere, Transfers.is_transferring}
 use Rattle.uses_machine_theorem.specs.Led.{IsLed}
 
 -- Take a disk that was new as it was put at its port, and a FLUSH CACHE that it heard while its host waited for nothing, and as the last command. What it
@@ -29,7 +29,7 @@ KnowsFlushAnswers now = (led : IsLed now) (n : ℕ) (d : DiskState) → (bay_at 
     → IsIdle (host_of new_host before) → AreKeptOn later → heard_in later ≡ 0 → answered_in later ≡ 0
     → (o : Out) (fis : List ℕ) → IsOut d (Some o) → IsFis d o fis → is_answer o ≡ true → HasFlushed later o ⊎ (is_failure o ≡ true)
 
--- A bit of PxCI falls behind a moment at which nothing is under way at a disk as a FIS of it is taken, and the slot has a command for it that is not queued: the
+-- A bit of PxCI falls behind a moment at which nothing is under way at a disk as a FIS of it is taken, and the slot has a command for it, not queued: the
 -- disk answers by this FIS what the guest had supplied for this slot, and if that is a FLUSH CACHE, its caller had flushed for it, where commands and answers
 -- went in turn.
 abbrev pub KnowsFlushes :
@@ -42,7 +42,7 @@ KnowsFlushes Waits now = (at : MachineState) (led : IsLed at) (many : Bool) (n c
     → Waits dev at.controller (calls_in at deeds now run) now.controller runs.calls
     → (took : Took) (new : MachineState) (does : Does now (Moved (act.Takes took)) new) → HasRules new → is_of n c does.does.frame ≡ true
     → has_bit (shown PxCi now.controller) slot ≡ true → has_bit (shown PxCi new.controller) slot ≡ false → has_bit (shown PxSact new.controller) slot ≡ false
-    → (issue : Issue) → issue_at now.controller.core.slots slot ≡ Some issue → issue.dev ≡ dev → is_queued_issue issue ≡ false
+    → (issue : Issue) → issue_at now.controller.core.slots slot ≡ Some issue → issue.dev ≡ dev → is_queued_issue issue ≡ false → is_pio issue.work.kind ≡ false
     → IsFlushDone n dev slot led.first led.deeds at led.run deeds now run p limit base issue does.does.frame
 
 -- Where such a command moves sectors, the disk says that it ended well. If it is a write, the guest has seen this write completed: so a FLUSH CACHE that goes
@@ -57,9 +57,9 @@ KnowsWrittenSingles Waits now = (at : MachineState) (led : IsLed at) (many : Boo
     → Waits dev at.controller (calls_in at deeds now run) now.controller runs.calls
     → (took : Took) (new : MachineState) (does : Does now (Moved (act.Takes took)) new) → HasRules new → is_of n c does.does.frame ≡ true
     → has_bit (shown PxCi now.controller) slot ≡ true → has_bit (shown PxCi new.controller) slot ≡ false → has_bit (shown PxSact new.controller) slot ≡ false
-    → (issue : Issue) → issue_at now.controller.core.slots slot ≡ Some issue → issue.dev ≡ dev → is_queued_issue issue ≡ false
-    → (done : IsDoneSingle n dev slot led.first led.deeds at led.run deeds now run p limit base issue does.does.frame)
-    × ((plain : is_pio issue.work.kind ≡ false) → is_transferring (done.answers (done.register plain)).command.bytes ≡ true
+    → (issue : Issue) → issue_at now.controller.core.slots slot ≡ Some issue → issue.dev ≡ dev → is_queued_issue issue ≡ false → is_pio issue.work.kind ≡ false
+    → (done : IsDoneThere n dev slot led.first led.deeds at led.run deeds now run p limit base issue does.does.frame)
+    × (answering : is_answering does.does.frame.bytes ≡ true) × (is_transferring (done.answers answering).command.bytes ≡ true
     → (said : done.said ≡ out.Of 32 replies.Done)
     × ((done.slots said).page.command.write ≡ true → WasWritten n led.first now p limit (base ++ calls_of n at deeds now run) (done.slots said).page))
 
@@ -85,7 +85,7 @@ KnowsFlushedWrites Waits now = (first : MachineState) (old : IsLed first) (many 
     → Waits dev at.controller (calls_in at deeds now run) now.controller runs.calls
     → (took : Took) (new : MachineState) (does : Does now (Moved (act.Takes took)) new) → HasRules new → is_of n c does.does.frame ≡ true
     → has_bit (shown PxCi now.controller) slot ≡ true → has_bit (shown PxCi new.controller) slot ≡ false → has_bit (shown PxSact new.controller) slot ≡ false
-    → (issue : Issue) → issue_at now.controller.core.slots slot ≡ Some issue → issue.dev ≡ dev → is_queued_issue issue ≡ false
+    → (issue : Issue) → issue_at now.controller.core.slots slot ≡ Some issue → issue.dev ≡ dev → is_queued_issue issue ≡ false → is_pio issue.work.kind ≡ false
     → (done : IsDone many n tag old.first old.deeds first old.run sooner seen run_first p limit base falls.does.frame)
     × FlushesWrites n dev slot old.first ((old.deeds ++ sooner) ++ Moved (act.Takes end) ∷ since) at all deeds now run p limit
     (base ++ calls_of n first sooner seen run_first ++ calls_of n fallen since at run_on) issue does.does.frame

@@ -1,6 +1,6 @@
 -- What a caller of a machine knows of the commands of its guest that are not queued, with PIO data-in among them.
 use Rattle.std.specs.Prelude.{◌≡◌, ◌<◌, ◌≤◌, ◌+◌, ℕ, Bool, true, false, List, ◌++◌, Some, None}
-use Rattle.slots.specs.Slots.{Issue, context_of, has_bit, is_queued_issue, issue_at}
+use Rattle.slots.specs.Slots.{Issue, context_of, has_bit, is_pio, is_queued_issue, issue_at}
 use Rattle.hba_fbs.specs.Views.{view_of}
 use Rattle.hba_laws.specs.{Agreement.IsTold, History.History}
 use Rattle.ahci_registers.specs.declared.register.Register.TheVariants.{PxCi, PxSact}
@@ -14,7 +14,7 @@ use Rattle.ahci_machine.specs.{States.{HasRules, MachineState, bay_at}, declared
 use Rattle.ahci_machine.specs.declared.act.Act.TheVariants as act
 use Rattle.machine_laws.specs.{ControllerLaws.{ControllerRuns, RunsRuled, calls_in}, Deeds.{Deed, Does, Moved}, Falling.{AllLast, HasLink}}
 use Rattle.machine_laws.specs.Heard.{HasLived, life_in, no_life}
-use Rattle.machine_theorem.specs.{Ending.{AllKeepEnding, AllUnqueued, IsSentLast, ended_in}, Identity.calls_of, InTurn.{AreKeptOn, IsIdle, heard_in}}
+use Rattle.machine_theorem.specs.{Ending.{AllKeepEnding, AllUnqueued, IsSentLast, ended_in}, Identity.calls_of, InTurn.{AreKeptOn, IsIdle, heard_in, is_answering}}
 use Rattle.machine_theorem.specs.{OwnSlots.{AllKeepLine, is_of}, PioIn.IsDoneThere, Settled.{AreSettled, IsBehindLastBlock, IsSettledLast, is_data}}
 use Rattle.machine_theorem.specs.{Settled.settled_in, Singles.{AllOfDevice, BeginsIdle}, Tags.once_if, Transfers.is_transferring}
 use Rattle.machine_theorem.specs.Waits.{IsWaitingAlone, commanded_in, waits_in}
@@ -52,14 +52,13 @@ KnowsLast now = (led : IsLed now) (dev : ℕ) → dev < 16 → (slot : ℕ) → 
     → (last : IsSentLast dev slot fis later now.controller) → (past : History) → IsTold (view_of dev last.at.core) past → waits_in dev now.controller ≡ true
     → IsWaitingAlone dev slot later now.controller
 
--- A bit of PxCI falls behind a moment at which nothing is under way at a disk, and nothing is set up for it, as a FIS of it is taken; and the slot has a
--- command for it that is not queued. By this FIS the disk answers or ends what the guest had supplied for this slot, and if that moves sectors, it did all of
+-- A bit of PxCI falls behind a moment at which nothing is under way at a disk as a FIS of it is taken; and the slot has a command for it that is not queued.
+-- If this is a PIO data-in that Data end, nothing was set up for the disk at that moment. By this FIS the disk answers or ends what the guest had supplied for this slot, and if that moves sectors, it did all of
 -- it, where commands and ends went in turn.
 abbrev pub KnowsUnqueuedIf :
     (Waits : (dev : ℕ) → (old : ControllerState) → (events : List Event) → (now : ControllerState) → Runs old events now → Type 0) → MachineState → Type 0
 KnowsUnqueuedIf Waits now = (at : MachineState) (led : IsLed at) (many : Bool) (n c dev slot : ℕ) → n < 15 → dev < 16 → slot < 32
-    → (begins : BeginsIdle n c at) → context_of at.controller.core.slots dev ≡ None
-    → (p : Profile) (limit : ℕ) (base : List Call) → AreCalls (new_disk p limit) base → begins.disk ≡ reached p limit base
+    → (begins : BeginsIdle n c at) → (p : Profile) (limit : ℕ) (base : List Call) → AreCalls (new_disk p limit) base → begins.disk ≡ reached p limit base
     → IsIdle (host_of new_host base) → (deeds : List Deed) (run : RunsRuled at deeds now)
     → HasLink deeds → AllLast n at deeds now run → AllKeepLine many n c dev at deeds now run → AreKeptOn (calls_of n at deeds now run)
     → (runs : ControllerRuns at deeds now run) → AllOfDevice many n dev at.controller (calls_in at deeds now run) now.controller runs.calls
@@ -67,6 +66,7 @@ KnowsUnqueuedIf Waits now = (at : MachineState) (led : IsLed at) (many : Bool) (
     → (took : Took) (new : MachineState) (does : Does now (Moved (act.Takes took)) new) → HasRules new → is_of n c does.does.frame ≡ true
     → has_bit (shown PxCi now.controller) slot ≡ true → has_bit (shown PxCi new.controller) slot ≡ false → has_bit (shown PxSact new.controller) slot ≡ false
     → (issue : Issue) → issue_at now.controller.core.slots slot ≡ Some issue → issue.dev ≡ dev → is_queued_issue issue ≡ false
+    → (is_pio issue.work.kind ≡ true → is_answering does.does.frame.bytes ≡ false → context_of at.controller.core.slots dev ≡ None)
     → IsDoneThere n dev slot led.first led.deeds at led.run deeds now run p limit base issue does.does.frame
 
 abbrev pub KnowsUnqueued : MachineState → Type 0

@@ -11,8 +11,8 @@ use Rattle.sata_disk_laws.specs.{Calls.{AreCalls, Call, Sends}, Laws.reached, On
 use Rattle.ahci_machine.specs.States.{HasRules, MachineState}
 use Rattle.ahci_machine.specs.declared.act.Act.TheVariants as act
 use Rattle.machine_laws.specs.{ControllerLaws.{ControllerRuns, RunsRuled, calls_in}, Deeds.{Deed, Does, Moved}, Falling.{AllLast, HasLink}}
-use Rattle.machine_theorem.specs.{Completions.IsDone, FlushesFollow.AreLeft, Identity.{AllKeep, IsAtRest, calls_of, own_of}, InTurn.{AreKeptOn, IsIdle}}
-use Rattle.machine_theorem.specs.{OverAll.{HasFollowed, IsOver, IsSeen}, OwnSlots.{AllKeepLine, is_of}, Singles.{AllOfDevice, BeginsIdle, IsDoneSingle}}
+use Rattle.machine_theorem.specs.{Completions.IsDone, FlushesFollow.AreLeft, Identity.{AllKeep, IsAtRest, calls_of, own_of}, InTurn.{AreKeptOn, IsIdle, is_answering}}
+use Rattle.machine_theorem.specs.{OverAll.{HasFollowed, IsOver, IsSeen}, OwnSlots.{AllKeepLine, is_of}, PioIn.IsDoneThere, Singles.{AllOfDevice, BeginsIdle}}
 use Rattle.machine_theorem.specs.Transfers.{is_transferring}
 use Rattle.uses_machine_theorem.specs.Led.{IsLed}
 
@@ -27,8 +27,8 @@ KnowsSeenQueued now = (at : MachineState) (led : IsLed at) (many : Bool) (n tag 
     → (issue : Issue) → issue_at now.controller.core.slots tag ≡ Some issue → own_of many n issue.dev ≡ true
     → IsSeen n tag led.first led.deeds at led.run deeds now run p limit base does.does.frame
 
--- A bit of PxCI falls behind a moment at which nothing is under way at a disk as a FIS of it is taken, and the slot has a command for it that is not queued. If
--- it moves sectors, the guest sees it completed.
+-- A bit of PxCI falls behind a moment at which nothing is under way at a disk as a FIS of it is taken, and the slot has a command for it that is not queued
+-- and no PIO data-in. If it moves sectors, the guest sees it completed.
 abbrev pub KnowsSeenSingle :
     (Waits : (dev : ℕ) → (old : ControllerState) → (events : List Event) → (now : ControllerState) → Runs old events now → Type 0) → MachineState → Type 0
 KnowsSeenSingle Waits now = (at : MachineState) (led : IsLed at) (many : Bool) (n c dev slot : ℕ) → n < 15 → dev < 16 → slot < 32
@@ -39,9 +39,9 @@ KnowsSeenSingle Waits now = (at : MachineState) (led : IsLed at) (many : Bool) (
     → Waits dev at.controller (calls_in at deeds now run) now.controller runs.calls
     → (took : Took) (new : MachineState) (does : Does now (Moved (act.Takes took)) new) → HasRules new → is_of n c does.does.frame ≡ true
     → has_bit (shown PxCi now.controller) slot ≡ true → has_bit (shown PxCi new.controller) slot ≡ false → has_bit (shown PxSact new.controller) slot ≡ false
-    → (issue : Issue) → issue_at now.controller.core.slots slot ≡ Some issue → issue.dev ≡ dev → is_queued_issue issue ≡ false
-    → (done : IsDoneSingle n dev slot led.first led.deeds at led.run deeds now run p limit base issue does.does.frame)
-    × ((plain : is_pio issue.work.kind ≡ false) → is_transferring (done.answers (done.register plain)).command.bytes ≡ true
+    → (issue : Issue) → issue_at now.controller.core.slots slot ≡ Some issue → issue.dev ≡ dev → is_queued_issue issue ≡ false → is_pio issue.work.kind ≡ false
+    → (done : IsDoneThere n dev slot led.first led.deeds at led.run deeds now run p limit base issue does.does.frame)
+    × (answering : is_answering does.does.frame.bytes ≡ true) × (is_transferring (done.answers answering).command.bytes ≡ true
     → IsSeen n slot led.first led.deeds at led.run deeds now run p limit base does.does.frame)
 
 -- The guest saw the queued command of tag w completed so. Then anything happened, but that something was put at the port or taken from it. Behind another moment at

@@ -1,6 +1,6 @@
 -- What a caller of a machine knows of the Data of its guest's writes that are not queued.
 use Rattle.std.specs.Prelude.{◌≡◌, ◌<◌, ℕ, Bool, true, false, List, [], ◌∷◌, ◌++◌, Some, is_some}
-use Rattle.slots.specs.Slots.{Issue, has_bit, issue_at}
+use Rattle.slots.specs.Slots.{Issue, has_bit, is_pio, issue_at}
 use Rattle.hba_fbs.specs.Views.{view_of}
 use Rattle.hba_laws.specs.{Agreement.IsTold, History.History}
 use Rattle.ahci_registers.specs.declared.register.Register.TheVariants.{PxCi, PxSact}
@@ -20,7 +20,8 @@ use Rattle.machine_laws.specs.{ControllerLaws.{ControllerRuns, RunsRuled, calls_
 use Rattle.machine_laws.specs.Heard.{HasLived, life_in, no_life}
 use Rattle.machine_theorem.specs.{Commands.AreNotIssued, DataCame.IsWrittenBehind, Identity.calls_of, InTurn.{AreKeptOn, IsIdle, heard_in}}
 use Rattle.machine_theorem.specs.{OwnSlots.{AllKeepLine, is_of}, OwnWrites.AreOwnData, SingleData.{AllUnqueued, GoesNext, went_in}}
-use Rattle.machine_theorem.specs.{SingleWrites.{AllKeepPlain, IsSuppliedSingle}, Singles.BeginsIdle, Waits.is_commanded}
+use Rattle.machine_theorem.specs.{Ending.HasNoQueued, PioReads.AllKeepUnqueued, SingleWrites.IsSuppliedSingle, Singles.BeginsIdle}
+use Rattle.machine_theorem.specs.Waits.{is_commanded}
 use Rattle.uses_machine_theorem.specs.Led.{IsLed}
 
 -- A command went from a slot by the first deed of a stretch that led here, and is issued there still; nothing more was issued there, and no queued command
@@ -48,15 +49,15 @@ KnowsCame now = (led : IsLed now) (n : ℕ) (d : DiskState) → (bay_at now n).u
     → IsWrittenBehind p limit before bytes later page
 
 -- A bit of PxCI falls behind a moment at which nothing is under way at a disk as a FIS of it is taken, and the slot has a command for it: if that is a
--- write, what the disk took for it is what the guest had supplied for this slot, from its first byte on, where the guest has no queued command and no PIO
--- data-in there.
+-- write, what the disk took for it is what the guest had supplied for this slot, from its first byte on, whatever reads and writes ended there since, by DMA
+-- or by PIO, where the guest has no queued command there.
 abbrev pub KnowsSingleWrites : MachineState → Type 0
 KnowsSingleWrites now = (at : MachineState) (led : IsLed at) (many : Bool) (n c dev slot : ℕ) → n < 15 → dev < 16 → slot < 32
     → (begins : BeginsIdle n c at) → (p : Profile) (limit : ℕ) (base : List Call) → AreCalls (new_disk p limit) base → begins.disk ≡ reached p limit base
     → IsIdle (host_of new_host base) → (deeds : List Deed) (run : RunsRuled at deeds now)
     → HasLink deeds → AllLast n at deeds now run → AllKeepLine many n c dev at deeds now run → AreKeptOn (calls_of n at deeds now run)
-    → AllKeepPlain many n dev at deeds now run → AreOwnData many n dev (calls_in at deeds now run)
+    → AllKeepUnqueued many n dev at deeds now run → HasNoQueued dev now.controller → AreOwnData many n dev (calls_in at deeds now run)
     → (took : Took) (new : MachineState) (does : Does now (Moved (act.Takes took)) new) → HasRules new → is_of n c does.does.frame ≡ true
     → has_bit (shown PxCi now.controller) slot ≡ true → has_bit (shown PxCi new.controller) slot ≡ false → has_bit (shown PxSact new.controller) slot ≡ false
-    → (issue : Issue) → issue_at now.controller.core.slots slot ≡ Some issue → issue.dev ≡ dev
+    → (issue : Issue) → issue_at now.controller.core.slots slot ≡ Some issue → issue.dev ≡ dev → is_pio issue.work.kind ≡ false
     → IsSuppliedSingle n dev slot led.first led.deeds at led.run deeds now run p limit base issue does.does.frame

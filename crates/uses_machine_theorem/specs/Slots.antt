@@ -1,15 +1,14 @@
 -- What a caller of a machine knows of the commands under way at its disks and of the slots of these numbers.
 use Rattle.std.specs.Prelude.{◌≡◌, ◌<◌, ◌≤◌, ◌+◌, ◌==◌, ℕ, Bool, true, false, List, Some, ◌++◌, ◌⊎◌, ◌∷◌}
-use Rattle.slots.specs.{Bytes.is_over, Slots.{Issue, has_bit, holds, issue_at, is_queued_issue}, declared.work.Kind.TheVariants.QueuedRead}
+use Rattle.slots.specs.{Bytes.is_over, Slots.{Issue, has_bit, holds, issue_at}, declared.work.Kind.TheVariants.QueuedRead}
 use Rattle.fis_view.specs.Frames.{Stamped}
 use Rattle.hba_fbs.specs.{Taking.port_of, Views.view_of, declared.report.Wrote.Wrote}
 use Rattle.hba_laws.specs.{Agreement.IsTold, History.History}
-use Rattle.ahci_registers.specs.declared.register.Register.TheVariants.{PxSact, PxCi}
-use Rattle.ahci_controller.specs.{Reading.shown, States.ControllerState, Taking.is_overflow, declared.taking.Took.Took}
+use Rattle.ahci_registers.specs.declared.register.Register.TheVariants.{PxSact}
+use Rattle.ahci_controller.specs.{Reading.shown, Taking.is_overflow, declared.taking.Took.Took}
 use Rattle.block_command.specs.Moments.{Moment}
 use Rattle.block_disk.specs.Table.{is_under_way}
 use Rattle.block_queue.specs.Line.{command_at}
-use Rattle.controller_laws.specs.Events.{Event, Runs}
 use Rattle.ata_reply.specs.declared.reply.Reply.TheVariants as replies
 use Rattle.disk_pages.specs.declared.profile.Profile.{Profile}
 use Rattle.sata_disk.specs.{Sending.IsOut, State.{DiskState, commands, new_disk}, declared.out.Out.Out}
@@ -26,8 +25,7 @@ use Rattle.machine_theorem.specs.{Orders.{fallen_in, is_sent_of, ordered_in, sta
 use Rattle.machine_theorem.specs.{InTurn.{heard_in, is_answer}, OwnSlots.{AllKeepLine, BeginsClear, NoneLost, is_of}, QueuedOnly.ByteIsOfDisk}
 use Rattle.machine_theorem.specs.{QueuedOnly.SendsQueued, FirstDeeds.{first_deeds, first_run, machine_at}, ReadBack.{Falls, FallsAt, IsReadBack}}
 use Rattle.machine_theorem.specs.{Reads.IsBroughtAsRead, ReadsFollow.IsFollowed, ReadsWritten.ByteIsWritten, Tags.{IsCounted, once_if}}
-use Rattle.machine_theorem.specs.{Singles.{AllOfDevice, BeginsIdle, IsDoneSingle}, Transfers.{fails, is_transferring}, Waits.AllKeepWaiting}
-use Rattle.machine_theorem.specs.Waits.{AllPlain, commanded_in, taken_in, waits_in}
+use Rattle.machine_theorem.specs.{Transfers.{fails, is_transferring}, Waits.{AllKeepWaiting, commanded_in, taken_in, waits_in}}
 use Rattle.uses_machine_theorem.specs.Led.{IsLed}
 
 -- of each tag no more commands ended at a disk than it heard, if it was new as it was put at its port
@@ -209,25 +207,3 @@ KnowsWaits now = (at : MachineState) (led : IsLed at) (deeds : List Deed) (run :
     → AllKeepWaiting dev at.controller (calls_in at deeds now run) now.controller runs.calls
     → commanded_in dev at.controller (calls_in at deeds now run) now.controller runs.calls + once_if (waits_in dev at.controller)
     ≤ taken_in dev (calls_in at deeds now run) + once_if (waits_in dev now.controller)
-
--- A bit of PxCI falls behind a moment at which nothing is under way at a disk as a FIS of it is taken, and the slot has a command for it that is not
--- queued: the disk answers by this FIS what the guest had supplied for this slot, and if that moves sectors, it did all of it, where commands and
--- answers went in turn.
-abbrev pub KnowsSinglesIf :
-    (Waits : (dev : ℕ) → (old : ControllerState) → (events : List Event) → (now : ControllerState) → Runs old events now → Type 0) → MachineState → Type 0
-KnowsSinglesIf Waits now = (at : MachineState) (led : IsLed at) (many : Bool) (n c dev slot : ℕ) → n < 15 → dev < 16 → slot < 32
-    → (begins : BeginsIdle n c at) → (p : Profile) (limit : ℕ) (base : List Call) → AreCalls (new_disk p limit) base → begins.disk ≡ reached p limit base
-    → IsIdle (host_of new_host base) → (deeds : List Deed) (run : RunsRuled at deeds now)
-    → HasLink deeds → AllLast n at deeds now run → AllKeepLine many n c dev at deeds now run → AreKeptOn (calls_of n at deeds now run)
-    → (runs : ControllerRuns at deeds now run) → AllOfDevice many n dev at.controller (calls_in at deeds now run) now.controller runs.calls
-    → Waits dev at.controller (calls_in at deeds now run) now.controller runs.calls
-    → (took : Took) (new : MachineState) (does : Does now (Moved (act.Takes took)) new) → HasRules new → is_of n c does.does.frame ≡ true
-    → has_bit (shown PxCi now.controller) slot ≡ true → has_bit (shown PxCi new.controller) slot ≡ false → has_bit (shown PxSact new.controller) slot ≡ false
-    → (issue : Issue) → issue_at now.controller.core.slots slot ≡ Some issue → issue.dev ≡ dev → is_queued_issue issue ≡ false
-    → IsDoneSingle n dev slot led.first led.deeds at led.run deeds now run p limit base issue does.does.frame
-
-abbrev pub KnowsSingles : MachineState → Type 0
-KnowsSingles now = KnowsSinglesIf AllKeepWaiting now
-
-abbrev pub KnowsPlainSingles : MachineState → Type 0
-KnowsPlainSingles now = KnowsSinglesIf AllPlain now

@@ -1,6 +1,6 @@
 //! What the caller knows of FLUSH CACHE, as its guest sees it completed.
 
-ghost use Rattle.machine_theorem.specs.Waits.{AllKeepWaiting, AllPlain};
+ghost use Rattle.machine_theorem.specs.Ending.{AllKeepEnding, AllUnqueued};
 ghost use Rattle.uses_machine_theorem.specs.Flushes.{KnowsFlushAnswers, KnowsFlushedWrites, KnowsFlushes, KnowsWrittenSingles};
 
 use ahci_machine::Machine;
@@ -10,8 +10,8 @@ use ahci_machine::Machine;
 /// and answers went in turn, it says so of the one that the guest had supplied for the slot whose bit of PxCI falls.
 pub fn knows_flushes(machine: &Machine)
     ensures answered { KnowsFlushAnswers machine.now }
-    ensures slots { KnowsFlushes AllKeepWaiting machine.now }
-    ensures plain { KnowsFlushes AllPlain machine.now }
+    ensures slots { KnowsFlushes AllKeepEnding machine.now }
+    ensures plain { KnowsFlushes AllUnqueued machine.now }
 {
     machine_theorem::flushes_are_answered();
     machine_theorem::flushes_are_of_their_slots();
@@ -21,12 +21,12 @@ pub fn knows_flushes(machine: &Machine)
 /// completed behind a moment at rest, or one that is not queued behind a moment at which nothing is under way at the disk, and then this FLUSH CACHE: each
 /// sector of the write was stored, and flushed behind that.
 pub fn knows_flushed_writes(machine: &Machine)
-    ensures slots { KnowsFlushedWrites AllKeepWaiting machine.now }
-    ensures plain { KnowsFlushedWrites AllPlain machine.now }
-    ensures singles { KnowsWrittenSingles AllKeepWaiting machine.now }
-    ensures plain_singles { KnowsWrittenSingles AllPlain machine.now }
+    ensures slots { KnowsFlushedWrites AllKeepEnding machine.now }
+    ensures plain { KnowsFlushedWrites AllUnqueued machine.now }
+    ensures singles { KnowsWrittenSingles AllKeepEnding machine.now }
+    ensures plain_singles { KnowsWrittenSingles AllUnqueued machine.now }
 {
     machine_theorem::completions_are_of_their_slots();
     machine_theorem::flushes_follow_writes();
-    machine_theorem::singles_are_of_their_slots();
+    machine_theorem::unqueued_commands_are_of_their_slots();
 }

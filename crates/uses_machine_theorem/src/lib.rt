@@ -10,8 +10,8 @@ ghost use Rattle.uses_machine_theorem.specs.Led.{AsksSupplied, EndsCompleted, En
 ghost use Rattle.uses_machine_theorem.specs.Led.{IsLed, KnowsDisks, LendsBrought, LendsOfSlots, PutsNew, SpeaksDone, SpeaksOfSlots};
 ghost use Rattle.uses_machine_theorem.specs.Led.{SpeaksSupplied};
 ghost use Rattle.uses_machine_theorem.specs.Slots.{KnowsBrought, KnowsBroughtSince, KnowsBytes, KnowsData, KnowsEnds, KnowsFilled};
-ghost use Rattle.uses_machine_theorem.specs.Slots.{KnowsFollowing, KnowsGiven, KnowsOrders, KnowsPlainSingles, KnowsQueued, KnowsReadBack};
-ghost use Rattle.uses_machine_theorem.specs.Slots.{KnowsReads, KnowsSingles, KnowsSlots, KnowsTags, KnowsTransfers, KnowsTurns, KnowsWaits};
+ghost use Rattle.uses_machine_theorem.specs.Slots.{KnowsFollowing, KnowsGiven, KnowsOrders, KnowsQueued, KnowsReadBack};
+ghost use Rattle.uses_machine_theorem.specs.Slots.{KnowsReads, KnowsSlots, KnowsTags, KnowsTransfers, KnowsTurns, KnowsWaits};
 ghost use Rattle.uses_machine_theorem.specs.Slots.{KnowsWritten};
 ghost use Rattle.uses_machine_theorem.specs.Standing.{BeginsToStand, GoesOnStanding};
 
@@ -164,9 +164,8 @@ pub fn plugs(machine: &mut Machine, port: u8) -> Result<(), PortFault>
 /// queued read are those bytes, each at its number, while no FIS of the disk is lost or at fault. Where the guest sees a queued read completed, each
 /// byte of it was brought by such a FIS and written at its place, and nothing was issued in the slot since then. If the medium gives what it was last
 /// told to keep, they are what the guest wrote there, by a write that it saw completed before; and so are all that the disk sent for a read that the
-/// guest sees completed. So it is of a command that is not queued, and that the guest sees completed, where commands and answers went in turn: at a
-/// disk that was new as it was put at its port they do while it is not reset, at the controller while a command that waits leaves its slot only by its
-/// answer.
+/// guest sees completed. Commands that are not queued and their answers go in turn: at a disk that was new as it was put at its port while it is not reset,
+/// at the controller while a command that waits leaves its slot only by its answer.
 pub fn knows_commands(machine: &Machine)
     ensures given { KnowsGiven machine.now }
     ensures sent { KnowsData machine.now }
@@ -183,8 +182,6 @@ pub fn knows_commands(machine: &Machine)
     ensures turns { KnowsTurns machine.now }
     ensures transfers { KnowsTransfers machine.now }
     ensures waits { KnowsWaits machine.now }
-    ensures singles { KnowsSingles machine.now }
-    ensures plain { KnowsPlainSingles machine.now }
 {
     machine_theorem::commands_are_as_supplied();
     machine_theorem::completions_are_of_their_slots();
@@ -198,7 +195,6 @@ pub fn knows_commands(machine: &Machine)
     machine_theorem::commands_go_in_turn();
     machine_theorem::transfers_are_answered();
     machine_theorem::commands_await_their_answers();
-    machine_theorem::singles_are_of_their_slots();
 }
 
 /// What the caller knows of the Data of its guest's queued writes, whatever run led to its machine; it runs no code. Data that go to a device of a

@@ -1,6 +1,6 @@
 //! Commands that the guest sees completed, as the laws of reads behind writes want them.
 
-ghost use Rattle.machine_theorem.specs.Waits.{AllKeepWaiting, AllPlain};
+ghost use Rattle.machine_theorem.specs.Ending.{AllKeepEnding, AllUnqueued};
 ghost use Rattle.uses_machine_theorem.specs.Seen.{KnowsQueuedReadBack, KnowsSeenQueued, KnowsSeenSingle};
 
 use ahci_machine::Machine;
@@ -11,12 +11,12 @@ use ahci_machine::Machine;
 /// saw completed before: whatever happened in between, if the disk stayed at its port, and its medium gives what it was last told to keep.
 pub fn knows_what_is_seen(machine: &Machine)
     ensures queued { KnowsSeenQueued machine.now }
-    ensures singles { KnowsSeenSingle AllKeepWaiting machine.now }
-    ensures plain_singles { KnowsSeenSingle AllPlain machine.now }
+    ensures singles { KnowsSeenSingle AllKeepEnding machine.now }
+    ensures plain_singles { KnowsSeenSingle AllUnqueued machine.now }
     ensures back { KnowsQueuedReadBack machine.now }
 {
     machine_theorem::completions_are_of_their_slots();
     machine_theorem::flushes_follow_writes();
     machine_theorem::reads_follow_writes_over_all();
-    machine_theorem::singles_are_of_their_slots();
+    machine_theorem::unqueued_commands_are_of_their_slots();
 }

@@ -1,5 +1,4 @@
-use Rattle.uses_machine_theorem.proofs.SlotLemmas.{brought, brought_since, bytes, data_are, ends, filled, given, queued, reads, following, read_back, written, ends_so, singles, turns, waits}
-use Rattle.machine_theorem.specs.Waits.{AllKeepWaiting, AllPlain}
+use Rattle.uses_machine_theorem.proofs.SlotLemmas.{brought, brought_since, bytes, data_are, ends, filled, given, queued, reads, following, read_back, written, ends_so, turns, waits}
 use Rattle.uses_machine_theorem.proofs.knows_commands.Goals as goal
 
 pub returns : goal.returns
@@ -19,6 +18,4 @@ returns c = record {
   turns = turns c.commands_go_in_turn.ensures c.args.machine.now;
   transfers = ends_so c.transfers_are_answered.ensures c.args.machine.now;
   waits = waits c.commands_await_their_answers.ensures.counts c.args.machine.now;
-  singles = singles AllKeepWaiting c.singles_are_of_their_slots.ensures.slots c.args.machine.now;
-  plain = singles AllPlain c.singles_are_of_their_slots.ensures.plain c.args.machine.now;
 }

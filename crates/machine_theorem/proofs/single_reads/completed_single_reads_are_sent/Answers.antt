@@ -61,16 +61,7 @@ returns c =
       };
       completed = c.completions_are_of_devices.ensures;
       turn = c.commands_go_in_turn.ensures;
-      transfers = c.transfers_are_answered.ensures;
       counts = c.commands_await_their_answers.ensures.counts;
-      last = c.commands_await_their_answers.ensures.last;
-      single = c.answers_are_single.ensures;
-      pages = c.ends_are_of_pages.ensures.singles;
-      kept = record {
-        slots = c.sent_frames_are_supplied.ensures.slots;
-        core = c.commands_are_supplied.ensures.core;
-        supplied = c.commands_are_supplied.ensures.supplied;
-      };
     } in
     let of_ends : pio.Laws = record {
       falls = ends;
@@ -82,12 +73,16 @@ returns c =
       completed = singles.completed;
       turn = c.commands_are_settled_in_turn.ensures.turn;
       sectors = c.commands_are_settled_in_turn.ensures.sectors;
-      transfers = singles.transfers;
+      transfers = c.transfers_are_answered.ensures;
       views = c.core_delivers.ensures.agrees;
       last = c.commands_await_their_ends.ensures.last;
-      single = singles.single;
-      pages = singles.pages;
-      kept = singles.kept;
+      single = c.answers_are_single.ensures;
+      pages = c.ends_are_of_pages.ensures.singles;
+      kept = record {
+        slots = c.sent_frames_are_supplied.ensures.slots;
+        core = c.commands_are_supplied.ensures.core;
+        supplied = c.commands_are_supplied.ensures.supplied;
+      };
     } in
     let again : anew.Laws = record {
       own = of_ends;

@@ -1,6 +1,6 @@
 use Rattle.machine_theorem.proofs.Falls as falls
 use Rattle.machine_theorem.proofs.SingleWritesOwn.{Laws, supplied_are}
-use Rattle.machine_theorem.proofs.SinglesOwn as singles
+use Rattle.machine_theorem.proofs.PioOwn as own
 use Rattle.machine_theorem.proofs.single_writes.single_writes_are_as_supplied.Goals as goal
 
 pub returns : goal.returns
@@ -17,7 +17,7 @@ returns c =
       histories = c.issues_fall.ensures.told;
       active = c.active_falls.ensures;
     } in
-    let of_slots : singles.Laws = record {
+    let of_slots : own.Laws = record {
       falls = ends;
       order = c.frames_rise_in_order.ensures.order;
       taken = c.frames_rise_in_order.ensures.taken;
@@ -36,10 +36,11 @@ returns c =
         due = c.controller_goes_on.ensures.due;
       };
       completed = c.completions_are_of_devices.ensures;
-      turn = c.commands_go_in_turn.ensures;
+      turn = c.commands_are_settled_in_turn.ensures.turn;
+      sectors = c.commands_are_settled_in_turn.ensures.sectors;
       transfers = c.transfers_are_answered.ensures;
-      counts = c.commands_await_their_answers.ensures.counts;
-      last = c.commands_await_their_answers.ensures.last;
+      views = c.core_delivers.ensures.agrees;
+      last = c.commands_await_their_ends.ensures.last;
       single = c.answers_are_single.ensures;
       pages = c.ends_are_of_pages.ensures.singles;
       kept = record {
@@ -49,8 +50,8 @@ returns c =
       };
     } in
     let laws : Laws = record {
-      singles = of_slots;
-      wait = c.commands_await_their_answers.ensures.plain;
+      own = of_slots;
+      wait = c.commands_await_their_ends.ensures.plain;
       fed = record {
         fed = record {
           setup = record {
