@@ -1,6 +1,6 @@
-//! A disk behind a port multiplier, without a host port: the program plays the host. It opens port 0
-//! by register writes to the control port, lets the new device in, and asks the disk for a sector.
-//! Each FIS that goes up is printed as its bytes.
+//! A disk behind a port multiplier, without a host port: the program plays the host. It reads from the
+//! control port what the multiplier is, opens port 0 by register writes, lets the new device in, and
+//! asks the disk for a sector. Each FIS that goes up is printed as its bytes.
 #![tactic(auto)]
 
 ghost use Rattle.std.specs.Prelude.{◌≡◌, ◌<◌};
@@ -15,6 +15,11 @@ use std::io;
 /// The PM Port of the multiplier itself.
 const CONTROL_PORT: u8 = 15;
 
+/// READ PORT MULTIPLIER and WRITE PORT MULTIPLIER.
+const READ: u8 = 0xE4;
+
+const WRITE: u8 = 0xE8;
+
 /// Frames of the host have no port, connection or number.
 fn of_host() -> Stamp {
     Stamp {
@@ -25,16 +30,17 @@ fn of_host() -> Stamp {
     }
 }
 
-/// A write of a register of port 0. Its value has one byte that is not 0: the highest or the lowest.
-fn register_write(register: u16, lowest: u8, highest: u8) -> H2dFields {
+/// A command for the control port: E4h READ PORT MULTIPLIER or E8h WRITE PORT MULTIPLIER (Serial ATA 3.x, 16.2). The port whose register it is goes into
+/// Device, the register's number into Features, and the value into Count and the lowest three bytes of the LBA.
+fn register_command(command: u8, port: u8, register: u16, value: u32) -> H2dFields {
     H2dFields {
         pm_port: CONTROL_PORT,
         c: true,
-        command: 0xE8,
+        command,
         features: register,
-        lba: u64::from(highest) * 0x1_0000,
-        device: 0,
-        count: u16::from(lowest),
+        lba: u64::from(value / 0x100),
+        device: port,
+        count: u16::from(value.to_le_bytes()[0]),
         icc: 0,
         control: 0,
     }
@@ -123,13 +129,23 @@ fn plug(alloc: Global, pm: &mut Multiplier, disk: &mut Disk) -> Result<(), Alloc
     Ok(())
 }
 
-/// The host opens port 0: SControl 0, and then it clears X of SError, before which nothing passes.
+/// The host reads what the multiplier is: product and vendor (GSCR 0), and how many ports it has (GSCR 2).
+fn identify(rt: &HostRuntime, pm: &mut Multiplier) -> io::Result<()>
+    ensures { pm.new.registers.ports ≡ pm.old.registers.ports }
+{
+    give(rt.alloc(), pm, &register_command(READ, CONTROL_PORT, 0, 0))?;
+    show(rt, pm)?;
+    give(rt.alloc(), pm, &register_command(READ, CONTROL_PORT, 2, 0))?;
+    show(rt, pm)
+}
+
+/// The host opens port 0: SControl 0, and then it clears all bits of SError, X among them, before which nothing passes.
 fn open(rt: &HostRuntime, pm: &mut Multiplier) -> io::Result<()>
     ensures { pm.new.registers.ports ≡ pm.old.registers.ports }
 {
-    give(rt.alloc(), pm, &register_write(2, 0, 0))?;
+    give(rt.alloc(), pm, &register_command(WRITE, 0, 2, 0))?;
     show(rt, pm)?;
-    give(rt.alloc(), pm, &register_write(1, 0, 4))?;
+    give(rt.alloc(), pm, &register_command(WRITE, 0, 1, 0xFFFF_FFFF))?;
     show(rt, pm)
 }
 
@@ -154,6 +170,7 @@ fn main(rt: HostRuntime) -> io::Result<()> {
         return println!(rt; "no memory");
     };
     let mut pm = Multiplier::new(1);
+    identify(&rt, &mut pm)?;
     plug(rt.alloc(), &mut pm, &mut disk)?;
     open(&rt, &mut pm)?;
     exchange(&rt, &mut pm, &mut disk)
