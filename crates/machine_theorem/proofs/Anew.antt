@@ -20,7 +20,7 @@ use Rattle.machine_laws.specs.{ControllerLaws.{RunsRuled, calls_in}, Controllers
 use Rattle.machine_laws.specs.{Deeds.{Deed, Does, Moved}, Disks.calls_at, Falling.{AllLast, HasLink}, Rising.{came_by, sent_by}}
 use Rattle.machine_theorem.specs.{Brought.{AllTakenWell, DiskStretch}, Crossing.Within, Ending.{AllKeepEnding, AllUnqueued, UnqueuedCommandsWait}}
 use Rattle.machine_theorem.specs.{Ending.carries, Identity.calls_of, InTurn.{AreKeptOn, IsIdle, heard_in, is_answer, is_answering}}
-use Rattle.machine_theorem.specs.{OwnSlots.{AllKeepLine, KeepsLine, NoneLost, is_of}, PioReads.AllKeepUnqueued, ReadsWritten.NoneTaken}
+use Rattle.machine_theorem.specs.{OwnSlots.{AllKeepLine, KeepsLine, NoneLost, is_of}, PioIn.AllKeepUnqueued, ReadsWritten.NoneTaken}
 use Rattle.machine_theorem.specs.{Settled.{AreSettled, is_data, is_settling, settled_in}, Singles.BeginsIdle, Tags.once_if, Waits.waits_in}
 use Rattle.machine_theorem.proofs.{Answered.heard_both, Closing.{data_keeps, due, due_shut, taken_kinds}, Cut.{Cut, last_of, total}, EndedByData.says_data}
 use Rattle.machine_theorem.proofs.{EndsFew.sent_of, Fallen.left_there, Falls.{Told, told_after, told_now}, FallsFew.came_of}

@@ -107,7 +107,7 @@ brought_by r n s k (Moved (act.Takes took)) at later now run b alone once = reco
 brought_by r n s k deed at later now run b alone once =
     none_brings r n s k at.controller (deed_calls at deed run.1.0 run.1.1) run.1.0.controller (deed_none at deed run.1.0 run.1.1 tt) b
 
-brought_behind : (r : Kind) (n s k : ℕ) (deed : Deed) (at : MachineState) (later : List Deed) (now : MachineState) (run : RunsRuled at (deed ∷ later) now)
+pub brought_behind : (r : Kind) (n s k : ℕ) (deed : Deed) (at : MachineState) (later : List Deed) (now : MachineState) (run : RunsRuled at (deed ∷ later) now)
     → Brought r n s k run.1.0 later now run.1.2
     → Brought r n s k at (deed ∷ later) now run
 unfolding cut_more

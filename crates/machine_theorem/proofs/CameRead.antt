@@ -15,7 +15,7 @@ use Rattle.ahci_machine.specs.States.{IsOpeningMachine, MachineState}
 use Rattle.ahci_machine.specs.declared.act.Act.TheVariants as act
 use Rattle.machine_laws.specs.{ControllerLaws.calls_in, Deeds.{Moved}, Falling.{AllLast, HasLink}}
 use Rattle.machine_theorem.specs.{Brought.{AllTakenWell, DiskStretch}, Given.IsWhole, Identity.calls_of, InTurn.{AreKeptOn, IsIdle}}
-use Rattle.machine_theorem.specs.{OwnSlots.{AllKeepLine, NoneLost, is_of}, OwnPages.{PagesGoInTurn, TransfersSendNoPage}, PioReads.AllKeepUnqueued}
+use Rattle.machine_theorem.specs.{OwnSlots.{AllKeepLine, NoneLost, is_of}, OwnPages.{PagesGoInTurn, TransfersSendNoPage}, PioIn.AllKeepUnqueued}
 use Rattle.machine_theorem.specs.{PioReads.{CameIsRead, IsItsData}, SingleBytes.{IsSentFor, OfItsSectors, SingleIsSent}, SingleNumbers.AllHearSingle}
 use Rattle.machine_theorem.specs.{SingleNumbers.{IsSingleByte, OfSingleByte, SingleDataAreCounted, SingleIsRead}, SingleReads.IsSingleDone}
 use Rattle.machine_theorem.specs.{SingleReads.IsWrittenThen, Singles.{BeginsIdle, IsFromSlot}}

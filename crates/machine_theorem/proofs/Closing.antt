@@ -22,7 +22,7 @@ use Rattle.controller_laws.specs.Events as call
 use Rattle.machine_theorem.specs.{Ending.{AllKeepEnding, KeepsEnding, carries, is_data_of}, InTurn.{answers, is_answering}, Tags.once_if}
 use Rattle.machine_theorem.specs.Waits.{commanded_in, is_answered, is_command_issue, is_commanded, waits_in}
 use Rattle.machine_theorem.proofs.{CallEvents.{AllOf, AnyTurn, IsNoBlock, any_goes, grown, no_block, turn_any}, FisEvents.{IsCarrying, closes}}
-use Rattle.machine_theorem.proofs.{FisEvents.fis_carries, OrderedOnce.{IsOrderedOnce, ordered_once}, PlainWaits.at_some, SetupFrames.the_issue}
+use Rattle.machine_theorem.proofs.{FisEvents.fis_carries, OrderedOnce.{IsOrderedOnce, ordered_once}, QuietCalls.at_some, SetupFrames.the_issue}
 use Rattle.machine_theorem.proofs.Shutting.{OneWaits, is_closing, is_shut, one_waits, shut, shut_back, shut_told, shut_view, then', told_then}
 use Rattle.machine_theorem.proofs.{Shutting.waits_back, Waiting.{IsSent, Laws, core_events, first_kept, low_slot, sent_now, some_waits}}
 

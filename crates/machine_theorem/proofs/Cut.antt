@@ -7,8 +7,8 @@ use Rattle.ahci_machine.specs.States.{MachineState}
 use Rattle.machine_laws.specs.{ControllerLaws.{RunsRuled, calls_in}, Controllers.deed_calls, Deeds.{Deed, Does}, Disks.calls_at, Falling.AllLast}
 use Rattle.machine_laws.specs.{Falling.{HasLink, Lasts}, Rising.{came_by, sent_by}}
 use Rattle.machine_theorem.specs.{Brought.{AllTakenWell, TakesWell}, Identity.{AllKeep, Keeps, calls_of}, Orders.{are_ordered, fallen_in, is_fallen}}
-use Rattle.machine_theorem.specs.{Orders.ordered_in, OwnSlots.{AllKeepLine, KeepsLine}, PioReads.{AllKeepUnqueued, KeepsUnqueued}}
-use Rattle.machine_theorem.specs.{QueuedWrites.{AllQueued, HasQueued}, SingleBytes.{AllKeepPlain, KeepsPlain}, Tags.once_if}
+use Rattle.machine_theorem.specs.{Orders.ordered_in, OwnSlots.{AllKeepLine, KeepsLine}, PioIn.{AllKeepUnqueued, KeepsUnqueued}}
+use Rattle.machine_theorem.specs.{QueuedWrites.{AllQueued, HasQueued}, Tags.once_if}
 use Rattle.machine_theorem.proofs.{EndsFew.sent_of, FallsFew.came_of}
 
 -- what is counted by each deed, and over some
@@ -46,8 +46,6 @@ pub record Cut (deed : Deed) (at : MachineState) (deeds : List Deed) (now : Mach
       → AllKeepLine many n c dev at sooner mid led × KeepsLine many n c dev mid deed next does × AllKeepLine many n c dev next later now rest
   pub taken : (dev : ℕ) → AllTakenWell dev at deeds now run → AllTakenWell dev at sooner mid led × TakesWell dev mid deed next does × AllTakenWell dev next later now rest
   pub queued : (dev : ℕ) → AllQueued dev at deeds now run → AllQueued dev at sooner mid led × HasQueued dev mid.controller
-  pub plain : (many : Bool) (n dev : ℕ) → AllKeepPlain many n dev at deeds now run
-      → AllKeepPlain many n dev at sooner mid led × KeepsPlain many n dev mid deed next does × AllKeepPlain many n dev next later now rest
   pub unqueued : (many : Bool) (n dev : ℕ) → AllKeepUnqueued many n dev at deeds now run
       → AllKeepUnqueued many n dev at sooner mid led × KeepsUnqueued many n dev mid deed next does × AllKeepUnqueued many n dev next later now rest
 
@@ -75,7 +73,6 @@ cut_here deed later at now run = record {
   line = λ many n c dev k. (k.0.end, k.0, k.1);
   taken = λ dev w. (tt, w.0, w.1);
   queued = λ dev q. (q.0, q.0);
-  plain = λ many n dev k. (tt, k.0, k.1);
   unqueued = λ many n dev k. (tt, k.0, k.1);
 }
 
@@ -111,7 +108,6 @@ cut_more it deed later at now run c =
       line = λ many n c' dev k. let r = c.line many n c' dev k.1 in ((k.0, r.0), r.1, r.2);
       taken = λ dev w. let r = c.taken dev w.1 in ((w.0, r.0), r.1, r.2);
       queued = λ dev q. let r = c.queued dev q.1 in ((q.0, r.0), r.1);
-      plain = λ many n dev k. let r = c.plain many n dev k.1 in ((k.0, r.0), r.1, r.2);
       unqueued = λ many n dev k. let r = c.unqueued many n dev k.1 in ((k.0, r.0), r.1, r.2);
     }
 

@@ -25,7 +25,7 @@ use Rattle.machine_laws.specs.{Deeds.{Does, Moved}, Rising.risen}
 use Rattle.machine_theorem.specs.{Completed.{IsCompleted, IsEndedInHistory}, Ending.carries, InTurn.{answered_in, is_answer, is_answering}}
 use Rattle.machine_theorem.specs.{Settled.{IsBehindLastBlock, is_data, settled_in}, Tags.once_if}
 use Rattle.machine_theorem.proofs.{AnswersHeard.{IsMild, fis_mild}, Closing.EndsTrue, EndSent.{kind_view, seen_kind}, FisEvents.{IsNoData, fis_plain}}
-use Rattle.machine_theorem.proofs.{KindsSent.{call_kinds, said_kinds, said_long}, PlainWaits.at_some, Sent.type_is, Shutting.{is_shut, shut}}
+use Rattle.machine_theorem.proofs.{KindsSent.{call_kinds, said_kinds, said_long}, QuietCalls.at_some, Sent.type_is, Shutting.{is_shut, shut}}
 use Rattle.machine_theorem.proofs.{Shutting.shut_view, SinglesOwn.completed_waits}
 
 -- ---- what the FIS is that ends the command of the slot

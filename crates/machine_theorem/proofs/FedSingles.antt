@@ -12,7 +12,7 @@ use Rattle.ahci_machine.specs.declared.act.Act.TheVariants as act
 use Rattle.machine_laws.specs.{ControllerLaws.{ControllerRuns, RunsAreCalls, RunsRuled, calls_in}, Controllers.{ControllerGoesOn, GathersDue, StaysDue}}
 use Rattle.machine_laws.specs.{Controllers.deed_calls, Deeds.{Deed, Does, Moved}}
 use Rattle.machine_laws.specs.Feeding.{IsReading, came_by}
-use Rattle.machine_theorem.specs.{Commands.AreNotIssued, Ending.{AllUnqueued, HasNoQueued}, PioReads.AllKeepUnqueued, SingleData.{GoesNext, went_in}}
+use Rattle.machine_theorem.specs.{Commands.AreNotIssued, Ending.{AllUnqueued, HasNoQueued}, PioIn.AllKeepUnqueued, SingleData.{GoesNext, went_in}}
 use Rattle.machine_theorem.specs.{SingleWrites.{AllFed, IsFedBy, IsFedNext, went_to}, Writes.payloads}
 use Rattle.machine_theorem.specs.SingleData.{AllUnqueued as AllWithout}
 use Rattle.machine_theorem.proofs.{FedFor.{Fits, Good, fits, run_good}, Ordered.first_ruled, SingleCalls.{Going, goes_next}}

@@ -86,7 +86,6 @@ mod Idle
 mod Uncut
 mod WrittenBytes
 mod SinglesBrought
-mod PlainRun
 mod SinglesSent
 mod SentSingle
 mod SingleNumbers
@@ -126,7 +125,7 @@ mod DataTail
 mod FedSingles
 mod SingleWritesOwn
 mod AnswersHeard
-mod PlainWaits
+mod QuietCalls
 mod KeepPlaces
 mod Signs
 mod SignsSent

@@ -1,15 +1,16 @@
 -- A stretch, cut where a command goes.
 use Rattle.std.proofs.Common.{◌≡◌, ◌⊎◌, ℕ, List, [], ◌∷◌, ◌++◌, append_assoc, refl, sym, ap, subst, ◌∙◌, inl, inr}
 use Rattle.fis_view.specs.Frames.{Stamped}
+use Rattle.slots.specs.declared.work.Kind.{Kind}
 use Rattle.ahci_controller.specs.declared.next.Next.{Next}
 use Rattle.ahci_controller.specs.declared.next.Next.TheVariants as next
 use Rattle.controller_laws.specs.Events as call
 use Rattle.controller_laws.specs.Events.{Event}
-use Rattle.ahci_machine.specs.{Gathers.host_stamp, States.MachineState}
+use Rattle.ahci_machine.specs.{Gathers.host_stamp, States.{HasRules, MachineState}}
 use Rattle.ahci_machine.specs.declared.act.Act.TheVariants as act
 use Rattle.machine_laws.specs.{ControllerLaws.{RunsRuled, calls_in}, Controllers.deed_calls, Deeds.{Deed, Does, Missed, Moved, Supplied}}
 use Rattle.machine_laws.specs.{Falling.sent_in, Feeding.{came_by, came_in}}
-use Rattle.machine_theorem.proofs.{Cut.{Cut, cut_here, cut_more}, Few.{AreFew, are_few}, Ordered.{loses, misses, rests, supplies}}
+use Rattle.machine_theorem.proofs.{BroughtAt.{Brought, brought_behind}, Cut.{Cut, cut_here, cut_more}, Few.{AreFew, are_few}, Ordered.{loses, misses, rests, supplies}}
 
 -- ---- what led to a stretch, and then it
 
@@ -78,6 +79,8 @@ record Found (deed : Deed) (old : MachineState) (deeds : List Deed) (now : Machi
   here : deed_calls cut.mid deed cut.next cut.does ≡ e ∷ []
   came : (dev : ℕ) (x : List ℕ) → came_in dev x old deeds now run
       ≡ came_in dev (came_by dev cut.mid deed cut.next cut.does (came_in dev x old cut.sooner cut.mid cut.led)) cut.next cut.later now cut.rest
+  rules : HasRules cut.mid
+  brought : (r : Kind) (n s k : ℕ) → Brought r n s k cut.mid (deed ∷ cut.later) now (rules, (cut.next, cut.does, cut.rest)) → Brought r n s k old deeds now run
 
 record HasFound (old : MachineState) (deeds : List Deed) (now : MachineState) (run : RunsRuled old deeds now) (front : List Event) (e : Event) : Type 0 where
   deed : Deed
@@ -107,12 +110,14 @@ module _ (old : MachineState) (deed : Deed) (later : List Deed) (now : MachineSt
       prior = ap (λ (l : List Event). l ++ calls_in run.1.0 it.found.cut.sooner it.found.cut.mid it.found.cut.led) is ∙ ap (λ (l : List Event). one ++ l) it.found.prior;
       here = it.found.here;
       came = λ dev x. it.found.came dev (came_by dev old deed run.1.0 run.1.1 x);
+      rules = it.found.rules;
+      brought = λ r n s k b. brought_behind r n s k deed old later now run (it.found.brought r n s k b);
     };
   }
 
   here : (e : Event) → by_it ≡ e ∷ [] → HasFound old (deed ∷ later) now run [] e
   unfolding cut_here
-  here e is = record { deed = deed; found = record { cut = cut_here deed later old now run; prior = refl; here = is; came = λ dev x. refl } }
+  here e is = record { deed = deed; found = record { cut = cut_here deed later old now run; prior = refl; here = is; came = λ dev x. refl; rules = run.0; brought = λ r n s k b. b } }
 
   one_case : (ih : (front : List Event) (e : Event) (back : List Event) → rest ≡ front ++ e ∷ back → HasFound run.1.0 later now run.1.2 front e)
       → (front : List Event) (e : Event) (back : List Event) (d : Event) → by_it ≡ d ∷ [] → d ∷ rest ≡ front ++ e ∷ back → HasFound old (deed ∷ later) now run front e
@@ -137,11 +142,15 @@ find [] old now run front e back same = no_event front e back same
 find (deed ∷ later) old now run front e back same =
     step old deed later now run (λ front e back is. find later run.1.0 now run.1.2 front e back is) front e back same
 
--- A command goes by this deed. These calls were before, and what was read for a device by then goes on behind it.
+-- A command goes by this deed. These calls were before, and what was read for a device by then goes on behind it; what a FIS brings from this deed on, it
+-- brings in the run.
 pub record OrderAt (d slot : ℕ) (fis : List ℕ) (old : MachineState) (deeds : List Deed) (now : MachineState) (run : RunsRuled old deeds now) (front : List Event) : Type 0 where
   pub cut : Cut (Moved (act.Turns (next.Order d slot fis))) old deeds now run
   pub prior : calls_in old cut.sooner cut.mid cut.led ≡ front
   pub came : (dev : ℕ) (x : List ℕ) → came_in dev x old deeds now run ≡ came_in dev (came_in dev x old cut.sooner cut.mid cut.led) cut.next cut.later now cut.rest
+  pub rules : HasRules cut.mid
+  pub brought : (r : Kind) (n s k : ℕ) → Brought r n s k cut.mid (Moved (act.Turns (next.Order d slot fis)) ∷ cut.later) now (rules, (cut.next, cut.does, cut.rest))
+      → Brought r n s k old deeds now run
 
 pub order_at : (d slot : ℕ) (fis : List ℕ) (deeds : List Deed) (old now : MachineState) (run : RunsRuled old deeds now) (front back : List Event)
     → calls_in old deeds now run ≡ front ++ call.Turned (next.Order d slot fis) ∷ back → OrderAt d slot fis old deeds now run front
@@ -153,4 +162,4 @@ order_at d slot fis deeds old now run front back same =
   where
     of_deed : (d slot : ℕ) (fis : List ℕ) (deeds : List Deed) (old now : MachineState) (run : RunsRuled old deeds now) (front : List Event)
         → Found (Moved (act.Turns (next.Order d slot fis))) old deeds now run front (call.Turned (next.Order d slot fis)) → OrderAt d slot fis old deeds now run front
-    of_deed d slot fis deeds old now run front f = record { cut = f.cut; prior = f.prior; came = f.came }
+    of_deed d slot fis deeds old now run front f = record { cut = f.cut; prior = f.prior; came = f.came; rules = f.rules; brought = f.brought }

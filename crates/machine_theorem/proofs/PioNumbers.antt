@@ -28,7 +28,7 @@ use Rattle.machine_theorem.specs.{SingleNumbers.{since_by, since_call, since_cal
 use Rattle.machine_theorem.specs.Waits.{is_command_issue, is_commanded, taken_in}
 use Rattle.machine_theorem.proofs.{Calm.{NotSent, fis_not}, CallEvents.{AllOf, CallGoes, FrameIs, grown, order_of}, DataHeard.well_carried}
 use Rattle.machine_theorem.proofs.{FisEvents.{IsNoData, fis_plain}, OrderedOnce.{IsOrderedOnce, ordered_once}, Ordered.last_kept, PioHistory.Counts}
-use Rattle.machine_theorem.proofs.{PioHistory.{IsCalm, IsUpSo, all_counts, calm_of, came_counts, fed_counts, pio_next}, PlainWaits.of_issue}
+use Rattle.machine_theorem.proofs.{PioHistory.{IsCalm, IsUpSo, all_counts, calm_of, came_counts, fed_counts, pio_next}, QuietCalls.of_issue}
 use Rattle.machine_theorem.proofs.{SetupCalls.hears_case, SetupCores.fed_none, Shutting.{then', told_then}}
 use Rattle.machine_theorem.proofs.{SingleWell.{Needs, set_up_issue, well_needs}, Waiting.{IsSent, core_events, first_kept, low_slot, not_true}}
 use Rattle.machine_theorem.proofs.Waiting.{sent_now}

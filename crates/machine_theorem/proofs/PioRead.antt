@@ -16,7 +16,7 @@ use Rattle.ahci_machine.specs.declared.act.Act.TheVariants as act
 use Rattle.machine_laws.specs.{ControllerLaws.{OpensSo, calls_in}, Controllers.{GathersDue, deed_calls}, Deeds.Moved, Falling.{AllLast, HasLink}}
 use Rattle.machine_theorem.specs.{Brought.{AllTakenWell, DiskStretch}, Completed.IsEndedInHistory, Ending.carries, Given.IsWhole, Identity.calls_of}
 use Rattle.machine_theorem.specs.{InTurn.{AreKeptOn, IsIdle, is_answering}, OwnPages.{PagesGoInTurn, TransfersSendNoPage}, OwnSlots.AllKeepLine}
-use Rattle.machine_theorem.specs.{OwnSlots.{NoneLost, is_of}, PioReads.{AllKeepUnqueued, CameIsRead, IsItsData, IsLastByte, IsOfNoSectors, LastIsRead}}
+use Rattle.machine_theorem.specs.{OwnSlots.{NoneLost, is_of}, PioIn.AllKeepUnqueued, PioReads.{CameIsRead, IsItsData, IsLastByte, IsOfNoSectors, LastIsRead}}
 use Rattle.machine_theorem.specs.{PioReads.{OfLastByte, UnqueuedReadsAreRead}, SingleBytes.IsSentFor, SingleNumbers.{AllHearSingle, SendsSingle}}
 use Rattle.machine_theorem.specs.{SingleNumbers.SingleDataAreCounted, SingleReads.{ComesLast, IsSingleDone, is_sent_read}, Singles.BeginsIdle}
 use Rattle.machine_theorem.specs.{Tags.once_if, Waits.waits_in}

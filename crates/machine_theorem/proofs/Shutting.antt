@@ -19,7 +19,7 @@ use Rattle.controller_laws.specs.{CoreEvents.of_event, Events.{Does, Event as Ca
 use Rattle.controller_laws.specs.Events as call
 use Rattle.machine_theorem.specs.Waits.{is_commanded, waits_in}
 use Rattle.machine_theorem.proofs.{Calm.{IsUnsentTurn, NotSent, call_back, fis_not, one_back}, CallEvents.{AllOf, FrameIs, IsPlain, grown, turn_of}}
-use Rattle.machine_theorem.proofs.{CallEvents.unsent_goes, FisEvents.{IsOpenEvent, closes, fis_open}, PlainWaits.at_some, Waiting.{Laws, core_events}}
+use Rattle.machine_theorem.proofs.{CallEvents.unsent_goes, FisEvents.{IsOpenEvent, closes, fis_open}, QuietCalls.at_some, Waiting.{Laws, core_events}}
 use Rattle.machine_theorem.proofs.Waiting.{some_waits}
 
 -- ---- histories

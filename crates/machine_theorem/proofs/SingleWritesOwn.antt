@@ -23,7 +23,7 @@ use Rattle.machine_laws.specs.{Falling.{sent_by as goes_by, sent_in}, Feeding.{I
 use Rattle.machine_theorem.specs.{Commands.AreNotIssued, Completed.IsEndedInHistory, Crossing.Within, DataCame.{AreOfHeard, DataComeBehind}}
 use Rattle.machine_theorem.specs.{DataCame.IsWrittenBehind, Ending.{HasNoQueued, UnqueuedCommandsWait}, Given.IsWhole, Identity.{heard_as, is_for, picks}}
 use Rattle.machine_theorem.specs.{InTurn.{AreKeptOn, heard_in, is_answering, is_asking}, OwnSlots.is_of, OwnWrites.AreOwnData}
-use Rattle.machine_theorem.specs.{PioReads.{AllKeepUnqueued, KeepsUnqueued}, Settled.IsUnsettled, SingleData.went_in, Singles.IsFromSlot}
+use Rattle.machine_theorem.specs.{PioIn.{AllKeepUnqueued, KeepsUnqueued}, Settled.IsUnsettled, SingleData.went_in, Singles.IsFromSlot}
 use Rattle.machine_theorem.specs.{SingleWrites.{IsFedSince, IsFedWhole, IsSuppliedSingle, SingleWritesAreAsSupplied, went_to}, Waits.is_commanded}
 use Rattle.machine_theorem.specs.Writes.{payloads}
 use Rattle.machine_theorem.proofs.{AllWent.all_went, AtMoments.more, Commanded.asked, Cut.Cut, DataDeeds.all_plain, DataDown.ArePlain}

@@ -1,61 +1,29 @@
--- Commands that are not queued: commands and answers are counted on both sides of the link, where a command that waits leaves its slot by an answer.
-use Rattle.std.proofs.Common.{◌≡◌, ◌⊎◌, ℕ, ◌+◌, ◌<◌, ◌≤◌, ◌&&◌, Bool, true, false, not, List, [], ◌∷◌, ◌++◌, append_assoc, length, Option, Some}
+-- The command that is not queued, and whose bit of PxCI falls, waited in its slot; and the last command that a disk heard.
+use Rattle.std.proofs.Common.{◌≡◌, ◌⊎◌, ℕ, ◌+◌, ◌<◌, ◌&&◌, Bool, true, false, not, List, [], ◌∷◌, ◌++◌, Option, Some}
 use Rattle.std.proofs.{Common.{None, refl, sym, ap, subst, ◌∙◌, inl, inr, arith}, lemmas.Bool.{and_parts, eqb-true, false≢true}}
 use Rattle.std.proofs.lemmas.{Grind.{flat_map-append}}
 use Rattle.std.specs.{Prelude.{◌==◌, ◌||◌, if◌then◌else◌, IfSome, MatchOption}, List.flat_map}
-use Rattle.fis_view.specs.Frames.{Stamped}
-use Rattle.multiplier.specs.Passing.{of_conn}
 use Rattle.slots.specs.Slots.{Issue, context_of, holds, is_control, is_pio, is_queued_issue, is_waiting, issue_at, own_issue, slots_of}
 use Rattle.slots.specs.{Table.{IsContext, IsContextOf, IsIssue}, Work.needs_all, declared.{table.Context.Context, work.Work.Work}}
 use Rattle.hba_fbs.specs.{Views.view_of, Taking.port_of}
 use Rattle.hba_laws.specs.{Agreement.{IsTold, is_for as is_for_slot}, History.{Answered, Carried, Event as HistoryEvent, History, completes, is_at}}
 use Rattle.hba_laws.specs.History.{is_set_up, waiting_in}
 use Rattle.hba_laws.proofs.Door.{own_here}
-use Rattle.ahci_controller.specs.{States.ControllerState, Taking.room_for, declared.taking.Took.Took}
-use Rattle.controller_laws.specs.{Events.{Event, IsController}}
+use Rattle.ahci_controller.specs.{States.ControllerState, Taking.room_for}
+use Rattle.controller_laws.specs.{Events.{IsController}}
 use Rattle.block_command.specs.Laws.{IsEarned}
 use Rattle.block_disk.specs.Laws.{Page}
-use Rattle.disk_pages.specs.declared.profile.Profile.{Profile}
-use Rattle.sata_disk.specs.{Sending.IsOut, State.{DiskState, new_disk}, declared.out.Out.Out}
 use Rattle.sata_disk_books.specs.{Ended.{HasEarned}}
-use Rattle.sata_disk_laws.specs.{Calls.{AreCalls, Call, Hears, after_calls}, Laws.reached, Once.{host_of, new_host}}
-use Rattle.sata_disk_laws.proofs.Door.{calls_after, calls_both}
-use Rattle.ahci_machine.specs.{States.{IsOpeningMachine, MachineState, bay_at}}
-use Rattle.ahci_machine.specs.declared.act.Act.TheVariants as act
-use Rattle.machine_laws.specs.{ControllerLaws.{ControllerRuns, OpensSo, RunsRuled, calls_in}, Controllers.GathersDue, Deeds.{Deed, Does}}
-use Rattle.machine_laws.specs.{Deeds.{FrameOffered, Moved}, Disks.{DisksGoOn, calls_at}, Falling.{AllLast, HasLink, heard_by}}
-use Rattle.machine_laws.specs.{Rising.{AreLinked, Frames, FramesAreTaken, FramesRise, HaveRisen, bytes_of, frames_in, frames_of}}
-use Rattle.machine_laws.specs.Rising.{no_frames, risen, sent_by}
-use Rattle.machine_theorem.specs.{Completed.{CompletionsAreOfDevices, IsCompleted, IsEndedInHistory}}
-use Rattle.machine_theorem.specs.{Identity.{calls_of, picks}, InTurn.{AreKeptOn, CommandsGoInTurn, IsIdle}}
-use Rattle.machine_theorem.specs.{InTurn.{IsUnanswered, heard_in, is_answer, is_answering, is_asking}, OwnSlots.{AllKeepLine, KeepsLine}}
-use Rattle.machine_theorem.specs.{OwnSlots.is_of, Singles.{AllOfDevice, BeginsIdle}}
-use Rattle.machine_theorem.specs.{Tags.once_if}
-use Rattle.machine_theorem.specs.{Waits.{AllKeepWaiting, CommandsAwaitAnswers}}
-use Rattle.machine_theorem.specs.{Waits.{commanded_in, is_command_issue, taken_in, waits_in}, Crossing.Within}
-use Rattle.machine_theorem.proofs.{Answered.{heard_both}, AnswersHeard.{IsMild, fis_mild}}
-use Rattle.machine_theorem.proofs.{Asking.all_none as data_none, Commanded.{AreNoCommands, all_none, asked, asked_few}}
-use Rattle.machine_theorem.proofs.{Commanded.{heard_long}, EndsFew.{disk_same, sent_of}, ErrorNone.{IsErrorFis, error_none}}
-use Rattle.machine_theorem.proofs.{Fallen.{heard_among, line_stays}, FallsFew.came_of}
+use Rattle.sata_disk_laws.specs.{Calls.{Call, Hears}}
+use Rattle.machine_laws.specs.{Falling.{heard_by}}
+use Rattle.machine_theorem.specs.{Completed.{IsCompleted, IsEndedInHistory}}
+use Rattle.machine_theorem.specs.{Identity.{picks}, InTurn.{AreKeptOn}}
+use Rattle.machine_theorem.specs.{InTurn.{heard_in, is_answering, is_asking}}
+use Rattle.machine_theorem.specs.{Waits.{is_command_issue}}
+use Rattle.machine_theorem.proofs.{AnswersHeard.{IsMild, fis_mild}}
+use Rattle.machine_theorem.proofs.{Commanded.{heard_long}, ErrorNone.{IsErrorFis, error_none}}
 use Rattle.machine_theorem.proofs.{OneConn.{no_length}}
-use Rattle.machine_theorem.proofs.{Ordered.first_ruled, OwnPlace.{Found, InOrder, came_one, find, frames_are, head_or, in_order}}
-use Rattle.machine_theorem.proofs.{OwnPlace.{linked, port_is, untaken_is}, RegistersSent.{answers_by, answers_few, says, taken_few}, SentFises.GoneOn}
-use Rattle.machine_theorem.proofs.{SentFises.{offers_none, sender_is, stretch_made}}
-use Rattle.machine_theorem.proofs.{Within.{fewer, picks_both, within_picks}}
-use Rattle.machine_theorem.proofs.Asking as asking
-use Rattle.machine_theorem.proofs.Fallen as fallen
-use Rattle.machine_theorem.proofs.Falls as falls
-
-pub record Laws : Type 0 where
-  pub falls : falls.Laws
-  pub order : FramesRise
-  pub taken : FramesAreTaken
-  pub disks : DisksGoOn
-  pub falling : fallen.Laws
-  pub data_of : asking.Laws
-  pub completed : CompletionsAreOfDevices
-  pub turn : CommandsGoInTurn
-  pub counts : CommandsAwaitAnswers
+use Rattle.machine_theorem.proofs.{Within.{picks_both}}
 
 -- ---- the slot whose bit falls waits
 
@@ -191,207 +159,8 @@ pub earns : (x : Option Page) → HasEarned x → Earns x
 earns None earned = absurd earned
 earns (Some page) earned = record { page = page; is = refl; earned = earned }
 
--- ---- the stretch
-
-pub record Stretch : Type 0 where
-  pub ports : ℕ
-  pub legacy : Bool
-  pub old : MachineState
-  pub opening : IsOpeningMachine ports legacy old
-  pub before : List Deed
-  pub at : MachineState
-  pub first : RunsRuled old before at
-  pub many : Bool
-  pub n : ℕ
-  pub c : ℕ
-  pub dev : ℕ
-  pub slot : ℕ
-  pub below : n < 15
-  pub dev_low : dev < 16
-  pub low : slot < 32
-  pub begins : BeginsIdle n c at
-  pub p : Profile
-  pub limit : ℕ
-  pub base : List Call
-  pub are : AreCalls (new_disk p limit) base
-  pub same : begins.disk ≡ reached p limit base
-  pub idle : IsIdle (host_of new_host base)
-  pub deeds : List Deed
-  pub now : MachineState
-  pub run : RunsRuled at deeds now
-  pub has_link : HasLink deeds
-  pub lasts : AllLast n at deeds now run
-  pub keeps : AllKeepLine many n c dev at deeds now run
-  pub on : AreKeptOn (calls_of n at deeds now run)
-  pub runs : ControllerRuns at deeds now run
-  pub of : AllOfDevice many n dev at.controller (calls_in at deeds now run) now.controller runs.calls
-  pub waiting : AllKeepWaiting dev at.controller (calls_in at deeds now run) now.controller runs.calls
-
-abbrev pub calls : Stretch → List Call
-calls s = calls_of s.n s.at s.deeds s.now s.run
-
-abbrev pub events : Stretch → List Event
-events s = calls_in s.at s.deeds s.now s.run
-
-abbrev pub came : Stretch → List Stamped
-came s = came_of s.at s.deeds s.now s.run
-
-abbrev commanded : Stretch → ℕ
-commanded s = commanded_in s.dev s.at.controller (events s) s.now.controller s.runs.calls
-
--- the numbers of a stretch
-record Counts (s : Stretch) : Type 0 where
-  heard : heard_in (calls s) ≤ length (asked s.many s.n (events s))
-  within : Within (picks is_asking (flat_map heard_by (calls s))) (asked s.many s.n (events s))
-  none : AreNoCommands (events s)
-  asked : length (asked s.many s.n (events s)) ≤ commanded s
-  ordered : commanded s + once_if (waits_in s.dev s.at.controller) ≤ taken_in s.dev (events s) + once_if (waits_in s.dev s.now.controller)
-  taken : taken_in s.dev (events s) ≤ length (picks answers_by (of_conn s.n s.c (came s)))
-
-counts : Laws → (s : Stretch) → Counts s
-counts laws s =
-    let opens : OpensSo s.old = laws.falls.opens s.ports s.legacy s.old s.opening (first_ruled s.before s.old s.at s.first) in
-    let due : GathersDue s.at = (laws.falls.runs s.old s.before s.at s.first opens.due).due in
-    let none : AreNoCommands (events s) = all_none s.deeds s.at s.now s.run (λ tag. data_none laws.data_of tag s.ports s.legacy s.old s.opening opens.due s.before s.at s.first s.deeds s.now s.run due) in
-    let among = heard_among laws.falling s.many s.n s.deeds s.at s.now s.run s.begins.disk s.begins.there (line_stays s.many s.n s.c s.dev s.deeds s.at s.now s.run s.keeps) due s.has_link s.lasts
-    s.begins.leaving s.begins.down in
-    let within : Within (picks is_asking (flat_map heard_by (calls s))) (asked s.many s.n (events s)) = within_picks is_asking _ _ among in
-    let few = fewer (picks is_asking (flat_map heard_by (calls s))) (asked s.many s.n (events s)) within in
-    let long = heard_long (calls s) in
-    let link : AreLinked s.deeds = linked s.many s.n s.c s.dev s.deeds s.at s.now s.run s.keeps in
-    let taken_is : bytes_of (came s) ≡ frames_of (events s) =
-    ap (λ (x : Frames). bytes_of x.came) (sym (frames_are s.deeds s.at s.now s.run no_frames link)) ∙ laws.taken s.at s.deeds s.now s.run no_frames link in
-    record {
-      heard = omega (arith, few, long);
-      within = within;
-      none = none;
-      asked = asked_few s.many s.n s.dev (events s) s.at.controller s.now.controller s.runs.calls none s.of;
-      ordered = laws.counts s.dev s.at.controller s.now.controller (events s) s.runs.calls s.waiting;
-      taken = taken_few s.n s.c s.dev (events s) (came s) taken_is (came_one s.many s.n s.c s.dev s.deeds s.at s.now s.run s.keeps);
-    }
-
-once_most : (b : Bool) → once_if b ≤ 1
-once_most true = omega arith
-once_most false = omega arith
-
 -- ---- the owner of a slot
 
 pub owner_is : (to dev : ℕ) (o : Option Issue) → MatchOption o ⊥ (λ i. i.dev ≡ to) → holds (is_command_issue dev) o ≡ true → to ≡ dev
 owner_is to dev None owner is = absurd owner
 owner_is to dev (Some i) owner is = sym owner ∙ eqb-true i.dev dev (and_parts (i.dev == dev) (not (is_control i.work.kind)) is).0
-
--- ---- the moment at which the disk sent the FIS
-
-module _ (laws : Laws) (s : Stretch) where
-  abbrev pub start : ControllerState
-  start = s.at.controller
-
-  abbrev end : ControllerState
-  end = s.now.controller
-
-  module _ (f : Stamped) (own : is_of s.n s.c f ≡ true) (found : Found s.many s.n s.c s.dev s.at s.deeds s.now s.run (of_conn s.n s.c (came s)) f) where
-    abbrev pub then' : List Call
-    then' = calls_of s.n s.at found.cut.sooner found.cut.mid found.cut.led
-
-    -- the disk of the stretch, there
-    gone_on : GoneOn s.many s.n s.c s.dev s.begins.disk then' (of_conn s.n s.c (sent_of s.at found.cut.sooner found.cut.mid found.cut.led)) (bay_at found.cut.mid s.n).unit
-    gone_on = stretch_made s.many s.n s.c s.dev laws.disks found.cut.sooner s.at found.cut.mid found.cut.led found.keeps s.begins.disk s.begins.there
-
-    risen_is : (k : ℕ) (o : Out) (does : Does found.cut.mid (Moved (act.Speaks k o)) found.cut.next) → sent_by found.cut.mid (Moved (act.Speaks k o)) found.cut.next does ≡ f ∷ []
-        → risen found.cut.mid.fan k does.does.does.1.frame ≡ f
-    risen_is k o does sent = ap (λ (l : List Stamped). head_or f l) sent
-
-    sender_here : (k : ℕ) (o : Out) (does : Does found.cut.mid (Moved (act.Speaks k o)) found.cut.next) → sent_by found.cut.mid (Moved (act.Speaks k o)) found.cut.next does ≡ f ∷ [] → k ≡ s.n
-    sender_here k o does sent =
-        let h = does.does.does.1 in
-        sender_is s.many s.n found.cut.mid k h.frame found.line.end h.room (ap (λ (x : Stamped). x.stamp.port == s.n) (risen_is k o does sent) ∙ port_is s.n s.c f own)
-
-    -- it sent the FIS
-    pub record IsSpoken (deed : Deed) : Type 0 where
-      pub o : Out
-      pub does : Does found.cut.mid (Moved (act.Speaks s.n o)) found.cut.next
-      pub is : deed ≡ Moved (act.Speaks s.n o)
-      pub sent : sent_by found.cut.mid (Moved (act.Speaks s.n o)) found.cut.next does ≡ f ∷ []
-
-    abbrev IsOne : ℕ → Out → Type 0
-    IsOne k o = (does : Does found.cut.mid (Moved (act.Speaks k o)) found.cut.next) → sent_by found.cut.mid (Moved (act.Speaks k o)) found.cut.next does ≡ f ∷ [] → IsSpoken (Moved (act.Speaks k o))
-
-    not_none : (l : List Stamped) → of_conn s.n s.c l ≡ [] → l ≡ f ∷ [] → ⊥
-    not_none l none is = by (sym (ap (λ (b : Bool). if b then f ∷ [] else []) own) ∙ ap (of_conn s.n s.c) (sym is) ∙ none)
-      where
-        by : f ∷ [] ≡ [] → ⊥
-        by e = cc
-
-    pub spoken : (deed : Deed) (does : Does found.cut.mid deed found.cut.next) → KeepsLine s.many s.n s.c s.dev found.cut.mid deed found.cut.next does → sent_by found.cut.mid deed found.cut.next does ≡ f ∷ [] → IsSpoken deed
-    spoken (Moved (act.Speaks k o)) does line sent =
-        subst (λ (j : ℕ). IsOne j o) (sym (sender_here k o does sent)) (λ here same. record { o = o; does = here; is = refl; sent = same }) does sent
-    spoken (Moved a) does line sent = absurd (not_none [] refl sent)
-    spoken (FrameOffered k frame told) does line sent =
-        absurd (not_none (sent_by found.cut.mid (FrameOffered k frame told) found.cut.next does)
-        (offers_none s.many s.n s.c s.dev found.cut.mid k frame told found.cut.next does line.end (after_calls s.begins.disk then') gone_on.is) sent)
-    spoken deed does line sent = absurd (not_none [] refl sent)
-
-    -- the disk there
-    pub record IsThen (o : Out) : Type 0 where
-      pub whole : AreCalls (new_disk s.p s.limit) (s.base ++ then')
-      pub says : IsOut (reached s.p s.limit (s.base ++ then')) (Some o)
-
-    pub is_then : (k : ℕ) (o : Out) (does : Does found.cut.mid (Moved (act.Speaks k o)) found.cut.next) → sent_by found.cut.mid (Moved (act.Speaks k o)) found.cut.next does ≡ f ∷ [] → IsThen o
-    is_then k o does sent =
-        let h = does.does.does.1 in
-        let d : DiskState = s.begins.disk in
-        let gone = gone_on in
-        let here : k ≡ s.n = sender_here k o does sent in
-        let now_is : h.disk ≡ reached s.p s.limit (s.base ++ then') =
-        disk_same h.disk (after_calls d then') (sym h.there ∙ ap (λ (j : ℕ). (bay_at found.cut.mid j).unit) here ∙ gone.is)
-        ∙ ap (λ (x : DiskState). after_calls x then') s.same ∙ sym (calls_after s.base then' (new_disk s.p s.limit)) in
-        let whole : AreCalls (new_disk s.p s.limit) (s.base ++ then') = calls_both s.base then' (new_disk s.p s.limit) s.are (subst (λ (x : DiskState). AreCalls x then') s.same gone.are) in
-        record { whole = whole; says = subst (λ (x : DiskState). IsOut x (Some o)) now_is h.next }
-
-    -- its commands until then, and those behind it
-    abbrev pub behind : List Call
-    behind = calls_at found.cut.mid found.deed s.n ++ calls_of s.n found.cut.next found.cut.later s.now found.cut.rest
-
-    on_then : AreKeptOn then'
-    on_then = kept_first then' behind (subst AreKeptOn (found.cut.own s.n) s.on)
-
-    -- By an answer it answers the command that was heard last, so no slot of the device waited as the stretch began.
-    pub begins_free : (k : ℕ) (o : Out) (does : Does found.cut.mid (Moved (act.Speaks k o)) found.cut.next) → sent_by found.cut.mid (Moved (act.Speaks k o)) found.cut.next does ≡ f ∷ [] → is_answering f.bytes ≡ true
-        → once_if (waits_in s.dev start) ≡ 0
-    begins_free k o does sent answering =
-        let t : IsThen o = is_then k o does sent in
-        let answer : is_answer o ≡ true =
-        says found.cut.mid k o found.cut.next does (subst (λ (y : Stamped). is_answering y.bytes ≡ true) (sym (risen_is k o does sent)) answering) in
-        let u : IsUnanswered then' = (laws.turn s.p s.limit s.base then' t.whole s.idle on_then).answers o t.says answer in
-        let q : Counts s = counts laws s in
-        let more : List Call = u.later ++ behind in
-        let split : calls s ≡ u.front ++ Hears u.bytes ∷ more =
-        found.cut.own s.n ∙ ap (λ (l : List Call). l ++ behind) u.split ∙ append_assoc u.front (Hears u.bytes ∷ u.later) behind in
-        let sum : heard_in (calls s) ≡ heard_in u.front + (once_if (is_asking u.bytes) + heard_in more) = ap heard_in split ∙ heard_both u.front (Hears u.bytes ∷ more) in
-        let one : once_if (is_asking u.bytes) ≡ 1 = ap once_if u.asks in
-        let sent_few = answers_few s.many s.n s.c s.dev laws.disks found.cut.sooner s.at found.cut.mid found.cut.led found.keeps s.begins.disk s.begins.there in
-        let prior = ap (λ (l : List Stamped). length (picks answers_by l)) found.prior in
-        let answered = u.behind in
-        let a = q.heard in
-        let b = q.asked in
-        let c = q.ordered in
-        let d = q.taken in
-        let least = once_most (waits_in s.dev end) in
-        omega (arith, sum, one, sent_few, prior, answered, a, b, c, d, least)
-
--- ---- a FIS of the connection is taken behind the stretch
-
-pub found_of : Laws → (s : Stretch) (took : Took) (new : MachineState) (does : Does s.now (Moved (act.Takes took)) new) → is_of s.n s.c does.does.frame ≡ true
-    → Found s.many s.n s.c s.dev s.at s.deeds s.now s.run (of_conn s.n s.c (came s)) does.does.frame
-found_of laws s took new does own =
-    let h = does.does in
-    let f : Stamped = h.frame in
-    let link : AreLinked s.deeds = linked s.many s.n s.c s.dev s.deeds s.at s.now s.run s.keeps in
-    let was : Frames = frames_in no_frames s.old s.before s.at s.first in
-    let risen_at : HaveRisen s.at was = laws.falls.rising s.old s.before s.at s.first no_frames (laws.falls.opens_rising s.ports s.legacy s.old s.opening) in
-    let all : Frames = frames_in was s.at s.deeds s.now s.run in
-    let risen_now : HaveRisen s.now all = laws.falls.rising s.at s.deeds s.now s.run was risen_at in
-    let order : InOrder s.n s.c (came s) (sent_of s.at s.deeds s.now s.run) f =
-    in_order s.n s.c s.at s.now was all (came s) (sent_of s.at s.deeds s.now s.run) f (laws.order s.at was risen_at s.n s.c s.below) (laws.order s.now all risen_now s.n s.c s.below)
-    (frames_are s.deeds s.at s.now s.run was link) s.begins.up s.begins.lasts (untaken_is s.now f h.once h.on) own in
-    find s.many s.n s.c s.dev s.deeds s.at s.now s.run s.keeps (of_conn s.n s.c (came s)) order.rest f order.is

@@ -4,58 +4,32 @@ use Rattle.std.proofs.{Common.{sym, ap, subst, ◌∙◌, arith, Option, Some, N
 use Rattle.std.specs.{Prelude.{◌==◌, ◌&&◌, if◌then◌else◌}, List.flat_map}
 use Rattle.fis_view.specs.{Frames.Stamped, Seen.seen}
 use Rattle.slots.specs.{Bytes.is_over, Slots.{Issue, holds, is_pio, is_queued_issue, is_waiting, issue_at, own_issue}}
-use Rattle.slots.specs.{Slots.slots_of, declared.work.Kind.{Kind}}
+use Rattle.slots.specs.{Slots.slots_of}
+use Rattle.multiplier.specs.Passing.{of_conn}
 use Rattle.ahci_controller.specs.States.{ControllerState}
+use Rattle.ahci_controller.specs.declared.next.Next.TheVariants as next
 use Rattle.controller_laws.specs.Events.{Event, IsController}
 use Rattle.sata_disk.specs.{State.{new_disk}}
-use Rattle.sata_disk_books.specs.{Books.{DataAreGiven}, Fises.{FisesTell}}
 use Rattle.sata_disk_laws.specs.{Calls.{Answers, AreCalls, Asks, Call, Hears, Plugs, Sends, Starts}, Laws.reached, Once.{host_of, new_host}}
-use Rattle.ahci_machine.specs.States.{HasRules, IsOpeningMachine, MachineState}
-use Rattle.machine_laws.specs.{ControllerLaws.{RunsRuled, calls_in}, Controllers.{GathersDue}, Deeds.{Deed}, Falling.AllLast}
-use Rattle.machine_laws.specs.{Falling.{HasLink, heard_by}, Rising.{DataCarryParts}}
-use Rattle.machine_theorem.specs.{Brought.{DiskStretch}, PioReads.AllKeepUnqueued, Completed.IsEndedInHistory, Crossing.Within}
+use Rattle.ahci_machine.specs.States.{IsOpeningMachine, MachineState}
+use Rattle.ahci_machine.specs.declared.act.Act.TheVariants as act
+use Rattle.machine_laws.specs.{ControllerLaws.{OpensSo, RunsRuled}, Controllers.{GathersDue}, Deeds.{Deed, Moved}, Falling.AllLast}
+use Rattle.machine_laws.specs.{Falling.{HasLink, heard_by}}
+use Rattle.machine_theorem.specs.{Brought.{DiskStretch}, PioIn.AllKeepUnqueued, Completed.IsEndedInHistory, Crossing.Within}
 use Rattle.machine_theorem.specs.{Given.IsWhole, Identity.{calls_of, heard_as, is_for, picks}, InTurn.{AreKeptOn, IsIdle}}
-use Rattle.machine_theorem.specs.{OwnSlots.{AllKeepLine, NoneLost, is_of}, SingleBytes.{AllKeepPlain}}
-use Rattle.machine_theorem.specs.{SingleBytes.{SingleDataGoInTurn, SingleIsSent, SinglesAreSent}, SingleNumbers.AllHearSingle}
+use Rattle.machine_theorem.specs.{OwnSlots.{AllKeepLine, NoneLost, is_of}}
+use Rattle.machine_theorem.specs.{SingleBytes.{SingleIsSent, SinglesAreSent}, SingleNumbers.AllHearSingle}
 use Rattle.machine_theorem.specs.SingleNumbers.{NoneQueued, SendsSingle}
-use Rattle.machine_theorem.specs.{SingleNumbers.{asks_queued}, SingleReads.{IsSingleDone}}
-use Rattle.machine_theorem.specs.{SingleReads.{is_sent_read, is_single_read}, Singles.{BeginsIdle}, Tags.once_if, Waits.PlainCommandsWait}
-use Rattle.machine_theorem.specs.Waits.{waits_in}
-use Rattle.machine_theorem.proofs.{BroughtAt.Brought, BroughtRead.{none_first}, Fallen.heard_among}
-use Rattle.machine_theorem.proofs.{Fallen.line_stays, Falls.{Told, kept_of, told_now}}
-use Rattle.machine_theorem.proofs.{Ordered.first_ruled, Own.last_ruled}
-use Rattle.machine_theorem.proofs.{CameRead.all_sent, PlainRun.PlainRun}
-use Rattle.machine_theorem.proofs.{PlainRun.plain_run, WaitingRun.all_unqueued}
-use Rattle.machine_theorem.proofs.{SinglesBrought.{by_event, came, not_queued}, SinglesOwn.{Stretch}}
-use Rattle.machine_theorem.proofs.SinglesOwn.{begins_free, completed_by, found_of, issue_is, mine}
-use Rattle.machine_theorem.proofs.{SinglesOwn.{sent_waits, spoken}, Stretch.whole_run}
-use Rattle.machine_theorem.proofs.{Waiting.some_waits}
-use Rattle.machine_theorem.proofs.Anew as anew
+use Rattle.machine_theorem.specs.{SingleNumbers.asks_queued, SingleReads.{IsSingleDone, is_sent_read, is_single_read}}
+use Rattle.machine_theorem.specs.{Singles.{BeginsIdle, IsFromSlot}, Tags.once_if, Waits.waits_in}
+use Rattle.machine_theorem.proofs.{Anew.stretch, BroughtRead.none_first, CameRead.all_sent, Fallen.{heard_among, line_stays}, Falls.kept_of}
+use Rattle.machine_theorem.proofs.{OrderCut.{OrderAt, order_at}, Ordered.first_ruled, OrderedOnce.ordered_once, Own.last_ruled, PioOwn.Stretch}
+use Rattle.machine_theorem.proofs.{SinglesBrought.{by_event, came as came_before, not_queued}, SinglesOwn.{completed_by, completed_waits, issue_is}}
+use Rattle.machine_theorem.proofs.{SinglesOwn.{mine, no_error, sent_waits}, Stretch.whole_run, Waiting.some_waits}
+use Rattle.machine_theorem.proofs.CameRead as came
 use Rattle.machine_theorem.proofs.Fallen as fallen
-use Rattle.machine_theorem.proofs.TakenRead as taken
-use Rattle.machine_theorem.proofs.SinglesBrought as brought
-use Rattle.machine_theorem.proofs.SinglesOwn as own
-
-pub record Laws : Type 0 where
-  pub brought : brought.Laws
-  pub singles : own.Laws
-  pub anew : anew.Laws
-  pub wait : PlainCommandsWait
-  pub turn : SingleDataGoInTurn
-  pub tell : FisesTell
-  pub given : DataAreGiven
-  pub parts : DataCarryParts
-
-abbrev taken_laws : Laws → taken.Laws
-taken_laws laws = record {
-  anew = laws.anew;
-  answers = laws.singles.turn;
-  setup = laws.brought.written.moments.setup;
-  turn = laws.turn;
-  tell = laws.tell;
-  given = laws.given;
-  parts = laws.parts;
-}
+use Rattle.machine_theorem.proofs.Falls as falls
+use Rattle.machine_theorem.proofs.PioOwn as own
 
 -- a read that is not queued, and that was sent
 sent_parts : (dev : ℕ) (i : Issue) → is_sent_read dev i ≡ true → (is_single_read i.work.kind ≡ true) × (i.dev ≡ dev) × (i.sent ≡ true)
@@ -84,122 +58,109 @@ none_sent slot low dev c kept none = by (issue_at c.core.slots slot) refl
     by None e = refl
     by (Some i) e = stands i e (is_sent_read dev i) refl
 
-module _ (laws : Laws) (ports : ℕ) (legacy : Bool) (d : DiskStretch) (opening : IsOpeningMachine ports legacy d.old) (c dev : ℕ) (below : d.n < 15)
+last_off : (a b : Bool) → b ≡ false → (a && b) ≡ false
+last_off true b off = off
+last_off false b off = refl
+
+unsent_read : (dev : ℕ) (o : Option Issue) (i : Issue) → o ≡ Some i → i.sent ≡ false → holds (is_sent_read dev) o ≡ false
+unsent_read dev o i is unsent = ap (holds (is_sent_read dev)) is ∙ last_off (is_single_read i.work.kind && (i.dev == dev)) i.sent unsent
+
+module _ (laws : came.Laws) (ports : ℕ) (legacy : Bool) (d : DiskStretch) (opening : IsOpeningMachine ports legacy d.old) (c dev : ℕ) (below : d.n < 15)
     (dev_low : dev < 16) (low : d.tag < 32) (begins : BeginsIdle d.n c d.at) (are : AreCalls (new_disk d.p d.limit) d.base)
-    (same : begins.disk ≡ reached d.p d.limit d.base) (idle : IsIdle (host_of new_host d.base)) where
-  pub t : Told d.at.controller
-  t = told_now laws.singles.falls ports legacy d.old opening d.before d.at d.first
+    (same : begins.disk ≡ reached d.p d.limit d.base) (idle : IsIdle (host_of new_host d.base)) (linked : HasLink d.deeds)
+    (lasts : AllLast d.n d.at d.deeds d.now d.run) (line : AllKeepLine d.many d.n c dev d.at d.deeds d.now d.run)
+    (on : AreKeptOn (calls_of d.n d.at d.deeds d.now d.run)) (keeps : AllKeepUnqueued d.many d.n dev d.at d.deeds d.now d.run) (issue : Issue)
+    (done : IsSingleDone d.now d.tag issue) (of_it : is_of d.n c done.does.does.frame ≡ true) (is_dev : issue.dev ≡ dev)
+    (other : is_pio issue.work.kind ≡ false) (k : ℕ) (small : k < issue.work.len) where
+  abbrev facts : falls.Laws
+  facts = laws.taken.anew.own.falls
 
-  pub due : GathersDue d.at
-  due =
-      let falls = laws.singles.falls in
-      (falls.runs d.old d.before d.at d.first (falls.opens ports legacy d.old opening (first_ruled d.before d.old d.at d.first)).due).due
-
-  plain_to : (deeds : List Deed) (now : MachineState) (run : RunsRuled d.at deeds now) → AllKeepPlain d.many d.n dev d.at deeds now run
-      → PlainRun d.many d.n dev d.at deeds now run
-  plain_to deeds now run keeps = plain_run laws.brought.written.moments.goes laws.brought.written.moments.due d.many d.n dev deeds d.at now run due keeps
-
-  -- the stretch until a machine
-  abbrev pub until_then : (deeds : List Deed) (now : MachineState) (run : RunsRuled d.at deeds now) → HasLink deeds → AllLast d.n d.at deeds now run
-      → AllKeepLine d.many d.n c dev d.at deeds now run → AreKeptOn (calls_of d.n d.at deeds now run) → PlainRun d.many d.n dev d.at deeds now run → Stretch
-  until_then deeds now run linked lasts line on p = record {
+  abbrev s : Stretch
+  s = stretch laws.taken.anew (record {
     ports = ports;
     legacy = legacy;
-    old = d.old;
+    d = d;
     opening = opening;
-    before = d.before;
-    at = d.at;
-    first = d.first;
-    many = d.many;
-    n = d.n;
     c = c;
     dev = dev;
-    slot = d.tag;
     below = below;
     dev_low = dev_low;
     low = low;
     begins = begins;
-    p = d.p;
-    limit = d.limit;
-    base = d.base;
     are = are;
     same = same;
     idle = idle;
-    deeds = deeds;
-    now = now;
-    run = run;
-    has_link = linked;
-    lasts = lasts;
-    keeps = line;
-    on = on;
-    runs = p.runs;
-    of = p.of;
-    waiting = laws.wait dev dev_low d.at.controller now.controller (calls_in d.at deeds now run) p.runs.calls (t.past dev) (t.told dev dev_low) p.plain;
-  }
+  }) d.deeds d.now d.run (record { linked = linked; lasts = lasts; line = line; on = on; unqueued = keeps })
 
-  module _ (linked : HasLink d.deeds) (lasts : AllLast d.n d.at d.deeds d.now d.run) (line : AllKeepLine d.many d.n c dev d.at d.deeds d.now d.run)
-      (on : AreKeptOn (calls_of d.n d.at d.deeds d.now d.run)) (keeps : AllKeepPlain d.many d.n dev d.at d.deeds d.now d.run) (issue : Issue)
-      (done : IsSingleDone d.now d.tag issue) (of_it : is_of d.n c done.does.does.frame ≡ true) (is_dev : issue.dev ≡ dev)
-      (other : is_pio issue.work.kind ≡ false) (k : ℕ) (small : k < issue.work.len) where
-    -- ---- the bit falls
+  abbrev end : Stamped
+  end = done.does.does.frame
 
-    rules : HasRules d.now
-    rules = last_ruled d.deeds d.at d.now d.run
+  abbrev pre : List Stamped
+  pre = of_conn d.n c (own.came s)
 
-    abbrev pub kind : Kind
-    kind = issue.work.kind
+  ended : IsEndedInHistory d.now.controller end.bytes d.tag
+  ended =
+      let whole : IsWhole d.old d.before d.at d.first d.deeds d.now d.run = whole_run d.before d.old d.at d.first d.deeds d.now d.run in
+      (laws.taken.anew.own.completed ports legacy d.old opening (d.before ++ d.deeds) d.now whole.all done.took done.new done.does done.rules d.tag low
+      done.shows done.hides done.free).ended
 
-    pub plain : is_queued_issue issue ≡ false
-    plain = not_queued kind done.kind
+  record Went : Type 0 where
+    bytes : List ℕ
+    from : IsFromSlot dev d.tag d.old d.before d.at d.first d.deeds d.now d.run bytes
 
-    abbrev pub whole : IsWhole d.old d.before d.at d.first d.deeds d.now d.run
-    whole = whole_run d.before d.old d.at d.first d.deeds d.now d.run
+  -- the command went from the slot in the stretch
+  went : Went
+  went =
+      let plain : is_queued_issue issue ≡ false = not_queued issue.work.kind done.kind in
+      let k : IsController d.now.controller = kept_of facts d.now (last_ruled d.deeds d.at d.now d.run) in
+      let waits : is_waiting issue ≡ true = completed_waits d.tag low d.now.controller k end.bytes ended issue done.is plain in
+      let found = own.found_of laws.taken.anew.own s done.took done.new done.does of_it in
+      let spoke = own.spoken laws.taken.anew.own s end of_it pre found found.deed found.cut.does found.line found.sent in
+      let a = own.is_answers laws.taken.anew.own s end of_it pre found issue done.is is_dev waits refl (no_error d.tag d.now.controller end.bytes ended) d.n spoke.o spoke.does spoke.sent
+      (completed_by d.tag d.now.controller end.bytes ended issue done.is plain other) in
+      record { bytes = a.answers.command.bytes; from = a.answers.slots }
 
-    all_plain : PlainRun d.many d.n dev d.at d.deeds d.now d.run
-    all_plain = plain_to d.deeds d.now d.run keeps
+  abbrev order : List ℕ
+  order = went.from.order
 
-    abbrev s : Stretch
-    s = until_then d.deeds d.now d.run linked lasts line on all_plain
+  at_order : OrderAt dev d.tag order d.at d.deeds d.now d.run went.from.ordered.before
+  at_order = order_at dev d.tag order d.deeds d.at d.now d.run went.from.ordered.before went.from.ordered.later went.from.ordered.is
 
-    abbrev pub end : Stamped
-    end = done.does.does.frame
+  abbrev mid : MachineState
+  mid = at_order.cut.mid
 
-    ended : IsEndedInHistory d.now.controller end.bytes d.tag
-    ended =
-        (laws.singles.completed ports legacy d.old opening (d.before ++ d.deeds) d.now whole.all done.took done.new done.does done.rules d.tag low
-        done.shows done.hides done.free).ended
+  abbrev deed : Deed
+  deed = Moved (act.Turns (next.Order dev d.tag order))
 
-    -- no slot of the device waited as the stretch began
-    pub free : once_if (waits_in dev d.at.controller) ≡ 0
-    free =
-        let found = found_of laws.singles s done.took done.new done.does of_it in
-        let spoke = spoken laws.singles s end of_it found found.deed found.cut.does found.line found.sent in
-        begins_free laws.singles s end of_it found d.n spoke.o spoke.does spoke.sent
-        (completed_by d.tag d.now.controller end.bytes ended issue done.is plain other)
+  led : RunsRuled d.old (d.before ++ at_order.cut.sooner) mid
+  led = (whole_run d.before d.old d.at d.first at_order.cut.sooner mid at_order.cut.led).all
 
-    pub none : holds (is_sent_read issue.dev) (issue_at d.at.controller.core.slots d.tag) ≡ false
-    none =
-        none_sent d.tag low issue.dev d.at.controller (kept_of laws.singles.falls d.at (first_ruled d.deeds d.at d.now d.run))
-        (ap (λ (j : ℕ). once_if (waits_in j d.at.controller)) is_dev ∙ free)
+  abbrev rest : RunsRuled mid (deed ∷ at_order.cut.later) d.now
+  rest = (at_order.rules, (at_order.cut.next, at_order.cut.does, at_order.cut.rest))
 
-    -- so it was brought in the stretch
-    pub over : is_over issue.over k ≡ true
-    over =
-        elim (by_event laws.brought ports legacy d.old opening d.before d.at d.first d.deeds d.now d.run d.tag low issue done none k small) [
-          | inl last ↦ absurd (false≢true (sym other ∙ last.pio))
-          | inr is ↦ is
-        ]
+  -- it had not been sent before
+  none : holds (is_sent_read issue.dev) (issue_at mid.controller.core.slots d.tag) ≡ false
+  none =
+      let opens : OpensSo d.old = facts.opens ports legacy d.old opening (first_ruled d.before d.old d.at d.first) in
+      let due : GathersDue mid = (facts.runs d.old (d.before ++ at_order.cut.sooner) mid led opens.due).due in
+      let run = laws.taken.anew.goes mid deed at_order.cut.next at_order.cut.does at_order.rules (first_ruled at_order.cut.later at_order.cut.next d.now at_order.cut.rest) due in
+      let long = run.0.slots.slots in
+      let h = ordered_once mid.controller run.1.0 dev d.tag order (omega (arith, long, low)) run.1.1 in
+      unsent_read issue.dev (issue_at mid.controller.core.slots d.tag) h.issue h.was h.unsent
 
-    pub b : Brought kind issue.dev d.tag k d.at d.deeds d.now d.run
-    b = came laws.brought ports legacy d.old opening d.before d.at d.first d.deeds d.now d.run d.tag low issue done none k small over
+  -- so it was brought since
+  over : is_over issue.over k ≡ true
+  over =
+      elim (by_event laws.brought ports legacy d.old opening (d.before ++ at_order.cut.sooner) mid led (deed ∷ at_order.cut.later) d.now rest d.tag low issue done none k small) [
+        | inl last ↦ absurd (false≢true (sym other ∙ last.pio))
+        | inr is ↦ is
+      ]
 
-    unqueued : AllKeepUnqueued d.many d.n dev d.at d.deeds d.now d.run
-    unqueued = all_unqueued d.many d.n dev d.deeds d.at d.now d.run keeps
-
-    pub single_sent : SingleIsSent d issue k
-    single_sent =
-        all_sent (record { brought = laws.brought; taken = taken_laws laws }) ports legacy d opening c dev below dev_low low begins are same idle
-        linked lasts line on unqueued issue done is_dev k b
+  pub single_sent : SingleIsSent d issue k
+  single_sent =
+      all_sent laws ports legacy d opening c dev below dev_low low begins are same idle linked lasts line on keeps issue done is_dev k
+      (at_order.brought issue.work.kind issue.dev d.tag k
+      (came_before laws.brought ports legacy d.old opening (d.before ++ at_order.cut.sooner) mid led (deed ∷ at_order.cut.later) d.now rest d.tag low issue done none k small over))
 
 -- ---- the law
 
@@ -235,7 +196,7 @@ hear_single (Answers k a ∷ later) quiet = (tt, hear_single later quiet)
 pub none_cut : (dev : ℕ) (all xs ys : List Event) → all ≡ xs ++ ys → NoneLost dev all → NoneLost dev xs
 none_cut dev all xs ys is lost = none_first dev xs ys (subst (λ (l : List Event). NoneLost dev l) is lost)
 
-pub singles_are_sent : Laws → SinglesAreSent
+pub singles_are_sent : came.Laws → SinglesAreSent
 singles_are_sent laws ports legacy d opening c dev below dev_low low begins are same idle linked lasts line on keeps issue done of_it is_dev other k small =
     single_sent laws ports legacy d opening c dev below dev_low low begins are same idle linked lasts line on keeps issue done of_it is_dev other k small
 

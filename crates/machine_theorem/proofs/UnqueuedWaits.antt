@@ -28,9 +28,9 @@ use Rattle.controller_laws.specs.Events.{IsController, Runs}
 use Rattle.controller_laws.specs.Events as call
 use Rattle.machine_theorem.specs.Ending.{AllKeepEnding, AllUnqueued, HasNoQueued, KeepsEnding, UnqueuedCommandsWait, carries, is_data_of}
 use Rattle.machine_theorem.specs.Waits.{SparesWaiting, is_answered, is_commanded, waits_in}
-use Rattle.machine_theorem.proofs.{CallEvents.AllOf, FisEvents.{IsNoData, fis_plain}, PlainWaits.{AllLeave, AllQuiet, IsNoWrite, IsQuiet}}
-use Rattle.machine_theorem.proofs.PlainWaits.{IsSentThere, Leaves, at_some, call_quiet, event_leaves, if_other, kept_some, named_none, of_issue}
-use Rattle.machine_theorem.proofs.{PlainWaits.{sent_if, still_waits}, SetupFrames.the_issue, Shutting.{OneWaits, one_waits as one_waiting, then'}}
+use Rattle.machine_theorem.proofs.{CallEvents.AllOf, FisEvents.{IsNoData, fis_plain}, QuietCalls.{AllLeave, AllQuiet, IsNoWrite, IsQuiet}}
+use Rattle.machine_theorem.proofs.QuietCalls.{IsSentThere, Leaves, at_some, call_quiet, event_leaves, if_other, kept_some, named_none, of_issue}
+use Rattle.machine_theorem.proofs.{QuietCalls.{sent_if, still_waits}, SetupFrames.the_issue, Shutting.{OneWaits, one_waits as one_waiting, then'}}
 use Rattle.machine_theorem.proofs.{Shutting.told_then, Waiting.{Laws, commanded_free, core_events, first_kept, owner, some_waits}}
 
 -- ---- histories

@@ -6,28 +6,11 @@ use Rattle.controller_laws.specs.Events.{Event, Runs}
 use Rattle.ahci_machine.specs.States.{MachineState}
 use Rattle.machine_laws.specs.{ControllerLaws.{ControllerRuns, RunsRuled, calls_in}, Controllers.{ControllerGoesOn, GathersDue, StaysDue, deed_calls}}
 use Rattle.machine_laws.specs.Deeds.{Deed}
-use Rattle.machine_theorem.specs.{Brought.AllTakenWell, Ending.AllUnqueued, Following.AllHeardWell, PioReads.{AllKeepUnqueued}}
-use Rattle.machine_theorem.specs.{SingleBytes.{AllKeepPlain}, Singles.AllOfDevice, Tags.once_if, Waits.{AllPlain, commanded_in}}
+use Rattle.machine_theorem.specs.{Brought.AllTakenWell, Ending.AllUnqueued, Following.AllHeardWell, PioIn.{AllKeepUnqueued}}
+use Rattle.machine_theorem.specs.{Singles.AllOfDevice, Tags.once_if, Waits.{commanded_in}}
 use Rattle.machine_theorem.specs.Waits.{is_commanded, waits_in}
 use Rattle.machine_theorem.proofs.{Cut.{Counting, total}, Few.{AreFew, are_few}, Ordered.first_ruled, TakenWell.deed_well}
 use Rattle.machine_theorem.proofs.Waiting.{commanded_free, commanded_waits}
-
--- plain commands are not queued
-unqueued_of : (n : ℕ) (events : List Event) (old new : ControllerState) (run : Runs old events new) → AllPlain n old events new run
-    → AllUnqueued n old events new run
-unqueued_of n [] old new run plain = tt
-unqueued_of n (e ∷ later) old new run plain = (λ s i is own. (plain.0 s i is own).0, plain.1, unqueued_of n later run.1.0 new run.1.2 plain.2)
-
-pub all_unqueued : (many : Bool) (n dev : ℕ) (deeds : List Deed) (at now : MachineState) (run : RunsRuled at deeds now)
-    → AllKeepPlain many n dev at deeds now run → AllKeepUnqueued many n dev at deeds now run
-all_unqueued many n dev [] at now run keeps = tt
-all_unqueued many n dev (deed ∷ later) at now run keeps = (
-  record {
-    of = keeps.0.of;
-    unqueued = λ calls. unqueued_of dev (deed_calls at deed run.1.0 run.1.1) at.controller run.1.0.controller calls (keeps.0.plain calls);
-  },
-  all_unqueued many n dev later run.1.0 now run.1.2 keeps.1,
-)
 
 -- ---- what is counted
 

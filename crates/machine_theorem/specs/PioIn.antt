@@ -15,12 +15,28 @@ use Rattle.sata_disk.specs.declared.out.Out.TheVariants as out
 use Rattle.sata_disk_laws.specs.{Calls.{AreCalls, Call, Sends}, Laws.reached, Once.{ForLast, host_of, new_host}}
 use Rattle.ahci_machine.specs.{States.{HasRules, IsOpeningMachine, MachineState, bay_at}, declared.bay.Unit.TheVariants.Disk}
 use Rattle.ahci_machine.specs.declared.act.Act.TheVariants as act
-use Rattle.machine_laws.specs.{ControllerLaws.{ControllerRuns, RunsRuled, calls_in}, Deeds.{Deed, Does, Moved}, Falling.{AllLast, HasLink}}
-use Rattle.machine_laws.specs.Rising.{sent_by}
+use Rattle.machine_laws.specs.{ControllerLaws.{ControllerRuns, RunsRuled, calls_in}, Controllers.deed_calls, Deeds.{Deed, Does, Moved}}
+use Rattle.machine_laws.specs.{Falling.{AllLast, HasLink}, Rising.sent_by}
 use Rattle.machine_theorem.specs.{Ending.{AllKeepEnding, AllUnqueued}, FirstDeeds.{first_deeds, first_run, machine_at}, Identity.calls_of}
 use Rattle.machine_theorem.specs.{InTurn.{AreKeptOn, IsIdle, heard_in, is_answer, is_answering}, OwnSlots.{AllKeepLine, is_of}}
 use Rattle.machine_theorem.specs.Settled.{IsSettledLast, IsUnsettled, IsWholeInTurn, is_data, settled_in}
 use Rattle.machine_theorem.specs.{Singles.{AllOfDevice, BeginsIdle, IsFromSlot, IsSlots, StartsWith}, Transfers.is_transferring}
+
+-- ---- what the guest keeps to
+
+-- By the controller's calls that a deed is, each FIS that is a command for the disk is that of a slot, for this device; there is no queued command
+-- for the device, and a write takes no command that waits.
+pub record KeepsUnqueued (many : Bool) (n dev : ℕ) (old : MachineState) (deed : Deed) (new : MachineState) (does : Does old deed new) : Type 0 where
+  pub of : (run : Runs old.controller (deed_calls old deed new does) new.controller)
+      → AllOfDevice many n dev old.controller (deed_calls old deed new does) new.controller run
+  pub unqueued : (run : Runs old.controller (deed_calls old deed new does) new.controller)
+      → AllUnqueued dev old.controller (deed_calls old deed new does) new.controller run
+
+abbrev pub AllKeepUnqueued : (many : Bool) → (n dev : ℕ) → (old : MachineState) → (deeds : List Deed) → (now : MachineState)
+    → RunsRuled old deeds now → Type 0
+AllKeepUnqueued many n dev old [] now run = Unit {0}
+AllKeepUnqueued many n dev old (deed ∷ later) now run =
+    KeepsUnqueued many n dev old deed run.1.0 run.1.1 × AllKeepUnqueued many n dev run.1.0 later now run.1.2
 
 -- ---- the command whose bit falls
 

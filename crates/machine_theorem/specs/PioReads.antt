@@ -8,33 +8,17 @@ use Rattle.guest_fetch.specs.Commands.{Fetched}
 use Rattle.slots.specs.Slots.{Issue}
 use Rattle.hba_fbs.specs.declared.report.Wrote.{Wrote}
 use Rattle.ahci_controller.specs.States.{kept}
-use Rattle.controller_laws.specs.{Events.Runs, Sources.{command_of, unmoved}}
+use Rattle.controller_laws.specs.{Sources.{command_of, unmoved}}
 use Rattle.sata_disk.specs.{State.new_disk, declared.out.Out.Out}
 use Rattle.sata_disk.specs.declared.out.Out.TheVariants as out
 use Rattle.sata_disk_laws.specs.{Calls.{AreCalls, Call}, Laws.reached, Once.{host_of, new_host}}
 use Rattle.ahci_machine.specs.States.{IsOpeningMachine, MachineState}
 use Rattle.ahci_machine.specs.declared.act.Act.TheVariants as act
-use Rattle.machine_laws.specs.{ControllerLaws.{RunsRuled, calls_in}, Controllers.deed_calls, Deeds.{Deed, Does, Moved}, Falling.{AllLast, HasLink}}
+use Rattle.machine_laws.specs.{ControllerLaws.{RunsRuled, calls_in}, Deeds.{Deed, Does, Moved}, Falling.{AllLast, HasLink}}
 use Rattle.machine_laws.specs.Rising.{sent_by}
-use Rattle.machine_theorem.specs.{Brought.{AllTakenWell, DiskStretch}, Ending.AllUnqueued, Identity.calls_of, InTurn.{AreKeptOn, IsIdle}}
-use Rattle.machine_theorem.specs.{OwnSlots.{AllKeepLine, NoneLost, is_of}, SingleBytes.IsSentFor, SingleNumbers.{SendsSingle, SingleIsRead}}
-use Rattle.machine_theorem.specs.{SingleReads.{ComesLast, IsSingleDone}, Singles.{AllOfDevice, BeginsIdle, IsFromSlot}, Transfers.is_transferring}
-
--- ---- what the guest keeps to
-
--- By the controller's calls that a deed is, each FIS that is a command for the disk is that of a slot, for this device; there is no queued command
--- for the device, and a write takes no command that waits.
-pub record KeepsUnqueued (many : Bool) (n dev : ℕ) (old : MachineState) (deed : Deed) (new : MachineState) (does : Does old deed new) : Type 0 where
-  pub of : (run : Runs old.controller (deed_calls old deed new does) new.controller)
-      → AllOfDevice many n dev old.controller (deed_calls old deed new does) new.controller run
-  pub unqueued : (run : Runs old.controller (deed_calls old deed new does) new.controller)
-      → AllUnqueued dev old.controller (deed_calls old deed new does) new.controller run
-
-abbrev pub AllKeepUnqueued : (many : Bool) → (n dev : ℕ) → (old : MachineState) → (deeds : List Deed) → (now : MachineState)
-    → RunsRuled old deeds now → Type 0
-AllKeepUnqueued many n dev old [] now run = Unit {0}
-AllKeepUnqueued many n dev old (deed ∷ later) now run =
-    KeepsUnqueued many n dev old deed run.1.0 run.1.1 × AllKeepUnqueued many n dev run.1.0 later now run.1.2
+use Rattle.machine_theorem.specs.{Brought.{AllTakenWell, DiskStretch}, Identity.calls_of, InTurn.{AreKeptOn, IsIdle}}
+use Rattle.machine_theorem.specs.{OwnSlots.{AllKeepLine, NoneLost, is_of}, PioIn.AllKeepUnqueued, SingleBytes.IsSentFor}
+use Rattle.machine_theorem.specs.{SingleNumbers.{SendsSingle, SingleIsRead}, SingleReads.{ComesLast, IsSingleDone}, Singles.{BeginsIdle, IsFromSlot}, Transfers.is_transferring}
 
 -- ---- what is sent
 

@@ -5,7 +5,6 @@
 use Rattle.std.specs.Prelude.{ℕ, ◌≡◌, ◌<◌, Bool, true, false, List, [], ◌∷◌, ◌++◌, drop, Some}
 use Rattle.fis_view.specs.Frames.{Stamped}
 use Rattle.slots.specs.Slots.{Issue, is_pio}
-use Rattle.controller_laws.specs.Events.{Runs}
 use Rattle.block_disk.specs.Laws.{Page}
 use Rattle.disk_pages.specs.declared.profile.Profile.{Profile}
 use Rattle.sata_disk.specs.{Sending.IsOut, State.new_disk, declared.out.Out.Out}
@@ -14,10 +13,10 @@ use Rattle.sata_disk_books.specs.Books.{AreNext, IsAskedFor, page_in}
 use Rattle.sata_disk_laws.specs.{Calls.{AreCalls, Call}, Laws.reached, Once.{host_of, new_host}}
 use Rattle.ahci_machine.specs.States.{IsOpeningMachine, MachineState}
 use Rattle.ahci_machine.specs.declared.act.Act.TheVariants as act
-use Rattle.machine_laws.specs.{ControllerLaws.RunsRuled, Controllers.deed_calls, Deeds.{Deed, Does, Moved}, Falling.{AllLast, HasLink}}
+use Rattle.machine_laws.specs.{ControllerLaws.RunsRuled, Deeds.{Deed, Does, Moved}, Falling.{AllLast, HasLink}}
 use Rattle.machine_laws.specs.Rising.{sent_by}
 use Rattle.machine_theorem.specs.{Brought.DiskStretch, Identity.calls_of, InTurn.{AreKeptOn, IsIdle, IsInTurn}, OwnSlots.{AllKeepLine, is_of}}
-use Rattle.machine_theorem.specs.{SingleReads.{IsSingleDone, SingleIsBrought}, Singles.{AllOfDevice, BeginsIdle, IsFromSlot}, Waits.AllPlain}
+use Rattle.machine_theorem.specs.{PioIn.AllKeepUnqueued, SingleReads.{IsSingleDone, SingleIsBrought}, Singles.{BeginsIdle, IsFromSlot}}
 
 -- ---- a disk alone
 
@@ -27,21 +26,6 @@ abbrev pub SingleDataGoInTurn : Type 0
 SingleDataGoInTurn = (p : Profile) (limit : ℕ) (base calls : List Call) → AreCalls (new_disk p limit) (base ++ calls) → IsIdle (host_of new_host base)
     → AreKeptOn calls → (len : ℕ) → IsOut (reached p limit (base ++ calls)) (Some (out.Data 32 len)) → (page : Page)
     → page_in p limit (base ++ calls) 32 ≡ Some page → IsInTurn p limit base calls page.command
-
--- ---- what the guest keeps to
-
--- By the controller's calls that a deed is, each FIS that is a command for the disk is that of a slot, for this device; there is no queued command and no
--- PIO data-in for the device, and a write takes no command that waits.
-pub record KeepsPlain (many : Bool) (n dev : ℕ) (old : MachineState) (deed : Deed) (new : MachineState) (does : Does old deed new) : Type 0 where
-  pub of : (run : Runs old.controller (deed_calls old deed new does) new.controller)
-      → AllOfDevice many n dev old.controller (deed_calls old deed new does) new.controller run
-  pub plain : (run : Runs old.controller (deed_calls old deed new does) new.controller)
-      → AllPlain dev old.controller (deed_calls old deed new does) new.controller run
-
-abbrev pub AllKeepPlain : (many : Bool) → (n dev : ℕ) → (old : MachineState) → (deeds : List Deed) → (now : MachineState) → RunsRuled old deeds now → Type 0
-AllKeepPlain many n dev old [] now run = Unit {0}
-AllKeepPlain many n dev old (deed ∷ later) now run =
-    KeepsPlain many n dev old deed run.1.0 run.1.1 × AllKeepPlain many n dev run.1.0 later now run.1.2
 
 -- ---- the command for which a FIS was sent
 
@@ -83,6 +67,6 @@ SinglesAreSent = (ports : ℕ) (legacy : Bool) (s : DiskStretch) → IsOpeningMa
     → (c dev : ℕ) → s.n < 15 → dev < 16 → s.tag < 32
     → (begins : BeginsIdle s.n c s.at) → AreCalls (new_disk s.p s.limit) s.base → begins.disk ≡ reached s.p s.limit s.base → IsIdle (host_of new_host s.base)
     → HasLink s.deeds → AllLast s.n s.at s.deeds s.now s.run → AllKeepLine s.many s.n c dev s.at s.deeds s.now s.run
-    → AreKeptOn (calls_of s.n s.at s.deeds s.now s.run) → AllKeepPlain s.many s.n dev s.at s.deeds s.now s.run
+    → AreKeptOn (calls_of s.n s.at s.deeds s.now s.run) → AllKeepUnqueued s.many s.n dev s.at s.deeds s.now s.run
     → (issue : Issue) (done : IsSingleDone s.now s.tag issue) → is_of s.n c done.does.does.frame ≡ true → issue.dev ≡ dev → is_pio issue.work.kind ≡ false
     → (k : ℕ) → k < issue.work.len → SingleIsSent s issue k

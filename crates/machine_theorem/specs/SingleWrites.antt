@@ -23,7 +23,7 @@ use Rattle.machine_laws.specs.{ControllerLaws.{RunsRuled, calls_in}, Controllers
 use Rattle.machine_laws.specs.{Falling.HasLink, Feeding.{came_by, came_in, data_with}}
 use Rattle.machine_theorem.specs.{Commands.AreNotIssued, Crossing.Within, Identity.calls_of, InTurn.{AreKeptOn, IsIdle, heard_in, is_asking}}
 use Rattle.machine_theorem.specs.{Ending.HasNoQueued, OwnSlots.{AllKeepLine, is_of}, OwnWrites.AreOwnData, PioIn.IsDoneThere}
-use Rattle.machine_theorem.specs.{PioReads.AllKeepUnqueued, SingleData.{GoesNext, went_in}, Singles.{BeginsIdle, IsFromSlot}, Writes.payloads}
+use Rattle.machine_theorem.specs.{PioIn.AllKeepUnqueued, SingleData.{GoesNext, went_in}, Singles.{BeginsIdle, IsFromSlot}, Writes.payloads}
 
 -- ---- the Data that go
 

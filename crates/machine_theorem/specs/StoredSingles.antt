@@ -23,7 +23,7 @@ use Rattle.ahci_machine.specs.States.{HasRules, IsOpeningMachine, MachineState}
 use Rattle.ahci_machine.specs.declared.act.Act.TheVariants as act
 use Rattle.machine_laws.specs.{ControllerLaws.{RunsRuled, calls_in}, Deeds.{Deed, Does, Moved}, Falling.{AllLast, HasLink}, Feeding.came_in}
 use Rattle.machine_theorem.specs.{Identity.calls_of, InTurn.{AreKeptOn, IsIdle, is_answering}, OwnSlots.{AllKeepLine, is_of}, OwnWrites.AreOwnData}
-use Rattle.machine_theorem.specs.{Ending.HasNoQueued, PioReads.AllKeepUnqueued, Singles.BeginsIdle, Writes.payloads}
+use Rattle.machine_theorem.specs.{Ending.HasNoQueued, PioIn.AllKeepUnqueued, Singles.BeginsIdle, Writes.payloads}
 use Rattle.machine_theorem.specs.SingleWrites.{IsFedNext, IsFedWhole, IsSuppliedSingle, went_to}
 
 -- ---- the commands

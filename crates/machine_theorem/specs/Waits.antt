@@ -1,9 +1,8 @@
 -- A command waits in its slot for the answer of its device, and the next one goes to this device only behind that. So the slot that waits has the command
 -- that was sent last (AHCI 1.3.1, 5.3.8 and 5.3.13, a port sends a command and takes a Register FIS, and 9.3, FIS-based Switching).
-use Rattle.std.specs.Prelude.{ℕ, ◌≡◌, ◌<◌, ◌≤◌, ◌+◌, ◌==◌, ◌&&◌, Bool, true, false, not, is_some, List, [], ◌∷◌, Some}
-use Rattle.slots.specs.Slots.{Issue, holds, is_control, is_pio, is_queued_issue, is_waiting, issue_at, slots_of, waiting}
-use Rattle.hba_fbs.specs.{Taking.port_of, Views.view_of}
-use Rattle.hba_laws.specs.{Agreement.IsTold, History.History}
+use Rattle.std.specs.Prelude.{ℕ, ◌≡◌, ◌<◌, ◌+◌, ◌==◌, ◌&&◌, Bool, true, false, not, is_some, List, [], ◌∷◌, Some}
+use Rattle.slots.specs.Slots.{Issue, holds, is_control, is_waiting, issue_at, slots_of, waiting}
+use Rattle.hba_fbs.specs.{Taking.port_of}
 use Rattle.ahci_controller.specs.States.{ControllerState}
 use Rattle.ahci_controller.specs.declared.next.Next.TheVariants as next
 use Rattle.controller_laws.specs.Events as call
@@ -49,12 +48,7 @@ abbrev pub AllKeepWaiting : (dev : ℕ) → (old : ControllerState) → (events 
 AllKeepWaiting dev old [] now run = Unit {0}
 AllKeepWaiting dev old (event ∷ later) now run = KeepsWaiting dev old event run.1.0 × AllKeepWaiting dev run.1.0 later now run.1.2
 
--- ---- the laws
-
--- Over each such stretch of calls no more commands are sent to a device than Register FISes of it are taken, and one more where one of its slots waits.
-abbrev pub CommandsAwaitAnswers : Type 0
-CommandsAwaitAnswers = (dev : ℕ) (old now : ControllerState) (events : List Event) (run : Runs old events now) → AllKeepWaiting dev old events now run
-    → commanded_in dev old events now run + once_if (waits_in dev old) ≤ taken_in dev events + once_if (waits_in dev now)
+-- ---- the slot that waits
 
 -- The slot waits with the command that went from it last, and nothing was issued there since; no other slot of the device waits.
 pub record IsWaitingAlone (dev slot : ℕ) (later : List Event) (now : ControllerState) : Type 0 where
@@ -65,23 +59,10 @@ pub record IsWaitingAlone (dev slot : ℕ) (later : List Event) (now : Controlle
   pub alone : AreNotIssued slot later
   pub others : (s : ℕ) → s < 32 → (i : Issue) → issue_at now.core.slots s ≡ Some i → i.dev ≡ dev → is_waiting i ≡ true → s ≡ slot
 
--- ---- where a command waits
-
--- No queued command and no PIO data-in is issued for the device: each of its commands is by DMA, a PIO data-out, or moves no data.
-abbrev pub HasPlain : (dev : ℕ) → ControllerState → Type 0
-HasPlain dev c = (s : ℕ) (i : Issue) → issue_at c.core.slots s ≡ Some i → i.dev ≡ dev → (is_queued_issue i ≡ false) × (is_pio i.work.kind ≡ false)
+-- ---- what the guest keeps to
 
 -- a write takes no command that waits from its slot, as one does that stops the port, or clears or resets the device
 abbrev pub SparesWaiting : (dev : ℕ) → (old : ControllerState) → Event → (new : ControllerState) → Type 0
 SparesWaiting dev old (call.Wrote offset value written) new = waits_in dev old ≡ true → waits_in dev new ≡ true
 SparesWaiting dev old (call.WroteWide offset width value written) new = waits_in dev old ≡ true → waits_in dev new ≡ true
 SparesWaiting dev old event new = Unit {0}
-
-abbrev pub AllPlain : (dev : ℕ) → (old : ControllerState) → (events : List Event) → (now : ControllerState) → Runs old events now → Type 0
-AllPlain dev old [] now run = Unit {0}
-AllPlain dev old (event ∷ later) now run = HasPlain dev old × SparesWaiting dev old event run.1.0 × AllPlain dev run.1.0 later now run.1.2
-
--- So a command waits over each stretch of calls in which the guest has no other commands for the device, and spares those that wait; whatever FISes come.
-abbrev pub PlainCommandsWait : Type 0
-PlainCommandsWait = (dev : ℕ) → dev < 16 → (old now : ControllerState) (events : List Event) (run : Runs old events now)
-    → (past : History) → IsTold (view_of dev old.core) past → AllPlain dev old events now run → AllKeepWaiting dev old events now run

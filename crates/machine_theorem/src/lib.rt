@@ -32,7 +32,6 @@ mod stored_singles;
 mod stored_writes;
 mod tags;
 mod transfers;
-mod waits;
 mod writes;
 
 pub use bytes::{
@@ -82,5 +81,4 @@ pub use stored_writes::{
 };
 pub use tags::tags_are_counted;
 pub use transfers::transfers_are_answered;
-pub use waits::commands_await_their_answers;
 pub use writes::writes_come_from_guests;

@@ -63,11 +63,11 @@ pub fn single_data_are_counted()
 }
 
 /// A law for callers; it runs no code. Over each stretch of a run of a machine as in
-/// [`unqueued_commands_are_of_their_slots`](crate::unqueued_commands_are_of_their_slots), in which
-/// the guest has no queued command and no PIO data-in in the slots for the device, and no write takes a command that waits from its slot: where the bit of
-/// PxCI of a READ DMA falls behind it, each of its bytes was brought in the stretch, by a Data FIS that the disk at the port sent at a moment of the stretch.
-/// Where it sent this for a command that moves sectors and is not queued, this is the command that the guest had supplied for the slot, as it was issued there
-/// last, and the bytes are the next ones that the caller gave for its sectors. FISes that are lost or ignored are no exception.
+/// [`unqueued_commands_are_of_their_slots`](crate::unqueued_commands_are_of_their_slots), in which the guest has no queued command in the slots for the
+/// device, and no write takes a command that waits from its slot: where the bit of PxCI of a READ DMA falls behind it, each of its bytes was brought in the
+/// stretch, by a Data FIS that the disk at the port sent at a moment of the stretch. Where it sent this for a command that moves sectors and is not queued,
+/// this is the command that the guest had supplied for the slot, as it was issued there last, and the bytes are the next ones that the caller gave for its
+/// sectors. FISes that are lost or ignored are no exception.
 pub fn completed_single_reads_are_sent()
     ensures { SinglesAreSent }
 {
@@ -76,7 +76,6 @@ pub fn completed_single_reads_are_sent()
     crate::pio::commands_are_settled_in_turn();
     crate::pio::commands_await_their_ends();
     crate::transfers::transfers_are_answered();
-    crate::waits::commands_await_their_answers();
     single_data_go_in_turn();
     sata_disk_books::data_are_given();
     sata_disk_books::ends_are_of_pages();

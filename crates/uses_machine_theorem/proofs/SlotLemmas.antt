@@ -9,10 +9,10 @@ use Rattle.machine_theorem.specs.{Brought.{CompletedReadsAreBrought, ReadsAreBro
 use Rattle.machine_theorem.specs.{Filled.FilledWereBrought, Given.{CommandsAreGiven, DataAreGiven}, Identity.CommandsAreTheSlots}
 use Rattle.machine_theorem.specs.{InTurn.CommandsGoInTurn, Orders.CommandsAreSentOnce, QueuedOnly.QueuedReadsAreBrought, ReadBack.GuestsReadBack}
 use Rattle.machine_theorem.specs.{Reads.ReadsAreAsSupplied, ReadsFollow.CompletedReadsFollowWrites, Tags.TagsOfNewDisks, ReadsWritten.ReadsAreWritten}
-use Rattle.machine_theorem.specs.{Transfers.TransfersEndSo, Waits.CommandsAwaitAnswers}
+use Rattle.machine_theorem.specs.Transfers.{TransfersEndSo}
 use Rattle.uses_machine_theorem.specs.Slots.{KnowsBrought, KnowsBroughtSince, KnowsBytes, KnowsData, KnowsEnds, KnowsFilled, KnowsGiven, KnowsOrders}
 use Rattle.uses_machine_theorem.specs.Slots.{KnowsQueued, KnowsReads, KnowsSlots, KnowsTags, stretch_of, KnowsFollowing, KnowsReadBack, KnowsWritten}
-use Rattle.uses_machine_theorem.specs.Slots.{KnowsTransfers, KnowsTurns, KnowsWaits}
+use Rattle.uses_machine_theorem.specs.Slots.{KnowsTransfers, KnowsTurns}
 
 pub tags : TagsOfNewDisks → (now : MachineState) → KnowsTags now
 tags law now led n d there lived p limit new tag low = law led.ports led.legacy led.first led.opens led.deeds now led.run n d there lived p limit new tag low
@@ -94,6 +94,3 @@ pub ends_so : TransfersEndSo → (now : MachineState) → KnowsTransfers now
 ends_so law now led n d there lived p limit new before bytes later is transfers idle on heard answered o next answer =
     let it = new_one p limit (life_in n no_life led.first led.deeds now led.run) d lived (before ++ Hears bytes ∷ later) new is in
     law p limit before bytes later it.0 transfers idle on heard answered o (subst (λ (x : DiskState). IsOut x (Some o)) it.1 next) answer
-
-pub waits : CommandsAwaitAnswers → (now : MachineState) → KnowsWaits now
-waits law now at led deeds run runs dev keeps = law dev at.controller now.controller _ runs.calls keeps

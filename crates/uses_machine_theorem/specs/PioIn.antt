@@ -53,8 +53,8 @@ KnowsLast now = (led : IsLed now) (dev : ℕ) → dev < 16 → (slot : ℕ) → 
     → IsWaitingAlone dev slot later now.controller
 
 -- A bit of PxCI falls behind a moment at which nothing is under way at a disk as a FIS of it is taken; and the slot has a command for it that is not queued.
--- If this is a PIO data-in that Data end, nothing was set up for the disk at that moment. By this FIS the disk answers or ends what the guest had supplied for this slot, and if that moves sectors, it did all of
--- it, where commands and ends went in turn.
+-- If this is a PIO data-in that Data end, nothing was set up for the disk at that moment. By this FIS the disk answers or ends what the guest had supplied for
+-- this slot, and if that moves sectors, it did all of it, where commands and ends went in turn.
 abbrev pub KnowsUnqueuedIf :
     (Waits : (dev : ℕ) → (old : ControllerState) → (events : List Event) → (now : ControllerState) → Runs old events now → Type 0) → MachineState → Type 0
 KnowsUnqueuedIf Waits now = (at : MachineState) (led : IsLed at) (many : Bool) (n c dev slot : ℕ) → n < 15 → dev < 16 → slot < 32

@@ -7,7 +7,7 @@ use Rattle.sata_disk_laws.specs.{Calls.{AreCalls, Call}, Laws.reached, Once.{hos
 use Rattle.ahci_machine.specs.States.{MachineState}
 use Rattle.machine_laws.specs.{ControllerLaws.{RunsRuled, calls_in}, Deeds.Deed, Falling.{AllLast, HasLink}}
 use Rattle.machine_theorem.specs.{Brought.AllTakenWell, Identity.calls_of, InTurn.{AreKeptOn, IsIdle}, OwnSlots.{AllKeepLine, NoneLost, is_of}}
-use Rattle.machine_theorem.specs.{PioReads.{AllKeepUnqueued, CameIsRead, LastIsRead}, SingleNumbers.SendsSingle, SingleReads.IsSingleDone}
+use Rattle.machine_theorem.specs.{PioIn.AllKeepUnqueued, PioReads.{CameIsRead, LastIsRead}, SingleNumbers.SendsSingle, SingleReads.IsSingleDone}
 use Rattle.machine_theorem.specs.Singles.{BeginsIdle}
 use Rattle.uses_machine_theorem.specs.{Led.IsLed, Slots.stretch_of}
 

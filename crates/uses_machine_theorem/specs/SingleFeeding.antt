@@ -20,7 +20,7 @@ use Rattle.machine_laws.specs.{ControllerLaws.{ControllerRuns, RunsRuled, calls_
 use Rattle.machine_laws.specs.Heard.{HasLived, life_in, no_life}
 use Rattle.machine_theorem.specs.{Commands.AreNotIssued, DataCame.IsWrittenBehind, Identity.calls_of, InTurn.{AreKeptOn, IsIdle, heard_in}}
 use Rattle.machine_theorem.specs.{OwnSlots.{AllKeepLine, is_of}, OwnWrites.AreOwnData, SingleData.{AllUnqueued, GoesNext, went_in}}
-use Rattle.machine_theorem.specs.{Ending.HasNoQueued, PioReads.AllKeepUnqueued, SingleWrites.IsSuppliedSingle, Singles.BeginsIdle}
+use Rattle.machine_theorem.specs.{Ending.HasNoQueued, PioIn.AllKeepUnqueued, SingleWrites.IsSuppliedSingle, Singles.BeginsIdle}
 use Rattle.machine_theorem.specs.Waits.{is_commanded}
 use Rattle.uses_machine_theorem.specs.Led.{IsLed}
 

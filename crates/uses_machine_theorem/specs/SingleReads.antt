@@ -13,7 +13,7 @@ use Rattle.ahci_machine.specs.{States.{MachineState, bay_at}, declared.bay.Unit.
 use Rattle.machine_laws.specs.{ControllerLaws.{ControllerRuns, RunsRuled, calls_in}, Deeds.Deed, Falling.{AllLast, HasLink}, Heard.HasLived}
 use Rattle.machine_laws.specs.Heard.{life_in, no_life}
 use Rattle.machine_theorem.specs.{Identity.calls_of, InTurn.{AreKeptOn, IsIdle, IsInTurn, answered_in, heard_in}, OwnSlots.{AllKeepLine, is_of}}
-use Rattle.machine_theorem.specs.{SingleBytes.{AllKeepPlain, SingleIsSent}, SingleNumbers.{AllHearSingle, IsClear, since_after}}
+use Rattle.machine_theorem.specs.{PioIn.AllKeepUnqueued, SingleBytes.SingleIsSent, SingleNumbers.{AllHearSingle, IsClear, since_after}}
 use Rattle.machine_theorem.specs.SingleReads.{CameBefore, ComesLast, IsSingleDone}
 use Rattle.machine_theorem.specs.{SingleReads.{IsWrittenBefore, WasBroughtFor, is_sent_read, is_single_read}, Singles.BeginsIdle}
 use Rattle.uses_machine_theorem.specs.{Led.IsLed, Slots.stretch_of}
@@ -50,7 +50,7 @@ KnowsSinglesSent now = (at : MachineState) (led : IsLed at) (many : Bool) (n c d
     → (begins : BeginsIdle n c at) → (p : Profile) (limit : ℕ) (base : List Call) → AreCalls (new_disk p limit) base → begins.disk ≡ reached p limit base
     → IsIdle (host_of new_host base) → (deeds : List Deed) (run : RunsRuled at deeds now)
     → HasLink deeds → AllLast n at deeds now run → AllKeepLine many n c dev at deeds now run → AreKeptOn (calls_of n at deeds now run)
-    → AllKeepPlain many n dev at deeds now run
+    → AllKeepUnqueued many n dev at deeds now run
     → (issue : Issue) (done : IsSingleDone now slot issue) → is_of n c done.does.does.frame ≡ true → issue.dev ≡ dev → is_pio issue.work.kind ≡ false
     → (k : ℕ) → k < issue.work.len → SingleIsSent (stretch_of many n slot at led deeds now run p limit base) issue k
 

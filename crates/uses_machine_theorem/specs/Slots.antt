@@ -24,8 +24,8 @@ use Rattle.machine_theorem.specs.{Following.AllHeardWell, Given.{IsGiven, IsGive
 use Rattle.machine_theorem.specs.{Orders.{fallen_in, is_sent_of, ordered_in, standing_in}, InTurn.{AreKeptOn, IsAnswered, IsIdle, answered_in}}
 use Rattle.machine_theorem.specs.{InTurn.{heard_in, is_answer}, OwnSlots.{AllKeepLine, BeginsClear, NoneLost, is_of}, QueuedOnly.ByteIsOfDisk}
 use Rattle.machine_theorem.specs.{QueuedOnly.SendsQueued, FirstDeeds.{first_deeds, first_run, machine_at}, ReadBack.{Falls, FallsAt, IsReadBack}}
-use Rattle.machine_theorem.specs.{Reads.IsBroughtAsRead, ReadsFollow.IsFollowed, ReadsWritten.ByteIsWritten, Tags.{IsCounted, once_if}}
-use Rattle.machine_theorem.specs.{Transfers.{fails, is_transferring}, Waits.{AllKeepWaiting, commanded_in, taken_in, waits_in}}
+use Rattle.machine_theorem.specs.{Reads.IsBroughtAsRead, ReadsFollow.IsFollowed, ReadsWritten.ByteIsWritten, Tags.{IsCounted}}
+use Rattle.machine_theorem.specs.{Transfers.{fails, is_transferring}}
 use Rattle.uses_machine_theorem.specs.Led.{IsLed}
 
 -- of each tag no more commands ended at a disk than it heard, if it was new as it was put at its port
@@ -200,10 +200,3 @@ KnowsTransfers now = (led : IsLed now) (n : ℕ) (d : DiskState) → (bay_at now
     → IsIdle (host_of new_host before)
     → AreKeptOn later → heard_in later ≡ 0 → answered_in later ≡ 0 → (o : Out) → IsOut d (Some o) → is_answer o ≡ true
     → (o ≡ out.Of 32 replies.Done) ⊎ (fails o ≡ true)
-
--- Behind a moment of a run no more commands were sent to a device than Register FISes of it were taken, and one that waits.
-abbrev pub KnowsWaits : MachineState → Type 0
-KnowsWaits now = (at : MachineState) (led : IsLed at) (deeds : List Deed) (run : RunsRuled at deeds now) (runs : ControllerRuns at deeds now run) (dev : ℕ)
-    → AllKeepWaiting dev at.controller (calls_in at deeds now run) now.controller runs.calls
-    → commanded_in dev at.controller (calls_in at deeds now run) now.controller runs.calls + once_if (waits_in dev at.controller)
-    ≤ taken_in dev (calls_in at deeds now run) + once_if (waits_in dev now.controller)

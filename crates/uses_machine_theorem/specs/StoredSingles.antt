@@ -16,7 +16,7 @@ use Rattle.ahci_machine.specs.{States.{HasRules, MachineState, bay_at}, declared
 use Rattle.ahci_machine.specs.declared.act.Act.TheVariants as act
 use Rattle.machine_laws.specs.{ControllerLaws.{ControllerRuns, RunsRuled, calls_in}, Deeds.{Deed, Does, Moved}, Falling.{AllLast, HasLink}}
 use Rattle.machine_theorem.specs.{CountedAlike.IsCountedAlike, Ending.HasNoQueued, Identity.{AllKeep, IsAtRest, calls_of, own_of}}
-use Rattle.machine_theorem.specs.{InTurn.{AreKeptOn, IsIdle, is_answering, is_asking}, OwnSlots.{AllKeepLine, is_of}, OwnWrites.AreOwnData, PioReads.AllKeepUnqueued, Singles.{AllOfDevice, BeginsIdle}}
+use Rattle.machine_theorem.specs.{InTurn.{AreKeptOn, IsIdle, is_answering, is_asking}, OwnSlots.{AllKeepLine, is_of}, OwnWrites.AreOwnData, PioIn.AllKeepUnqueued, Singles.{AllOfDevice, BeginsIdle}}
 use Rattle.machine_theorem.specs.{Standing.IsAsSupplied, StoredSingles.{IsNamedBy, IsStoredSingle, is_writing}, WholeQueued.IsDoneWhole}
 use Rattle.machine_theorem.specs.WholeSingles.{IsUnqueuedWhole}
 use Rattle.uses_machine_theorem.specs.Led.{IsLed}

@@ -11,7 +11,7 @@ ghost use Rattle.uses_machine_theorem.specs.Led.{IsLed, KnowsDisks, LendsBrought
 ghost use Rattle.uses_machine_theorem.specs.Led.{SpeaksSupplied};
 ghost use Rattle.uses_machine_theorem.specs.Slots.{KnowsBrought, KnowsBroughtSince, KnowsBytes, KnowsData, KnowsEnds, KnowsFilled};
 ghost use Rattle.uses_machine_theorem.specs.Slots.{KnowsFollowing, KnowsGiven, KnowsOrders, KnowsQueued, KnowsReadBack};
-ghost use Rattle.uses_machine_theorem.specs.Slots.{KnowsReads, KnowsSlots, KnowsTags, KnowsTransfers, KnowsTurns, KnowsWaits};
+ghost use Rattle.uses_machine_theorem.specs.Slots.{KnowsReads, KnowsSlots, KnowsTags, KnowsTransfers, KnowsTurns};
 ghost use Rattle.uses_machine_theorem.specs.Slots.{KnowsWritten};
 ghost use Rattle.uses_machine_theorem.specs.Standing.{BeginsToStand, GoesOnStanding};
 
@@ -164,8 +164,7 @@ pub fn plugs(machine: &mut Machine, port: u8) -> Result<(), PortFault>
 /// queued read are those bytes, each at its number, while no FIS of the disk is lost or at fault. Where the guest sees a queued read completed, each
 /// byte of it was brought by such a FIS and written at its place, and nothing was issued in the slot since then. If the medium gives what it was last
 /// told to keep, they are what the guest wrote there, by a write that it saw completed before; and so are all that the disk sent for a read that the
-/// guest sees completed. Commands that are not queued and their answers go in turn: at a disk that was new as it was put at its port while it is not reset,
-/// at the controller while a command that waits leaves its slot only by its answer.
+/// guest sees completed. At a disk that was new as it was put at its port, commands that are not queued and their answers go in turn while it is not reset.
 pub fn knows_commands(machine: &Machine)
     ensures given { KnowsGiven machine.now }
     ensures sent { KnowsData machine.now }
@@ -181,7 +180,6 @@ pub fn knows_commands(machine: &Machine)
     ensures follows { KnowsFollowing machine.now }
     ensures turns { KnowsTurns machine.now }
     ensures transfers { KnowsTransfers machine.now }
-    ensures waits { KnowsWaits machine.now }
 {
     machine_theorem::commands_are_as_supplied();
     machine_theorem::completions_are_of_their_slots();
@@ -194,7 +192,6 @@ pub fn knows_commands(machine: &Machine)
     machine_theorem::completed_reads_follow_writes();
     machine_theorem::commands_go_in_turn();
     machine_theorem::transfers_are_answered();
-    machine_theorem::commands_await_their_answers();
 }
 
 /// What the caller knows of the Data of its guest's queued writes, whatever run led to its machine; it runs no code. Data that go to a device of a

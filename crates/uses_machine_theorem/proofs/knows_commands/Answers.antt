@@ -1,4 +1,4 @@
-use Rattle.uses_machine_theorem.proofs.SlotLemmas.{brought, brought_since, bytes, data_are, ends, filled, given, queued, reads, following, read_back, written, ends_so, turns, waits}
+use Rattle.uses_machine_theorem.proofs.SlotLemmas.{brought, brought_since, bytes, data_are, ends, filled, given, queued, reads, following, read_back, written, ends_so, turns}
 use Rattle.uses_machine_theorem.proofs.knows_commands.Goals as goal
 
 pub returns : goal.returns
@@ -17,5 +17,4 @@ returns c = record {
   follows = following c.completed_reads_follow_writes.ensures c.args.machine.now;
   turns = turns c.commands_go_in_turn.ensures c.args.machine.now;
   transfers = ends_so c.transfers_are_answered.ensures c.args.machine.now;
-  waits = waits c.commands_await_their_answers.ensures.counts c.args.machine.now;
 }

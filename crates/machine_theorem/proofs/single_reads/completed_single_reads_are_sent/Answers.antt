@@ -1,9 +1,7 @@
-use Rattle.machine_theorem.proofs.Anew as anew
 use Rattle.machine_theorem.proofs.BroughtAt as moments
 use Rattle.machine_theorem.proofs.Falls as falls
 use Rattle.machine_theorem.proofs.PioOwn as pio
 use Rattle.machine_theorem.proofs.SinglesBrought as brought
-use Rattle.machine_theorem.proofs.SinglesOwn as own
 use Rattle.machine_theorem.proofs.SinglesSent.{singles_are_sent}
 use Rattle.machine_theorem.proofs.single_reads.completed_single_reads_are_sent.Goals as goal
 
@@ -41,7 +39,7 @@ returns c =
       };
       fall = c.issues_fall.ensures.falls;
     } in
-    let singles : own.Laws = record {
+    let of_ends : pio.Laws = record {
       falls = ends;
       order = c.frames_rise_in_order.ensures.order;
       taken = c.frames_rise_in_order.ensures.taken;
@@ -60,17 +58,6 @@ returns c =
         due = c.controller_goes_on.ensures.due;
       };
       completed = c.completions_are_of_devices.ensures;
-      turn = c.commands_go_in_turn.ensures;
-      counts = c.commands_await_their_answers.ensures.counts;
-    } in
-    let of_ends : pio.Laws = record {
-      falls = ends;
-      order = singles.order;
-      taken = singles.taken;
-      disks = singles.disks;
-      falling = singles.falling;
-      data_of = singles.data_of;
-      completed = singles.completed;
       turn = c.commands_are_settled_in_turn.ensures.turn;
       sectors = c.commands_are_settled_in_turn.ensures.sectors;
       transfers = c.transfers_are_answered.ensures;
@@ -84,19 +71,20 @@ returns c =
         supplied = c.commands_are_supplied.ensures.supplied;
       };
     } in
-    let again : anew.Laws = record {
-      own = of_ends;
-      wait = c.commands_await_their_ends.ensures.plain;
-      goes = c.controller_goes_on.ensures.goes;
-      stays = c.controller_goes_on.ensures.due;
-    } in
     singles_are_sent (record {
       brought = of_bytes;
-      singles = singles;
-      anew = again;
-      wait = c.commands_await_their_answers.ensures.plain;
-      turn = c.single_data_go_in_turn.ensures;
-      tell = c.fises_tell.ensures;
-      given = c.data_are_given.ensures;
-      parts = c.data_rise_unchanged.ensures.parts;
+      taken = record {
+        anew = record {
+          own = of_ends;
+          wait = c.commands_await_their_ends.ensures.plain;
+          goes = c.controller_goes_on.ensures.goes;
+          stays = c.controller_goes_on.ensures.due;
+        };
+        answers = c.commands_go_in_turn.ensures;
+        setup = at.setup;
+        turn = c.single_data_go_in_turn.ensures;
+        tell = c.fises_tell.ensures;
+        given = c.data_are_given.ensures;
+        parts = c.data_rise_unchanged.ensures.parts;
+      };
     })

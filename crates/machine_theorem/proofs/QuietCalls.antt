@@ -1,45 +1,35 @@
--- A command that is neither queued nor a PIO data-in waits in its slot until its device answers, if the guest spares it.
+-- Events and calls by which a command that waits in its slot does so still, if they carry no Data.
 use Rattle.std.proofs.Common.{◌≡◌, ℕ, zero, suc, ◌<◌, ◌^◌, ◌&&◌, Bool, true, false, not, List, [], ◌∷◌, ◌++◌, drop, refl, sym, ap, ◌∙◌, arith, Option}
 use Rattle.std.proofs.{Common.{Some, None}, lemmas.Bool.{eq-eqb, eqb-true, false≢true}}
-use Rattle.std.specs.{Prelude.{◌==◌, IfSome, is_some, if◌then◌else◌}, Option.option_map}
+use Rattle.std.specs.{Prelude.{◌==◌, IfSome, if◌then◌else◌}, Option.option_map}
 use Rattle.guest_fetch.specs.Commands.{Fetched}
 use Rattle.host_memory.specs.declared.table.Prd.{Prd}
 use Rattle.hba_commands.specs.declared.command.Command.{Command}
-use Rattle.slots.specs.{Data.payload, Slots.{Issue, context_of, has_bit, holds, is_pio, is_waiting, issue_at, match_some, own_issue, slots_of}}
-use Rattle.slots.specs.{Slots.waiting, Work.{is_dma, is_queued, is_read}, declared.work.Work.Work}
-use Rattle.slots.proofs.Door.{lowest_is, own_at}
-use Rattle.hba_fbs.specs.{Offering.asked_by, Registers.falls, Taking.port_of, Turning.feeds, Views.{Port, last_command, view_of}}
+use Rattle.slots.specs.{Data.payload, Slots.{Issue, context_of, has_bit, holds, issue_at, match_some}}
+use Rattle.slots.specs.{Work.{is_dma, is_read}, declared.work.Work.Work}
+use Rattle.hba_fbs.specs.{Offering.asked_by, Registers.falls, Taking.port_of, Turning.feeds, Views.{Port, last_command}}
 use Rattle.hba_fbs.specs.declared.{error.WriteError.WriteError, report.TakeReport.TakeReport, turn.Turn.{Turn, TheVariants.{Feeds, Orders, Rests}}}
-use Rattle.hba_laws.specs.{Agreement.{IsTold, work_of_issue, work_of_transfer}, Alike.{told_issue, told_issued}, CoreHistories.{event_by, happened}}
-use Rattle.hba_laws.specs.{CoreHistories.{history_through, turned_for}, Cores.{CoreEvent, RunsBy}, Delivering.{begun_by, event_sent}}
-use Rattle.hba_laws.specs.{Delivering.is_control_issue, History.{Event, History, Transfer, completes, is_at, issued, unless, waiting_in}}
+use Rattle.hba_laws.specs.{Agreement.{work_of_transfer}, Alike.{told_issue, told_issued}, CoreHistories.{event_by, happened}}
+use Rattle.hba_laws.specs.{CoreHistories.{turned_for}, Cores.{CoreEvent, RunsBy}, Delivering.{begun_by, event_sent}}
+use Rattle.hba_laws.specs.{Delivering.is_control_issue, History.{Event, History, Transfer, is_at, unless}}
 use Rattle.hba_laws.specs.Cores as core
 use Rattle.hba_laws.specs.History as history
-use Rattle.hba_laws.proofs.Door.{held, own_in}
 use Rattle.ahci_controller.specs.{Issuing.{device_of, offered_command}, Next.{is_halted, next_write, written}, Offers.offer_in}
 use Rattle.ahci_controller.specs.{States.{ControllerState, kept}, declared.{feeding.Fed.Fed, issuing.Supply.Supply, next.Next.Next}}
 use Rattle.ahci_controller.specs.declared.feeding.Fed.TheVariants as fed_answer
 use Rattle.ahci_controller.specs.declared.issuing.Supply.TheVariants as supply_answer
 use Rattle.ahci_controller.specs.declared.next.Next.TheVariants as next_step
 use Rattle.controller_laws.specs.{CoreEvents.{no_tables, of_event, of_fed, of_frame, of_next, of_supply, of_turn}, Events.{Does, Event as Call}}
-use Rattle.controller_laws.specs.Events.{IsController, Runs}
+use Rattle.controller_laws.specs.Events.{IsController}
 use Rattle.controller_laws.specs.Events as call
-use Rattle.machine_theorem.specs.{Commands.{is_issue, issues_in}, InTurn.is_answering, Waits.{AllKeepWaiting, AllPlain, HasPlain, KeepsWaiting}}
-use Rattle.machine_theorem.specs.Waits.{PlainCommandsWait, SparesWaiting, is_answered, is_command_issue, is_commanded, waits_in}
+use Rattle.machine_theorem.specs.{Commands.{is_issue, issues_in}, InTurn.is_answering}
+use Rattle.machine_theorem.specs.Waits.{is_answered, is_command_issue, is_commanded}
 use Rattle.machine_theorem.proofs.{AnswersHeard.{IsMild, fis_mild}, CoreStems.{PlaceNone, supply_none}, OrderedOnce.{IsOrderedOnce, ordered_once}}
-use Rattle.machine_theorem.proofs.{SetupFrames.the_issue, Unread.is_alone, Waiting.{Laws, commanded_free, core_events, first_kept, owner, some_waits}}
+use Rattle.machine_theorem.proofs.{Unread.is_alone}
 
 -- ---- histories
 
--- a command that is neither queued nor a PIO data-in is issued in the slot, and waits
-record Waits (s : ℕ) (past : History) : Type 0 where
-  transfer : Transfer
-  is : issued s past ≡ Some transfer
-  queued : is_queued transfer.work.kind ≡ false
-  pio : is_pio transfer.work.kind ≡ false
-  waits : waiting_in past ≡ Some s
-
--- an event by which it does so still
+-- an event by which a command that waits in the slot does so still, if it is no Data
 abbrev pub Leaves : (s : ℕ) → Event → Type 0
 Leaves s (history.Issued slot t) = (slot == s) ≡ false
 Leaves s (history.Sent slot) = ⊥
@@ -56,11 +46,6 @@ pub named_none : (a q b : Bool) → q ≡ false → (a && (q && b)) ≡ false
 named_none a true b e = absurd (cc)
 named_none true false b e = refl
 named_none false false b e = refl
-
-carried_none : (a b c d : Bool) → b ≡ false → (a && b && c && d) ≡ false
-carried_none a true c d e = absurd (cc)
-carried_none true false c d e = refl
-carried_none false false c d e = refl
 
 pub kept_some : (o : Option Transfer) (t : Transfer) (f : Transfer → Bool) → o ≡ Some t → f t ≡ false → match_some o None (λ x. unless (f x) (Some x)) ≡ Some t
 kept_some o t f is none =
@@ -80,57 +65,6 @@ not_at slot s apart = by (s == slot) refl
 pub still_waits : (slot s : ℕ) (o : Option ℕ) → o ≡ Some s → (slot == s) ≡ false → unless (is_at slot o) o ≡ Some s
 still_waits slot s o is apart =
     ap (λ (p : Option ℕ). unless (is_at slot p) p) is ∙ ap (λ (b : Bool). unless b (Some s)) (not_at slot s apart)
-
-one_waits : (s : ℕ) (e : Event) (past : History) → Leaves s e → Waits s past → Waits s (e ∷ past)
-one_waits s (history.Issued slot t) past leaves w = record {
-  transfer = w.transfer;
-  is = if_other (slot == s) (Some t) (issued s past) leaves ∙ w.is;
-  queued = w.queued;
-  pio = w.pio;
-  waits = still_waits slot s (waiting_in past) w.waits leaves;
-}
-one_waits s (history.Sent slot) past leaves w = absurd leaves
-one_waits s (history.SentControl slot) past leaves w = record {
-  transfer = w.transfer;
-  is = ap (λ (b : Bool). unless b (issued s past)) leaves ∙ w.is;
-  queued = w.queued;
-  pio = w.pio;
-  waits = w.waits;
-}
-one_waits s (history.SetUp tag offset count to_host) past leaves w = record {
-  transfer = w.transfer;
-  is = kept_some (issued s past) w.transfer (λ t. false) w.is refl;
-  queued = w.queued;
-  pio = w.pio;
-  waits = w.waits;
-}
-one_waits s (history.PioSetUp count to_host ends) past leaves w = record {
-  transfer = w.transfer;
-  is = kept_some (issued s past) w.transfer (λ t. false) w.is refl;
-  queued = w.queued;
-  pio = w.pio;
-  waits = w.waits;
-}
-one_waits s (history.Carried bytes) past leaves w = record {
-  transfer = w.transfer;
-  is = kept_some (issued s past) w.transfer (λ t. completes s (history.Carried bytes) past t.work) w.is (carried_none _ (is_pio w.transfer.work.kind) _ _ w.pio);
-  queued = w.queued;
-  pio = w.pio;
-  waits = w.waits;
-}
-one_waits s history.Answered past leaves w = absurd leaves
-one_waits s (history.Named mask) past leaves w = record {
-  transfer = w.transfer;
-  is = kept_some (issued s past) w.transfer (λ t. completes s (history.Named mask) past t.work) w.is (named_none (has_bit mask s) (is_queued w.transfer.work.kind) _ w.queued);
-  queued = w.queued;
-  pio = w.pio;
-  waits = w.waits;
-}
-one_waits s history.Emptied past leaves w = absurd leaves
-
-all_wait : (s : ℕ) (h past : History) → AllLeave s h → Waits s past → Waits s (h ++ past)
-all_wait s [] past leaves w = w
-all_wait s (e ∷ h) past leaves w = one_waits s e (h ++ past) leaves.0 (all_wait s h past leaves.1 w)
 
 -- ---- events of the core
 
@@ -222,12 +156,6 @@ event_leaves s n port other quiet = absurd quiet
 abbrev pub AllQuiet : (s n : ℕ) → (old : Port) → (events : List CoreEvent) → (new : Port) → RunsBy old events new → Type 0
 AllQuiet s n old [] new run = Unit {0}
 AllQuiet s n old (e ∷ later) new run = IsQuiet s n old e × AllQuiet s n run.0 later new run.2
-
-through_waits : (s n : ℕ) (events : List CoreEvent) (old new : Port) (run : RunsBy old events new) → AllQuiet s n old events new run → (past : History) → Waits s past
-    → Waits s (history_through n past old new events run)
-through_waits s n [] old new run quiet past w = w
-through_waits s n (e ∷ later) old new run quiet past w =
-    through_waits s n later run.0 new run.2 quiet.1 (happened n old e ++ past) (all_wait s (happened n old e) past (event_leaves s n old e quiet.0) w)
 
 -- ---- calls of the controller
 
@@ -378,68 +306,3 @@ at_some s (Some k) e = ap (λ (j : ℕ). Some j) (eqb-true k s e)
 pub sent_if : (a b : Bool) → (a && not b) ≡ true → a ≡ true
 sent_if true b e = refl
 sent_if false b e = absurd (cc)
-
-module _ (laws : Laws) (n : ℕ) (below : n < 16) where
-  -- a call that is no write, and no answer
-  stays : (e : Call) (old new : ControllerState) → IsController old → IsController new → (does : Does old e new) → IsNoWrite e → is_commanded n old e ≡ false → is_answered n e ≡ false
-      → HasPlain n old → (past : History) → IsTold (view_of n old.core) past → (o : Option ℕ) → waiting (slots_of n old.core.slots) ≡ o → is_some o ≡ true → waits_in n new ≡ true
-  stays e old new k l does plain none free has past told None at some = absurd (false≢true some)
-  stays e old new k l does plain none free has past told (Some s) at some =
-      let first = lowest_is (λ (t : ℕ). holds is_waiting (own_issue (slots_of n old.core.slots) t)) 32 s at in
-      let it = held is_waiting (own_issue (slots_of n old.core.slots) s) first.passes in
-      let i : Issue = it.0 in
-      let there = own_in n s old.core.slots i it.1 in
-      let dev : i.dev ≡ n = owner n i (issue_at old.core.slots s) (sym (own_at n old.core.slots s there.0) ∙ it.1) in
-      let kind = has s i there.1 dev in
-      let t = of_issue (issued s past) i.work (told.issued s ∙ ap (λ (o : Option Issue). option_map work_of_issue o) it.1) in
-      let w : Waits s past = record {
-        transfer = t.0;
-        is = t.1.0;
-        queued = ap (λ (x : Work). is_queued x.kind) t.1.1 ∙ kind.0;
-        pio = ap (λ (x : Work). is_pio x.kind) t.1.1 ∙ kind.1;
-        waits = at_some s (waiting_in past) ((told.agrees.issues_agree s i it.1).waits_is ∙ it.2);
-      } in
-      let long = k.slots.slots in
-      let under = there.0 in
-      let sent : IsSentThere s old = record { issue = i; is = there.1; sent = sent_if i.sent i.answered it.2; low = omega (arith, long, under) } in
-      let are = core_events laws n below old new e k l does in
-      let then' : History = history_through n past old.core new.core (of_event old e new does) are.run in
-      let now : IsTold (view_of n new.core) then' = laws.views n below old.core new.core (of_event old e new does) are.run are.sound past told in
-      let v : Waits s then' = through_waits s n (of_event old e new does) old.core new.core are.run (call_quiet s n e old new does are.run k plain none free sent) past w in
-      let j = the_issue (issued s then') (own_issue (slots_of n new.core.slots) s) v.transfer (now.issued s) v.is in
-      some_waits n s new l j.0 j.1.0 (sym (now.agrees.issues_agree s j.0 j.1.0).waits_is ∙ ap (is_at s) v.waits ∙ eq-eqb s s refl)
-
-  other_keeps : (e : Call) (old new : ControllerState) → IsController old → IsController new → Does old e new → IsNoWrite e → HasPlain n old → (past : History) → IsTold (view_of n old.core) past
-      → KeepsWaiting n old e new
-  other_keeps e old new k l does plain has past told free some = by (is_commanded n old e) refl
-    where
-      by : (b : Bool) → is_commanded n old e ≡ b → waits_in n new ≡ true
-      by true is = absurd (false≢true (sym (commanded_free n e old new k l does is) ∙ some))
-      by false is = stays e old new k l does plain is free has past told (waiting (slots_of n old.core.slots)) refl some
-
-  keeps : (e : Call) (old new : ControllerState) → IsController old → IsController new → Does old e new → HasPlain n old → SparesWaiting n old e new → (past : History) → IsTold (view_of n old.core) past
-      → KeepsWaiting n old e new
-  keeps (call.Wrote offset value result) old new k l does has spares past told = λ free some. spares some
-  keeps (call.WroteWide offset width value result) old new k l does has spares past told = λ free some. spares some
-  keeps (call.Supplied slot number bytes supply) old new k l does has spares past told = other_keeps (call.Supplied slot number bytes supply) old new k l does tt has past told
-  keeps (call.Missed slot number supply) old new k l does has spares past told = other_keeps (call.Missed slot number supply) old new k l does tt has past told
-  keeps (call.Took frame took) old new k l does has spares past told = other_keeps (call.Took frame took) old new k l does tt has past told
-  keeps (call.Left frame why) old new k l does has spares past told = other_keeps (call.Left frame why) old new k l does tt has past told
-  keeps (call.Turned next) old new k l does has spares past told = other_keeps (call.Turned next) old new k l does tt has past told
-  keeps (call.Said write) old new k l does has spares past told = other_keeps (call.Said write) old new k l does tt has past told
-  keeps (call.Gathered dev number frame fed) old new k l does has spares past told = other_keeps (call.Gathered dev number frame fed) old new k l does tt has past told
-  keeps (call.NotThere dev number fed) old new k l does has spares past told = other_keeps (call.NotThere dev number fed) old new k l does tt has past told
-
-  all_keep : (old now : ControllerState) (events : List Call) (run : Runs old events now) → (past : History) → IsTold (view_of n old.core) past → AllPlain n old events now run
-      → AllKeepWaiting n old events now run
-  all_keep old now [] run past told plain = tt
-  all_keep old now (e ∷ later) run past told plain =
-      let mid : ControllerState = run.1.0 in
-      let kept_mid : IsController mid = first_kept later mid now run.1.2 in
-      let are = core_events laws n below old mid e run.0 kept_mid run.1.1 in
-      let then' : IsTold (view_of n mid.core) (history_through n past old.core mid.core (of_event old e mid run.1.1) are.run) =
-      laws.views n below old.core mid.core (of_event old e mid run.1.1) are.run are.sound past told in
-      (keeps e old mid run.0 kept_mid run.1.1 plain.0 plain.1 past told, all_keep mid now later run.1.2 _ then' plain.2)
-
-pub plain_wait : Laws → PlainCommandsWait
-plain_wait laws n below old now events run past told plain = all_keep laws n below old now events run past told plain
