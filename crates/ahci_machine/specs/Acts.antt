@@ -204,12 +204,13 @@ pub record ServesNext (port : ℕ) (act : Act) (old new : MachineState) : Type 0
 abbrev pub RestsNow : MachineState → MachineState → Type 0
 RestsNow old new = (new ≡ old) ⊎ TurnsNext next.Nothing old new
 
+-- the interrupt is told only behind all that is to be written to the guest
 abbrev pub Does : MachineState → Act → MachineState → Type 0
 Does old act.Rests new = RestsNow old new
 Does old (act.Writes write) new = Writes write old new
 Does old act.LetsGo new = LetsGo old new
-Does old (act.Line line) new = (line ≡ raised old.controller.latch) × (line ≢ old.told) × (new ≡ record old { told = line })
-Does old act.Message new = (old.message ≡ true) × (new ≡ record old { message = false })
+Does old (act.Line line) new = ((line ≡ raised old.controller.latch) × (old.writing ≡ false)) × (line ≢ old.told) × (new ≡ record old { told = line })
+Does old act.Message new = ((old.message ≡ true) × (old.writing ≡ false)) × (new ≡ record old { message = false })
 Does old (act.Turns said) new = TurnsNext said old new
 Does old (act.Does said) new = DoesNext said old new
 Does old (act.Sends passed) new = SendsNext passed old new

@@ -55,8 +55,9 @@ impl Machine {
         }
     }
 
-    /// What the caller is to know of the interrupt.
+    /// What the caller is to know of the interrupt, once nothing is to be written to the guest.
     pub(crate) fn tell_next(&mut self) -> Option<Act>
+        requires { self.old.writing ≡ false }
         ensures does { MayDo self.old result self.new }
         ensures none { IfNone result (IsToldAll self.old) }
     {

@@ -131,5 +131,7 @@ pub turns : places.WritesArePlaced → TurnsArePlaced
 turns law old said new h = law old.controller h.middle.controller said h.does.turns
 
 pub line_told : LinesAreShown
-line_told old line new h =
-    h.does.0 ∙ sym (line_is old.controller) ∙ ap (λ (m : MachineState). line_shown m.controller) (sym h.does.2) ∙ ap (λ (m : MachineState). line_shown m.controller) (sym h.turns)
+line_told old line new h = (
+  h.does.0.0 ∙ sym (line_is old.controller) ∙ ap (λ (m : MachineState). line_shown m.controller) (sym h.does.2) ∙ ap (λ (m : MachineState). line_shown m.controller) (sym h.turns),
+  ap (λ (m : MachineState). m.writing) h.turns ∙ ap (λ (m : MachineState). m.writing) h.does.2 ∙ h.does.0.1,
+)

@@ -99,6 +99,7 @@ WritesArePlaced = (old : MachineState) (write : Next) (new : MachineState) → D
 abbrev pub TurnsArePlaced : Type 0
 TurnsArePlaced = (old : MachineState) (said : Next) (new : MachineState) → Does old (Moved (act.Turns said)) new → IsWritten old.controller said
 
--- the line that it is told is the one that IS and GHC.IE show
+-- the line that it is told is the one that IS and GHC.IE show, and nothing is to be written to the guest then
 abbrev pub LinesAreShown : Type 0
-LinesAreShown = (old : MachineState) (line : Bool) (new : MachineState) → Does old (Moved (act.Line line)) new → line ≡ line_shown new.controller
+LinesAreShown = (old : MachineState) (line : Bool) (new : MachineState) → Does old (Moved (act.Line line)) new
+    → (line ≡ line_shown new.controller) × (new.writing ≡ false)

@@ -42,8 +42,8 @@ pub fn controller_goes_on()
 /// A law for callers; it runs no code. Over every run of a machine its controller has the laws of `controller_laws`: what was supplied
 /// for a slot is its command; the bytes of Data go to the places of that command's table, each once, in order; a bit of PxCI
 /// falls only as its own device ends the command, or, of a queued one, answers it, and one of PxSACT as it names the command in Set Device
-/// Bits, or as a write stops or clears it; and the line goes as IS and GHC.IE show. What the
-/// caller is told to write, and the line that it is told, are of these.
+/// Bits, or as a write stops or clears it; and the line goes as IS and GHC.IE show. What the caller is told to write, and the line that it
+/// is told, are of these; and the line is told only while nothing is to be written to the guest, so behind all bytes of the FIS that raised it.
 pub fn controller_has_its_laws()
     ensures opens { OpensLawful }
     ensures runs { RunsAreCalls }

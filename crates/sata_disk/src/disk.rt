@@ -6,7 +6,7 @@ ghost use Rattle.std.specs.List.{All};
 ghost use Rattle.std.specs.Result.{result_err};
 ghost use Rattle.fis_view.specs.Seen.{seen};
 ghost use Rattle.block_queue.specs.Line.{command_at, may_send};
-ghost use Rattle.block_engine.specs.Engine.{IsEngineStart, IsRequested, answer_refusal, answered, discarded_at, started, stored_at};
+ghost use Rattle.block_engine.specs.Engine.{IsEngineStart, IsRequested, StartsWrite, answer_refusal, answered, discarded_at, started, stored_at};
 ghost use Rattle.ata_front.specs.Fronts.{heard_data, owed, standing};
 ghost use Rattle.ata_front.specs.declared.task.Task.TheVariants as tasks;
 ghost use Rattle.sata_disk.specs.State.{AsksWithin, DiskState, IsWithin, commands, new_disk, sectors_of, tags_of};
@@ -164,11 +164,12 @@ impl SataDisk {
         }
     }
 
-    /// Starts the command that may start next, and says its place. A write takes the memory of its first part then.
+    /// Starts the command that may start next, and says its place. A write takes the memory of its first part then, and nothing else asks for memory.
     pub fn start_next(&mut self) -> Result<Option<u8>, AllocError>
         ensures next { IfOk result (λ place. IsEngineStart self.old.engine place) }
         ensures ok { IfOk result (λ place. self.new ≡ record self.old { engine = started self.old.engine place }) }
         ensures err { OnErr result (self.new ≡ self.old) }
+        ensures room { OnErr result (StartsWrite self.old.engine) }
     {
         self.engine.start_next()
     }

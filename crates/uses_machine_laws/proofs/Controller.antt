@@ -38,7 +38,8 @@ writes law old new told step write is = law old write new (subst (λ (r : Result
 pub lent : FramesAreLent → (old new : MachineState) (told : Result Act AllocError) → IfOk told (λ a. Steps old a new) → (write : Next) → told ≡ Ok (act.Writes write) → (last : Option (List ℕ)) → HoldsFrame old last → Lends write last (lent_bytes new)
 lent law old new told step write is last holds = law old write new (subst (λ (r : Result Act AllocError). IfOk r (λ a. Steps old a new)) is step) last holds
 
-pub line : LinesAreShown → (old new : MachineState) (told : Result Act AllocError) → IfOk told (λ a. Steps old a new) → (l : Bool) → told ≡ Ok (act.Line l) → l ≡ line_shown new.controller
+pub line : LinesAreShown → (old new : MachineState) (told : Result Act AllocError) → IfOk told (λ a. Steps old a new) → (l : Bool) → told ≡ Ok (act.Line l)
+    → (l ≡ line_shown new.controller) × (new.writing ≡ false)
 line law old new told step l is = law old l new (subst (λ (r : Result Act AllocError). IfOk r (λ a. Steps old a new)) is step)
 
 -- ---- moves one after another

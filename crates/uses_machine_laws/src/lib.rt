@@ -147,13 +147,13 @@ pub fn offers(machine: &mut Machine, port: u8, frame: Frame) -> Result<(), Frame
 }
 
 /// The machine moves. What goes to the guest are bytes of the frame that was taken last, at the places of their command's table, or that
-/// frame, or PRDBC. The line that is told is the one that the registers show. Where it rests, each command of a disk waits for somebody.
+/// frame, or PRDBC. The line that is told is the one that the registers show, and nothing is to be written to the guest then. Where it rests, each command of a disk waits for somebody.
 pub fn moves(alloc: Global, machine: &mut Machine) -> Result<Act, AllocError>
     ensures keeps { Keeps machine.old machine.new }
     ensures controller { IfOk result (λ move. KeepsLaws machine.old (deed.Moved move ∷ []) machine.new) }
     ensures writes { (write : next_move.Next) → result ≡ Ok (act.Writes write) → WritesRightly machine.old write machine.new }
     ensures lent { (write : next_move.Next) → result ≡ Ok (act.Writes write) → (last : Option (List ℕ)) → HoldsFrame machine.old last → Lends write last (lent_bytes machine.new) }
-    ensures line { (line : Bool) → result ≡ Ok (act.Line line) → line ≡ line_shown machine.new.controller }
+    ensures line { (line : Bool) → result ≡ Ok (act.Line line) → (line ≡ line_shown machine.new.controller) × (machine.new.writing ≡ false) }
     ensures waits { result ≡ Ok act.Rests → AreReached machine.old → AllWait machine.old }
 {
     machine_laws::disks_have_their_laws();
