@@ -142,10 +142,11 @@ pub record TakesFrame (port : ℕ) (old : MachineState) (result : Option Stamped
   pub is : result ≡ given_in (bay_at old port).unit (bay_at old port).down
   pub rest : new ≡ (if is_own (bay_at old port).unit then record old { bays = slice_set old.bays port (taken_bay (bay_at old port)) } else old)
 
--- a FIS of it goes where there is room, or is given back
+-- a FIS of it goes where there is room, and is given back where there is none, or no such device
 pub record OffersFrame (port : ℕ) (frame : Stamped) (old : MachineState) (result : Result (Unit {0}) Stamped) (new : MachineState)
     : Type 0 where
   pub back : MatchResult result (λ _. (offered : Offered) × Offers old.fan port frame (Ok offered) new.fan)
       (λ given. (given ≡ frame) × (new ≡ old))
-  pub own : MatchResult result (λ _. (is_own (bay_at old port).unit ≡ true) × (wants_at old.fan port ≡ true)) (λ _. Unit {0})
+  pub own : MatchResult result (λ _. (is_own (bay_at old port).unit ≡ true) × (wants_at old.fan port ≡ true))
+      (λ _. (is_own (bay_at old port).unit && wants_at old.fan port) ≡ false)
   pub rest : new ≡ record old { fan = new.fan }

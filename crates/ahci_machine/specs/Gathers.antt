@@ -1,7 +1,7 @@
 -- The bytes of a Data FIS to a device (Serial ATA 3.x, 46h) come from the guest's memory part by part, from the places of its
 -- command's table (AHCI 1.3.1, 4.2.3.3 and 5.3).
-use Rattle.std.specs.Prelude.{◌≡◌, ◌≢◌, ℕ, ◌+◌, ◌-◌, ◌≤◌, ◌==◌, ◌&&◌, Bool, true, false, if◌then◌else◌, is_some, List, ◌∷◌, ◌++◌, Option, Some, None}
-use Rattle.std.specs.Prelude.{length, replicate, take, drop, slice_get}
+use Rattle.std.specs.Prelude.{◌≡◌, ◌≢◌, ℕ, ◌+◌, ◌-◌, ◌<◌, ◌≤◌, ◌==◌, ◌&&◌, Bool, true, false, if◌then◌else◌, is_some, List, [], ◌∷◌, ◌++◌, Option, Some}
+use Rattle.std.specs.Prelude.{None, MatchOption, length, replicate, take, drop, slice_get}
 use Rattle.fis_view.specs.{Frames.{Stamped, is_frame}, declared.frame.Stamp.Stamp}
 use Rattle.guest_fetch.specs.declared.moves.Move.{Move}
 use Rattle.ahci_controller.specs.{Feeding.Places, States.ControllerState}
@@ -36,11 +36,21 @@ pub record Reads (g : GatheringState) (c : ControllerState) (read : GuestRead) :
   pub head : slice_get moves 0 ≡ Some first
   pub is : read ≡ read_at g first
 
+-- they have no place: none was supplied for the slot, or the table has none there
+pub record IsNowhere (g : GatheringState) (c : ControllerState) : Type 0 where
+  pub moves : Option (List Move)
+  pub places : Places c g.feed.slot (g.feed.offset + g.done) (g.feed.len - g.done) moves
+  pub none : MatchOption moves (Unit {0}) (λ m. m ≡ [])
+
+-- so it is where the numbers are those of a command's bytes
+abbrev pub HasNoRead : GatheringState → ControllerState → Type 0
+HasNoRead g c = g.feed.slot < 32 → g.done ≤ g.feed.len → g.feed.offset + g.done < 4294967296 → IsNowhere g c
+
 abbrev pub Awaits : GatheringState → ControllerState → Waits → Type 0
 Awaits g c Asked = is_some g.asked ≡ true
 Awaits g c Whole = (g.asked ≡ None) × (g.done ≡ g.feed.len)
 Awaits g c (Wants read) = (g.asked ≡ None) × (g.done ≢ g.feed.len) × Reads g c read
-Awaits g c Nowhere = (g.asked ≡ None) × (g.done ≢ g.feed.len)
+Awaits g c Nowhere = (g.asked ≡ None) × (g.done ≢ g.feed.len) × HasNoRead g c
 
 -- ---- what comes
 

@@ -1,7 +1,7 @@
 //! The bytes of a Data FIS to a device come from the guest's memory, part by part.
 
-ghost use Rattle.std.specs.Prelude.{◌≡◌, IfOk, IfSome};
-ghost use Rattle.ahci_machine.specs.Gathers.{Awaits, Reads, Supplies, asked_for, frame_of, host_stamp as host_stamp_of, is_asked as is_asked_of, opening_gathering};
+ghost use Rattle.std.specs.Prelude.{◌≡◌, IfNone, IfOk, IfSome};
+ghost use Rattle.ahci_machine.specs.Gathers.{Awaits, HasNoRead, Reads, Supplies, asked_for, frame_of, host_stamp as host_stamp_of, is_asked as is_asked_of, opening_gathering};
 
 mod saved;
 
@@ -88,7 +88,8 @@ impl Gathering {
 
     // The bytes that are wanted next, where the table of the command has places for them.
     fn next_read(&self, controller: &Controller) -> Option<GuestRead>
-        ensures { IfSome result (λ read. Reads self.now controller.now read) }
+        ensures some { IfSome result (λ read. Reads self.now controller.now read) }
+        ensures none { IfNone result (HasNoRead self.now controller.now) }
     {
         if self.feed.slot >= 32 || self.done > self.feed.len as usize {
             return None;
