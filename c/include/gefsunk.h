@@ -99,7 +99,8 @@ const char *gef_status_text(gef_status status);
  *
  *     h2d port 3 c 1 command 60 features 0001 lba 000000000100 device 40 count 0028 icc 00 control 00
  *
- * Registers are hexadecimal; ports, tags and byte counts are decimal. A room of GEF_TEXT_ROOM is enough.
+ * Registers are hexadecimal; ports, tags and byte counts are decimal. A room of GEF_TEXT_ROOM is enough: only a shorter one
+ * returns GEF_TOO_SHORT.
  * Can return GEF_BAD_LENGTH, GEF_WRONG_LENGTH, GEF_TOO_SHORT. After each of them the text is empty, if there is room for
  * its 0.
  */
