@@ -491,7 +491,8 @@ gef_status gef_machine_next(gef_machine *machine, gef_event *event);
 
 /*
  * Copies the bytes of the last GEF_EVENT_WRITE_GUEST into the room, and their number into *len. A room of 8,192 bytes is enough.
- * They are there until the next call that changes the machine. Can return GEF_CLOSED, GEF_NOTHING, GEF_TOO_SHORT.
+ * They are there until the next call that changes the machine. GEF_NOTHING: there are none.
+ * Can return GEF_CLOSED, GEF_NOTHING, GEF_TOO_SHORT.
  */
 gef_status gef_machine_lent(gef_machine *machine, uint8_t *bytes, size_t room, size_t *len);
 

@@ -129,7 +129,7 @@ NextRule old _ event new = ⊥
 -- ---- bytes of the guest
 
 abbrev pub LentRule : MachineState → (room : ℕ) → Status → List ℕ → Type 0
-LentRule m room status.Done got = (got ≡ lent_bytes m) × (length got ≤ room)
+LentRule m room status.Done got = (got ≡ lent_bytes m) × (0 < length got) × (length got ≤ room)
 LentRule m room status.TooShort got = room < length (lent_bytes m)
 LentRule m room status.Nothing got = lent_bytes m ≡ []
 LentRule m room _ got = ⊥
