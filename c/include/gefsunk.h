@@ -183,7 +183,7 @@ gef_status gef_pm_from_device(gef_pm *pm, uint8_t port, const uint8_t *fis, size
 /*
  * Takes the next FIS for the host: its bytes go into fis, their number into *len, and the port that it comes from into
  * *port (15 for the control port). Its PM Port is the same. Ports take turns: a port with a FIS to give waits for at
- * most fifteen others. The room must be GEF_FIS_ROOM, whatever the FIS.
+ * most fifteen others. The room must be GEF_FIS_ROOM, whatever the FIS, and also where there is none.
  * GEF_NOTHING: no FIS can go up now.
  * Can return GEF_CLOSED, GEF_TOO_SHORT, GEF_NOTHING, GEF_NO_MEMORY.
  */
@@ -191,7 +191,7 @@ gef_status gef_pm_to_host(gef_pm *pm, uint8_t *fis, size_t room, size_t *len, ui
 
 /*
  * Takes the FIS that waits for the device at a port. Its PM Port is 0, as a device expects. The room must be
- * GEF_FIS_ROOM.
+ * GEF_FIS_ROOM, also where no FIS waits.
  * Can return GEF_CLOSED, GEF_NO_PORT, GEF_TOO_SHORT, GEF_NOTHING.
  */
 gef_status gef_pm_to_device(gef_pm *pm, uint8_t port, uint8_t *fis, size_t room, size_t *len);
@@ -332,7 +332,7 @@ gef_status gef_disk_from_host(gef_disk *disk, const uint8_t *fis, size_t len);
 
 /*
  * Takes the next FIS of the disk: its bytes go into fis, and their number into *len. Its PM Port is 0. The room must be
- * GEF_FIS_ROOM. GEF_NOTHING: the disk owes nothing, or waits for data of the host or for an answer of yours.
+ * GEF_FIS_ROOM, also where no FIS is next. GEF_NOTHING: the disk owes nothing, or waits for data of the host or for an answer of yours.
  * Can return GEF_CLOSED, GEF_TOO_SHORT, GEF_NOTHING, GEF_NO_MEMORY.
  */
 gef_status gef_disk_to_host(gef_disk *disk, uint8_t *fis, size_t room, size_t *len);

@@ -1,5 +1,5 @@
 -- What the calls on a disk do, by its rules (ACS-3; Serial ATA 3.x, native command queuing).
-use Rattle.std.specs.{Bool.MatchBool, Prelude.{◌≡◌, ◌≢◌, ℕ, zero, suc, ◌<◌, ◌==◌, ◌&&◌, ◌⊎◌, Bool, true, false, List, Option, Some, None}}
+use Rattle.std.specs.{Bool.MatchBool, Prelude.{◌≡◌, ◌≢◌, ℕ, zero, suc, ◌<◌, ◌≤◌, ◌==◌, ◌&&◌, ◌⊎◌, Bool, true, false, List, Option, Some, None}}
 use Rattle.std.specs.Prelude.{MatchOption}
 use Rattle.fis_view.specs.{Frames.is_frame, Seen.seen}
 use Rattle.block_engine.specs.Engine.{EngineState, IsEngineStart, IsRequested, answer_refusal, answered, discarded_at, started, stored_at}
@@ -41,11 +41,11 @@ pub record Speaks (d : DiskState) : Type 0 where
   pub out : Out
   pub next : IsOut d (Some out)
 
--- the next FIS for the host; the room must hold the longest FIS
+-- the next FIS for the host; the room must hold the longest FIS, whatever is next
 abbrev pub DiskToHost : DiskState → (room : ℕ) → Status → List ℕ → DiskState → Type 0
-DiskToHost old room status.Done fis new = Sends old fis new
-DiskToHost old room status.Nothing fis new = IsOut old None × (new ≡ old)
-DiskToHost old room status.NoMemory fis new = Speaks old × (new ≡ old)
+DiskToHost old room status.Done fis new = (8196 ≤ room) × Sends old fis new
+DiskToHost old room status.Nothing fis new = (8196 ≤ room) × IsOut old None × (new ≡ old)
+DiskToHost old room status.NoMemory fis new = (8196 ≤ room) × Speaks old × (new ≡ old)
 DiskToHost old room status.TooShort fis new = (room < 8196) × (new ≡ old)
 DiskToHost old room _ fis new = ⊥
 

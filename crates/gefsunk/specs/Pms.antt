@@ -1,7 +1,7 @@
 -- What the calls on a multiplier do, by the rules of the multiplier (Serial ATA 3.x, 16.3). C does not see
 -- stamps: a FIS of the host has an empty one, and a FIS of a device has the connection that its port counted.
-use Rattle.std.specs.Prelude.{◌≡◌, ◌≢◌, ℕ, ◌+◌, ◌<◌, ◌==◌, if◌then◌else◌, min, Bool, true, false, List, replicate, slice_index, slice_set, Some, None}
-use Rattle.std.specs.Prelude.{Result, Ok, Err}
+use Rattle.std.specs.Prelude.{◌≡◌, ◌≢◌, ℕ, ◌+◌, ◌<◌, ◌≤◌, ◌==◌, if◌then◌else◌, min, Bool, true, false, List, replicate, slice_index, slice_set, Some}
+use Rattle.std.specs.Prelude.{None, Result, Ok, Err}
 use Rattle.fis_view.specs.{Frames.{Stamped, is_frame}, declared.frame.{Stamp.Stamp, FrameError.FrameError}}
 use Rattle.fis_view.specs.declared.frame.FrameError.TheVariants as frame_error
 use Rattle.multiplier.specs.{Arbiter.control_port, Rules.{FromDeviceRule, FromHostRule, CameRule, GoneRule, NextDownRule, NextUpRule}}
@@ -144,15 +144,16 @@ FromDevice old port fis status.NotThere new =
 FromDevice old port fis status.NoPort new = (has_port old port → ⊥) × (new ≡ old)
 FromDevice old port fis _ new = ⊥
 
--- the next FIS for the host: its bytes and its port; the room must hold the longest FIS
+-- the next FIS for the host: its bytes and its port; the room must hold the longest FIS, whatever is next
 abbrev pub ToHost : Pm → ℕ → Status → List ℕ → ℕ → Pm → Type 0
 ToHost old room status.Done fis port new =
-    NextUpRule old.multiplier (Ok (Some (record { bytes = fis; stamp = new.given }))) new.multiplier
+    (8196 ≤ room) × NextUpRule old.multiplier (Ok (Some (record { bytes = fis; stamp = new.given }))) new.multiplier
     × (port ≡ state.pm_port (record { bytes = fis; stamp = new.given }))
     × KeepsSeats old new
-ToHost old room status.Nothing fis port new = NextUpRule old.multiplier (Ok None) new.multiplier × (new ≡ old)
+ToHost old room status.Nothing fis port new =
+    (8196 ≤ room) × NextUpRule old.multiplier (Ok None) new.multiplier × (new ≡ old)
 ToHost old room status.NoMemory fis port new =
-    (state.next_place old.multiplier ≡ Some control_port) × (old.multiplier.registers.due ≡ true)
+    (8196 ≤ room) × (state.next_place old.multiplier ≡ Some control_port) × (old.multiplier.registers.due ≡ true)
     × (new ≡ old)
 ToHost old room status.TooShort fis port new = (room < 8196) × (new ≡ old)
 ToHost old room _ fis port new = ⊥
@@ -160,11 +161,11 @@ ToHost old room _ fis port new = ⊥
 -- the FIS that waits for the device at a port
 abbrev pub ToDevice : Pm → ℕ → ℕ → Status → List ℕ → Pm → Type 0
 ToDevice old port room status.Done fis new =
-    has_port old port
+    has_port old port × (8196 ≤ room)
     × NextDownRule old.multiplier port (Some (record { bytes = fis; stamp = new.given })) new.multiplier
     × KeepsSeats old new
 ToDevice old port room status.Nothing fis new =
-    has_port old port × NextDownRule old.multiplier port None new.multiplier × (new ≡ old)
+    has_port old port × (8196 ≤ room) × NextDownRule old.multiplier port None new.multiplier × (new ≡ old)
 ToDevice old port room status.TooShort fis new = has_port old port × (room < 8196) × (new ≡ old)
 ToDevice old port room status.NoPort fis new = (has_port old port → ⊥) × (new ≡ old)
 ToDevice old port room _ fis new = ⊥
