@@ -309,7 +309,7 @@ typedef struct gef_disk {
 /*
  * Makes a disk, and opens the handle.
  * Can return GEF_OPEN (free it first), GEF_BAD_SECTORS, GEF_BAD_TEXT, GEF_BAD_DEPTH, GEF_BAD_ROTATION, GEF_BAD_PHYSICAL,
- * GEF_BAD_LIMIT, GEF_NO_MEMORY.
+ * GEF_BAD_LIMIT, GEF_NO_MEMORY: the first of them, in this order, that has a cause.
  */
 gef_status gef_disk_new(gef_disk *disk, const gef_disk_profile *profile);
 
