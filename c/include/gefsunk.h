@@ -606,8 +606,9 @@ gef_status gef_machine_restore(gef_machine *machine, const uint8_t *bytes, size_
  *     and what an answer leaves. Its calls make a run of such a disk, so the laws of `sata_disk_laws` hold of it. The Data of a read
  *     are the bytes that you gave for its sectors, in order, and its end goes after all of them. The end of a write goes after you
  *     stored exactly the bytes that came, at its sectors, and, if it is to last, after you answered a flush that was asked for after
- *     that. Requests that are out share no sector, unless they are loads. No two have one number. While a command that moves sectors
- *     is under way, GEF_NOTHING and GEF_EVENT_NOTHING together say that an answer of yours or Data of the host are owed.
+ *     that. No request is for a sector that the disk does not have. Requests that are out share no sector, unless they are loads. No
+ *     two have one number. While a command that moves sectors is under way, GEF_NOTHING and GEF_EVENT_NOTHING together say that an
+ *     answer of yours or Data of the host are owed.
  *   - A gef_machine makes moves, each by one part's own rule, or by those of the two between which a FIS goes (`ahci_machine`). A
  *     register reads what `ahci_controller` says, and a write leaves what it says; a disk at a port does what `sata_disk` says; FISes
  *     pass the multiplier as above. What gef_machine_next says is what the last of its moves asks; GEF_EVENT_NOTHING comes only where
