@@ -99,7 +99,8 @@ const char *gef_status_text(gef_status status);
  *
  *     h2d port 3 c 1 command 60 features 0001 lba 000000000100 device 40 count 0028 icc 00 control 00
  *
- * Registers are hexadecimal; ports, tags and byte counts are decimal. A room of GEF_TEXT_ROOM is enough.
+ * Registers are hexadecimal; ports, tags and byte counts are decimal. A room of GEF_TEXT_ROOM is enough: only a shorter one
+ * returns GEF_TOO_SHORT.
  * Can return GEF_BAD_LENGTH, GEF_WRONG_LENGTH, GEF_TOO_SHORT. After each of them the text is empty, if there is room for
  * its 0.
  */
@@ -182,7 +183,7 @@ gef_status gef_pm_from_device(gef_pm *pm, uint8_t port, const uint8_t *fis, size
 /*
  * Takes the next FIS for the host: its bytes go into fis, their number into *len, and the port that it comes from into
  * *port (15 for the control port). Its PM Port is the same. Ports take turns: a port with a FIS to give waits for at
- * most fifteen others. The room must be GEF_FIS_ROOM, whatever the FIS.
+ * most fifteen others. The room must be GEF_FIS_ROOM, whatever the FIS, and also where there is none.
  * GEF_NOTHING: no FIS can go up now.
  * Can return GEF_CLOSED, GEF_TOO_SHORT, GEF_NOTHING, GEF_NO_MEMORY.
  */
@@ -190,7 +191,7 @@ gef_status gef_pm_to_host(gef_pm *pm, uint8_t *fis, size_t room, size_t *len, ui
 
 /*
  * Takes the FIS that waits for the device at a port. Its PM Port is 0, as a device expects. The room must be
- * GEF_FIS_ROOM.
+ * GEF_FIS_ROOM, also where no FIS waits.
  * Can return GEF_CLOSED, GEF_NO_PORT, GEF_TOO_SHORT, GEF_NOTHING.
  */
 gef_status gef_pm_to_device(gef_pm *pm, uint8_t port, uint8_t *fis, size_t room, size_t *len);
@@ -308,7 +309,7 @@ typedef struct gef_disk {
 /*
  * Makes a disk, and opens the handle.
  * Can return GEF_OPEN (free it first), GEF_BAD_SECTORS, GEF_BAD_TEXT, GEF_BAD_DEPTH, GEF_BAD_ROTATION, GEF_BAD_PHYSICAL,
- * GEF_BAD_LIMIT, GEF_NO_MEMORY.
+ * GEF_BAD_LIMIT, GEF_NO_MEMORY: the first of them, in this order, that has a cause.
  */
 gef_status gef_disk_new(gef_disk *disk, const gef_disk_profile *profile);
 
@@ -331,7 +332,7 @@ gef_status gef_disk_from_host(gef_disk *disk, const uint8_t *fis, size_t len);
 
 /*
  * Takes the next FIS of the disk: its bytes go into fis, and their number into *len. Its PM Port is 0. The room must be
- * GEF_FIS_ROOM. GEF_NOTHING: the disk owes nothing, or waits for data of the host or for an answer of yours.
+ * GEF_FIS_ROOM, also where no FIS is next. GEF_NOTHING: the disk owes nothing, or waits for data of the host or for an answer of yours.
  * Can return GEF_CLOSED, GEF_TOO_SHORT, GEF_NOTHING, GEF_NO_MEMORY.
  */
 gef_status gef_disk_to_host(gef_disk *disk, uint8_t *fis, size_t room, size_t *len);
@@ -490,7 +491,8 @@ gef_status gef_machine_next(gef_machine *machine, gef_event *event);
 
 /*
  * Copies the bytes of the last GEF_EVENT_WRITE_GUEST into the room, and their number into *len. A room of 8,192 bytes is enough.
- * They are there until the next call that changes the machine. Can return GEF_CLOSED, GEF_NOTHING, GEF_TOO_SHORT.
+ * They are there until the next call that changes the machine. GEF_NOTHING: there are none.
+ * Can return GEF_CLOSED, GEF_NOTHING, GEF_TOO_SHORT.
  */
 gef_status gef_machine_lent(gef_machine *machine, uint8_t *bytes, size_t room, size_t *len);
 
@@ -604,13 +606,15 @@ gef_status gef_machine_restore(gef_machine *machine, const uint8_t *bytes, size_
  *     and what an answer leaves. Its calls make a run of such a disk, so the laws of `sata_disk_laws` hold of it. The Data of a read
  *     are the bytes that you gave for its sectors, in order, and its end goes after all of them. The end of a write goes after you
  *     stored exactly the bytes that came, at its sectors, and, if it is to last, after you answered a flush that was asked for after
- *     that. Requests that are out share no sector, unless they are loads. No two have one number. While a command that moves sectors
- *     is under way, GEF_NOTHING and GEF_EVENT_NOTHING together say that an answer of yours or Data of the host are owed.
+ *     that. No request is for a sector that the disk does not have. Requests that are out share no sector, unless they are loads. No
+ *     two have one number. While a command that moves sectors is under way, GEF_NOTHING and GEF_EVENT_NOTHING together say that an
+ *     answer of yours or Data of the host are owed.
  *   - A gef_machine makes moves, each by one part's own rule, or by those of the two between which a FIS goes (`ahci_machine`). A
  *     register reads what `ahci_controller` says, and a write leaves what it says; a disk at a port does what `sata_disk` says; FISes
- *     pass the multiplier as above. What gef_machine_next says is what the last of its moves asks. The laws of the controller
- *     (`controller_laws`) hold of its calls in a machine: bytes of a Data FIS go only to places that the command's table named as you
- *     gave it, in order, each once; a command's bit falls only by an end that its own device sent, or by a stop or a reset.
+ *     pass the multiplier as above. What gef_machine_next says is what the last of its moves asks; GEF_EVENT_NOTHING comes only where
+ *     no part can move, and you know how the line stands. The laws of the controller (`controller_laws`) hold of its calls in a
+ *     machine: bytes of a Data FIS go only to places that the command's table named as you gave it, in order, each once; a command's
+ *     bit falls only by an end that its own device sent, or by a stop or a reset.
  *
  * Not proved but tested: the words of gef_fis_text; that the fields of a gef_event are those that the library says; that drivers of
  * operating systems work with the machine (guests/RESULTS.md says which did). Not claimed: that anything happens in the end, or how

@@ -1,11 +1,11 @@
 -- What the calls on a disk do, by its rules (ACS-3; Serial ATA 3.x, native command queuing).
-use Rattle.std.specs.{Bool.MatchBool, Prelude.{◌≡◌, ◌≢◌, ℕ, zero, suc, ◌<◌, ◌==◌, ◌&&◌, ◌⊎◌, Bool, true, false, List, Option, Some, None}}
-use Rattle.std.specs.Prelude.{MatchOption}
+use Rattle.std.specs.{Bool.MatchBool, Prelude.{◌≡◌, ◌≢◌, ℕ, zero, suc, ◌<◌, ◌≤◌, ◌==◌, ◌&&◌, ◌⊎◌, Bool, true, false, List, Option, Some, None}}
+use Rattle.std.specs.{List.All, Prelude.{IfSome, MatchOption}}
 use Rattle.fis_view.specs.{Frames.is_frame, Seen.seen}
 use Rattle.block_engine.specs.Engine.{EngineState, IsEngineStart, IsRequested, answer_refusal, answered, discarded_at, started, stored_at}
 use Rattle.block_engine.specs.declared.request.{Answer.{Answer, TheVariants.Failed}, Request.Request}
-use Rattle.sata_disk.specs.{Hearing.{MayHear, fis_heard, fis_unheard, plugged}, Sending.{IsFis, IsOut, after_sent}, State.DiskState}
-use Rattle.sata_disk.specs.declared.out.Out.{Out}
+use Rattle.sata_disk.specs.{Hearing.{MayHear, fis_heard, fis_unheard, plugged}, Sending.{IsFis, IsOut, after_sent}, declared.out.Out.Out}
+use Rattle.sata_disk.specs.State.{AsksWithin, DiskState, IsWithin, sectors_of}
 use Rattle.gefsunk.specs.{Media.{IsLoaded, PieceRule, RangeRule, error_of, medium_shown, misfit_of, place_named, plain}, declared.event.Event.Event}
 use Rattle.gefsunk.specs.declared.{event.MediumRequest.MediumRequest, medium.SectorRange.SectorRange, status.Status.Status}
 use Rattle.gefsunk.specs.declared.status.Status.TheVariants as status
@@ -41,11 +41,11 @@ pub record Speaks (d : DiskState) : Type 0 where
   pub out : Out
   pub next : IsOut d (Some out)
 
--- the next FIS for the host; the room must hold the longest FIS
+-- the next FIS for the host; the room must hold the longest FIS, whatever is next
 abbrev pub DiskToHost : DiskState → (room : ℕ) → Status → List ℕ → DiskState → Type 0
-DiskToHost old room status.Done fis new = Sends old fis new
-DiskToHost old room status.Nothing fis new = IsOut old None × (new ≡ old)
-DiskToHost old room status.NoMemory fis new = Speaks old × (new ≡ old)
+DiskToHost old room status.Done fis new = (8196 ≤ room) × Sends old fis new
+DiskToHost old room status.Nothing fis new = (8196 ≤ room) × IsOut old None × (new ≡ old)
+DiskToHost old room status.NoMemory fis new = (8196 ≤ room) × Speaks old × (new ≡ old)
 DiskToHost old room status.TooShort fis new = (room < 8196) × (new ≡ old)
 DiskToHost old room _ fis new = ⊥
 
@@ -87,6 +87,8 @@ pub record Asks (old : DiskState) (event : Event) (new : DiskState) : Type 0 whe
   pub starts : StartsAll old middle
   pub asked : Option Request
   pub asks : IsRequested middle.engine new.engine asked
+  -- for no sector that the disk does not have
+  pub within : IfSome asked (λ r. AsksWithin (sectors_of middle) r.what)
   pub others : new ≡ with_engine middle new.engine
   pub is : event ≡ asked_event asked
 
@@ -134,9 +136,10 @@ DiskStored d r from room answer got =
     (MatchOption (place_named r) (answer ≡ status.OtherKind) (λ p. PieceRule (stored_at d.engine p r.number) from room answer got))
     (answer ≡ status.NotOut)
 
--- and so are the sectors of a discard
+-- and so are the sectors of a discard, all of which the disk has
 abbrev pub DiskDiscarded : DiskState → MediumRequest → (number : ℕ) → Status → SectorRange → Type 0
 DiskDiscarded d r number answer got =
     MatchBool (is_own r)
-    (MatchOption (discarded_at d.engine r.number) (answer ≡ status.NotOut) (λ ranges. RangeRule ranges number answer got))
+    (MatchOption (discarded_at d.engine r.number) (answer ≡ status.NotOut)
+    (λ ranges. RangeRule ranges number answer got × All (IsWithin (sectors_of d)) ranges))
     (answer ≡ status.NotOut)

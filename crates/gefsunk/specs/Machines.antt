@@ -7,9 +7,10 @@ use Rattle.sata_disk.specs.State.{DiskState}
 use Rattle.ahci_controller.specs.{Wide.read_wide, declared.access.Width.{Width, TheVariants.{Byte, Word, Dword, Qword}}}
 use Rattle.ahci_controller.specs.declared.wide.WideWritten.{WideWritten}
 use Rattle.ahci_machine.specs.{Acts.{Asks, Moves, unlent}, Answers.{AnswersMachine, MissesMachine, OffersFrame, SuppliesMachine, TakesFrame}}
-use Rattle.ahci_machine.specs.{Answers.{discarded_of, stored_of}, Ports.{PlugsMachine, PullsMachine, Puts, Removes}, Registers.WritesMachine}
-use Rattle.ahci_machine.specs.{Registers.{lent_bytes, powered}, States.{IsOpeningMachine, MachineState}, declared.answers.MediumError.MediumError}
-use Rattle.ahci_machine.specs.declared.{answers.Told.Told, bay.Unit.{Unit as Inside, TheVariants.Disk}, ports.PortFault.PortFault}
+use Rattle.ahci_machine.specs.{Answers.{discarded_of, stored_of}, Ports.{PlugsMachine, PullsMachine, Puts, Removes}, Resting.EndsAtRest}
+use Rattle.ahci_machine.specs.{Registers.{WritesMachine, lent_bytes, powered}, States.{IsOpeningMachine, MachineState}}
+use Rattle.ahci_machine.specs.declared.{answers.{MediumError.MediumError, Told.Told}, bay.Unit.{Unit as Inside, TheVariants.Disk}}
+use Rattle.ahci_machine.specs.declared.ports.PortFault.{PortFault}
 use Rattle.ahci_machine.specs.declared.request.{MediumId.MediumId, Request.Request, Wanted.{Wanted, TheVariants.{Command, Data}}}
 use Rattle.ahci_machine.specs.declared.answers.MediumError.TheVariants as medium
 use Rattle.ahci_machine.specs.declared.ports.PortFault.TheVariants as fault
@@ -115,6 +116,8 @@ event_of (request.Begins port) lent = record (plain 11) { port = port }
 pub record Nexts (old : MachineState) (event : Event) (new : MachineState) : Type 0 where
   pub asked : Request
   pub asks : Asks (unlent old) asked new
+  -- nothing is asked only by one at rest, which moves led to
+  pub rests : asked ≡ request.Nothing → EndsAtRest (unlent old) new
   pub is : event ≡ event_of asked (length (lent_bytes new))
 
 -- where memory is refused, some moves may have been made, none of which asks anything of the caller
@@ -126,7 +129,7 @@ NextRule old _ event new = ⊥
 -- ---- bytes of the guest
 
 abbrev pub LentRule : MachineState → (room : ℕ) → Status → List ℕ → Type 0
-LentRule m room status.Done got = (got ≡ lent_bytes m) × (length got ≤ room)
+LentRule m room status.Done got = (got ≡ lent_bytes m) × (0 < length got) × (length got ≤ room)
 LentRule m room status.TooShort got = room < length (lent_bytes m)
 LentRule m room status.Nothing got = lent_bytes m ≡ []
 LentRule m room _ got = ⊥

@@ -1,7 +1,7 @@
 -- What the calls on a multiplier do, by the rules of the multiplier (Serial ATA 3.x, 16.3). C does not see
 -- stamps: a FIS of the host has an empty one, and a FIS of a device has the connection that its port counted.
-use Rattle.std.specs.Prelude.{◌≡◌, ◌≢◌, ℕ, ◌+◌, ◌<◌, ◌==◌, if◌then◌else◌, min, Bool, true, false, List, replicate, slice_index, slice_set, Some, None}
-use Rattle.std.specs.Prelude.{Result, Ok, Err}
+use Rattle.std.specs.Prelude.{◌≡◌, ◌≢◌, ℕ, ◌+◌, ◌<◌, ◌≤◌, ◌==◌, if◌then◌else◌, min, Bool, true, false, List, replicate, slice_index, slice_set, Some}
+use Rattle.std.specs.Prelude.{None, Result, Ok, Err}
 use Rattle.fis_view.specs.{Frames.{Stamped, is_frame}, declared.frame.{Stamp.Stamp, FrameError.FrameError}}
 use Rattle.fis_view.specs.declared.frame.FrameError.TheVariants as frame_error
 use Rattle.multiplier.specs.{Arbiter.control_port, Rules.{FromDeviceRule, FromHostRule, CameRule, GoneRule, NextDownRule, NextUpRule}}
@@ -60,6 +60,10 @@ of_device pm port fis = record {
 abbrev pub KeepsSeats : Pm → Pm → Type 0
 KeepsSeats old new = (new.last ≡ old.last) × (new.seated ≡ old.seated)
 
+-- all but the multiplier stays
+abbrev pub KeepsRest : Pm → Pm → Type 0
+KeepsRest old new = KeepsSeats old new × (new.given ≡ old.given)
+
 -- the connection after the last one of a port; the largest number stays there
 abbrev pub next_connection : Pm → ℕ → ℕ
 next_connection pm port = min (slice_index pm.last port + 1) 4294967295
@@ -70,15 +74,15 @@ Plug old port status.Done new =
     has_port old port
     × CameRule old.multiplier port (next_connection old port) (Ok tt) new.multiplier
     × (new.last ≡ slice_set old.last port (next_connection old port))
-    × (new.seated ≡ slice_set old.seated port (next_connection old port))
+    × (new.seated ≡ slice_set old.seated port (next_connection old port)) × (new.given ≡ old.given)
 Plug old port status.AlreadyThere new =
     has_port old port
     × CameRule old.multiplier port (next_connection old port) (Err port_error.AlreadyThere) new.multiplier
-    × KeepsSeats old new
+    × KeepsRest old new
 Plug old port status.Spent new =
     has_port old port
     × CameRule old.multiplier port (next_connection old port) (Err port_error.OldConnection) new.multiplier
-    × KeepsSeats old new
+    × KeepsRest old new
 Plug old port status.NoPort new = (has_port old port → ⊥) × (new ≡ old)
 Plug old port _ new = ⊥
 
@@ -87,11 +91,11 @@ abbrev pub Unplug : Pm → ℕ → Status → Pm → Type 0
 Unplug old port status.Done new =
     has_port old port
     × GoneRule old.multiplier port (slice_index old.seated port) (Ok tt) new.multiplier
-    × (new.last ≡ old.last) × (new.seated ≡ slice_set old.seated port 0)
+    × (new.last ≡ old.last) × (new.seated ≡ slice_set old.seated port 0) × (new.given ≡ old.given)
 Unplug old port status.NotThere new =
     has_port old port
     × GoneRule old.multiplier port (slice_index old.seated port) (Err gone_error.NotThere) new.multiplier
-    × KeepsSeats old new
+    × KeepsRest old new
 Unplug old port status.NoPort new = (has_port old port → ⊥) × (new ≡ old)
 Unplug old port _ new = ⊥
 
@@ -104,14 +108,14 @@ taken_by frame =
 abbrev pub FromHost : Pm → List ℕ → Status → Pm → Type 0
 FromHost old fis status.Done new =
     (is_frame fis ≡ true)
-    × FromHostRule old.multiplier (of_host fis) (taken_by (of_host fis)) new.multiplier × KeepsSeats old new
+    × FromHostRule old.multiplier (of_host fis) (taken_by (of_host fis)) new.multiplier × KeepsRest old new
 FromHost old fis status.Dropped new =
     (is_frame fis ≡ true)
-    × FromHostRule old.multiplier (of_host fis) (Ok passed.Dropped) new.multiplier × KeepsSeats old new
+    × FromHostRule old.multiplier (of_host fis) (Ok passed.Dropped) new.multiplier × KeepsRest old new
 FromHost old fis status.Full new =
     (is_frame fis ≡ true)
     × FromHostRule old.multiplier (of_host fis) (Err (of_host fis, refusal.HoldFull)) new.multiplier
-    × KeepsSeats old new
+    × KeepsRest old new
 FromHost old fis status.BadLength new = (is_frame fis ≡ false) × (new ≡ old)
 FromHost old fis status.NoMemory new = (is_frame fis ≡ true) × (new ≡ old)
 FromHost old fis _ new = ⊥
@@ -121,16 +125,16 @@ abbrev pub FromDevice : Pm → ℕ → List ℕ → Status → Pm → Type 0
 FromDevice old port fis status.Done new =
     has_port old port × (slice_index old.seated port ≢ 0) × (is_frame fis ≡ true)
     × FromDeviceRule old.multiplier port (of_device old port fis) (Ok offered.Held) new.multiplier
-    × KeepsSeats old new
+    × KeepsRest old new
 FromDevice old port fis status.Dropped new =
     has_port old port × (slice_index old.seated port ≢ 0) × (is_frame fis ≡ true)
     × FromDeviceRule old.multiplier port (of_device old port fis) (Ok offered.Dropped) new.multiplier
-    × KeepsSeats old new
+    × KeepsRest old new
 FromDevice old port fis status.Full new =
     has_port old port × (slice_index old.seated port ≢ 0) × (is_frame fis ≡ true)
     × FromDeviceRule old.multiplier port (of_device old port fis)
     (Err (of_device old port fis)) new.multiplier
-    × KeepsSeats old new
+    × KeepsRest old new
 FromDevice old port fis status.BadLength new =
     has_port old port × (slice_index old.seated port ≢ 0) × (is_frame fis ≡ false) × (new ≡ old)
 FromDevice old port fis status.NoMemory new =
@@ -140,15 +144,16 @@ FromDevice old port fis status.NotThere new =
 FromDevice old port fis status.NoPort new = (has_port old port → ⊥) × (new ≡ old)
 FromDevice old port fis _ new = ⊥
 
--- the next FIS for the host: its bytes and its port; the room must hold the longest FIS
+-- the next FIS for the host: its bytes and its port; the room must hold the longest FIS, whatever is next
 abbrev pub ToHost : Pm → ℕ → Status → List ℕ → ℕ → Pm → Type 0
 ToHost old room status.Done fis port new =
-    NextUpRule old.multiplier (Ok (Some (record { bytes = fis; stamp = new.given }))) new.multiplier
+    (8196 ≤ room) × NextUpRule old.multiplier (Ok (Some (record { bytes = fis; stamp = new.given }))) new.multiplier
     × (port ≡ state.pm_port (record { bytes = fis; stamp = new.given }))
     × KeepsSeats old new
-ToHost old room status.Nothing fis port new = NextUpRule old.multiplier (Ok None) new.multiplier × (new ≡ old)
+ToHost old room status.Nothing fis port new =
+    (8196 ≤ room) × NextUpRule old.multiplier (Ok None) new.multiplier × (new ≡ old)
 ToHost old room status.NoMemory fis port new =
-    (state.next_place old.multiplier ≡ Some control_port) × (old.multiplier.registers.due ≡ true)
+    (8196 ≤ room) × (state.next_place old.multiplier ≡ Some control_port) × (old.multiplier.registers.due ≡ true)
     × (new ≡ old)
 ToHost old room status.TooShort fis port new = (room < 8196) × (new ≡ old)
 ToHost old room _ fis port new = ⊥
@@ -156,11 +161,11 @@ ToHost old room _ fis port new = ⊥
 -- the FIS that waits for the device at a port
 abbrev pub ToDevice : Pm → ℕ → ℕ → Status → List ℕ → Pm → Type 0
 ToDevice old port room status.Done fis new =
-    has_port old port
+    has_port old port × (8196 ≤ room)
     × NextDownRule old.multiplier port (Some (record { bytes = fis; stamp = new.given })) new.multiplier
     × KeepsSeats old new
 ToDevice old port room status.Nothing fis new =
-    has_port old port × NextDownRule old.multiplier port None new.multiplier × (new ≡ old)
+    has_port old port × (8196 ≤ room) × NextDownRule old.multiplier port None new.multiplier × (new ≡ old)
 ToDevice old port room status.TooShort fis new = has_port old port × (room < 8196) × (new ≡ old)
 ToDevice old port room status.NoPort fis new = (has_port old port → ⊥) × (new ≡ old)
 ToDevice old port room _ fis new = ⊥
