@@ -1,8 +1,9 @@
 //! What is next to do.
 
-ghost use Rattle.std.specs.Prelude.{◌≡◌, ◌<◌, true, slice_get, IfSome};
+ghost use Rattle.std.specs.Prelude.{◌≡◌, ◌<◌, None, false, true, slice_get, IfSome};
 ghost use Rattle.hba_fbs.specs.Choosing.{may_feed as may_feed_device, may_order as may_order_slot};
 ghost use Rattle.ahci_controller.specs.Next.{FeedsTo, Frames, GoesIf, OrdersSlot, Reads, RestsNow, RunsNow, StartsUp, Turns, after_count as after_count_of, after_rest as after_rest_of, counted_slot as counted_slot_of, cursors_for, fed as fed_of, is_fed as is_fed_of, is_halted as is_halted_of, left as left_of, may_start as may_start_of, next_device as next_device_of, next_read as next_read_of, next_slot as next_slot_of, next_write as next_write_of, payload_step, rest as rest_of, run_of, writes_next};
+ghost use Rattle.ahci_controller.specs.Taking.{is_any as is_any_of};
 
 mod saved;
 
@@ -187,6 +188,15 @@ impl Parts {
             Some(command) => Some(Next::Counted(count(command))),
             None => None,
         }
+    }
+
+    /// Whether something is to be written to the guest.
+    #[tactic(auto, using(crate::proofs::WrittenLemmas::nothing_next))]
+    pub(crate) fn has_writes(&self) -> bool
+        ensures any { result ≡ is_any_of self.now.writes }
+        ensures none { result ≡ false → next_write_of self.now ≡ None }
+    {
+        self.writes.is_any()
     }
 
     /// What is next to be written to the guest.

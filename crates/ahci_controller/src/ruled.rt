@@ -1,6 +1,6 @@
 //! The controller, whose parts keep their rules between its calls.
 
-ghost use Rattle.std.specs.Prelude.{◌≡◌, ◌<◌, IfOk, OnErr};
+ghost use Rattle.std.specs.Prelude.{◌≡◌, ◌<◌, None, false, IfOk, OnErr};
 ghost use Rattle.std.specs.Result.{result_err};
 ghost use Rattle.port_errors.specs.Errors.{AreErrors};
 ghost use Rattle.slots.specs.Table.{IsTable};
@@ -12,7 +12,7 @@ ghost use Rattle.ahci_controller.specs.Next.{Turns, next_write as next_write_of,
 ghost use Rattle.ahci_controller.specs.Opening.{IsOpening};
 ghost use Rattle.ahci_controller.specs.Reading.{read_at};
 ghost use Rattle.ahci_controller.specs.Rules.{IsRuled};
-ghost use Rattle.ahci_controller.specs.Taking.{Hears, hindrance as hindrance_of};
+ghost use Rattle.ahci_controller.specs.Taking.{Hears, hindrance as hindrance_of, is_any as is_any_of};
 ghost use Rattle.ahci_controller.specs.Wide.{WritesAt, WritesWide, read_wide};
 
 mod saved;
@@ -142,6 +142,14 @@ impl Controller {
     {
         self.parts.keeps_rules();
         self.parts.take(frame)
+    }
+
+    /// Whether something is to be written to the guest: without it [`next_write`](Controller::next_write) has nothing.
+    pub fn has_writes(&self) -> bool
+        ensures any { result ≡ is_any_of self.now.writes }
+        ensures none { result ≡ false → next_write_of self.now ≡ None }
+    {
+        self.parts.has_writes()
     }
 
     /// What is next to be written to the guest; None where nothing is left. [`next`](Controller::next) answers it before anything
