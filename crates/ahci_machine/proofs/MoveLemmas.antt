@@ -1,39 +1,51 @@
 -- Moves one after another.
-use Rattle.std.proofs.Common.{◌≡◌, ℕ, arith, inr, suc, Option, None, Some, Result, Ok, Bool, true, refl, ap, subst, ◌∙◌, sym, inl}
+use Rattle.std.proofs.Common.{◌≡◌, ◌+◌, ℕ, arith, inr, suc, Option, None, Some, Result, Ok, Bool, true, refl, ap, subst, ◌∙◌, sym, inl}
 use Rattle.std.proofs.lemmas.Bool.{cases_lt}
 use Rattle.std.specs.{Prelude.{IfNone, min}, declared.alloc.AllocError.AllocError}
 use Rattle.fan_out.specs.FanOuts.{port_count}
-use Rattle.ahci_machine.specs.{Resting.{ArePortsQuiet, ArePortsQuietIn}, Acts.{MayDo, MayStep, Moves, Steps, StepsBy, TurnsNext, moves, turned}}
+use Rattle.ahci_machine.specs.{Resting.{ArePortsQuiet, ArePortsQuietIn}, Acts.{Asks, MayDo, MayStep, Moves, Steps, StepsBy, TurnsNext, budget, moves, turned}}
 use Rattle.ahci_machine.specs.{Asked.request_of, States.MachineState, declared.act.Act.Act}
 use Rattle.ahci_machine.specs.declared.act.Act.TheVariants as act
+use Rattle.ahci_machine.specs.declared.request.Request.TheVariants as request
 use Rattle.slots.specs.Table.{IsTable}
 use Rattle.hba_fbs.specs.Views.{IsCorePort}
 use Rattle.ahci_controller.specs.{Rules.IsRuled, declared.next.Next.Next}
 
-pub no_moves : (m : MachineState) → Moves m m
+pub no_moves : (m : MachineState) → StepsBy 0 m m
 unfolding StepsBy
-no_moves m = record { count = 0; steps = refl }
+no_moves m = refl
 
-pub one_more : (old middle new : MachineState) (a : Act) → Moves old middle → Steps middle a new → request_of a ≡ None
-    → IsCorePort new.controller.core → IsTable new.controller.core.slots → IsRuled new.controller → Moves old new
+with_one : (count : ℕ) (old middle new : MachineState) (a : Act) → StepsBy count old middle → Steps middle a new → request_of a ≡ None
+    → IsCorePort new.controller.core → IsTable new.controller.core.slots → IsRuled new.controller → StepsBy (suc count) old new
 unfolding StepsBy
-one_more old middle new a so_far step quiet port slots rules = record {
-  count = suc so_far.count;
-  steps = record {
-    middle = middle;
-    act = a;
-    before = so_far.steps;
-    quiet = quiet;
-    last = step;
-    rules = record { port = port; slots = slots; rules = rules };
-  };
+with_one count old middle new a so_far step quiet port slots rules = record {
+  middle = middle;
+  act = a;
+  before = so_far;
+  quiet = quiet;
+  last = step;
+  rules = record { port = port; slots = slots; rules = rules };
 }
+
+behind : (n : ℕ) → suc n ≡ n + 1
+behind n = grind arith
+
+pub one_more : (count : ℕ) (old middle new : MachineState) (a : Act) → StepsBy count old middle → Steps middle a new → request_of a ≡ None
+    → IsCorePort new.controller.core → IsTable new.controller.core.slots → IsRuled new.controller → StepsBy (count + 1) old new
+one_more count old middle new a so_far step quiet port slots rules =
+    subst (λ (n : ℕ). StepsBy n old new) (behind count) (with_one count old middle new a so_far step quiet port slots rules)
+
+pub counted : (count : ℕ) (old new : MachineState) → StepsBy count old new → Moves old new
+counted count old new steps = record { count = count; steps = steps }
+
+pub again : (count : ℕ) (old new : MachineState) → StepsBy count old new → count ≡ budget → Asks old request.Again new
+again count old new steps all = inr (refl, subst (λ (n : ℕ). StepsBy n old new) all steps)
 
 -- the controller has its turn before the ports
 pub turns_first : (old new : MachineState) (said : Next) (first : Bool) → TurnsNext said (record old { first = first }) new → Steps old (act.Turns said) new
 turns_first old new said first h = record {
   middle = record new { first = old.first };
-  does = record { none = h.none; turns = h.turns; rest = ap (λ (m : MachineState). record m { first = old.first }) h.rest };
+  does = record { none = h.none; written = record { rests = h.written.rests; none = h.written.none }; turns = h.turns; rest = ap (λ (m : MachineState). record m { first = old.first }) h.rest };
   turns = refl;
 }
 

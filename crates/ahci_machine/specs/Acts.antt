@@ -5,7 +5,7 @@ use Rattle.std.specs.{Prelude.{None, is_some, Ok, MatchOption}, Int.{to_le_bytes
 use Rattle.fis_view.specs.Frames.{IsFrame, Stamped}
 use Rattle.multiplier.specs.declared.multiplier.Passed.{Passed}
 use Rattle.ahci_controller.specs.{Feeding.{Gathers, MissesData}, Latch.raised, Next.{Turns, next_write, written}, States.ControllerState}
-use Rattle.ahci_controller.specs.{Taking.{Hears, hindrance}, declared.{feeding.Fed.Fed, next.Next.Next, taking.{Hindrance.Hindrance, Took.Took}}}
+use Rattle.ahci_controller.specs.{Taking.{Hears, hindrance, is_any}, declared.{feeding.Fed.Fed, next.Next.Next, taking.{Hindrance.Hindrance, Took.Took}}}
 use Rattle.ahci_controller.specs.declared.feeding.Fed.TheVariants as fed
 use Rattle.ahci_controller.specs.declared.next.Next.TheVariants as next
 use Rattle.ahci_controller.specs.declared.taking.Hindrance.TheVariants as hindered
@@ -34,15 +34,24 @@ lent_by (next.Posted m) = lent.Frame m.from m.len
 lent_by (next.Counted c) = lent.Count (to_le_bytes w32 c.value)
 lent_by other = lent.Nothing
 
+-- something may be to be written to the guest
+abbrev pub may_write : MachineState → Bool
+may_write m = m.writing || is_any m.controller.writes
+
+-- nothing is
+pub record HasWritten (m : MachineState) : Type 0 where
+  pub rests : may_write m ≡ false
+  pub none : next_write m.controller ≡ None
+
 -- bytes go to the guest
 pub record Writes (write : Next) (old new : MachineState) : Type 0 where
-  pub due : old.writing ≡ true
+  pub due : may_write old ≡ true
   pub next : next_write old.controller ≡ Some write
   pub rest : new ≡ record old { controller = written old.controller; lent = lent_by write }
 
 -- all of them went: the frame that they came with is dropped
 pub record LetsGo (old new : MachineState) : Type 0 where
-  pub due : old.writing ≡ true
+  pub due : may_write old ≡ true
   pub none : next_write old.controller ≡ None
   pub rest : new ≡ record old {
     controller = written old.controller;
@@ -56,8 +65,10 @@ abbrev pub kept_of : Next → Option Next
 kept_of next.Nothing = None
 kept_of other = Some other
 
+-- behind all that is to be written to the guest, so it says no write
 pub record TurnsNext (said : Next) (old new : MachineState) : Type 0 where
   pub none : old.kept ≡ None
+  pub written : HasWritten old
   pub turns : Turns old.controller said new.controller
   pub rest : new ≡ record old { controller = new.controller; kept = kept_of said }
 
@@ -209,8 +220,8 @@ abbrev pub Does : MachineState → Act → MachineState → Type 0
 Does old act.Rests new = RestsNow old new
 Does old (act.Writes write) new = Writes write old new
 Does old act.LetsGo new = LetsGo old new
-Does old (act.Line line) new = ((line ≡ raised old.controller.latch) × (old.writing ≡ false)) × (line ≢ old.told) × (new ≡ record old { told = line })
-Does old act.Message new = ((old.message ≡ true) × (old.writing ≡ false)) × (new ≡ record old { message = false })
+Does old (act.Line line) new = ((line ≡ raised old.controller.latch) × HasWritten old) × (line ≢ old.told) × (new ≡ record old { told = line })
+Does old act.Message new = ((old.message ≡ true) × HasWritten old) × (new ≡ record old { message = false })
 Does old (act.Turns said) new = TurnsNext said old new
 Does old (act.Does said) new = DoesNext said old new
 Does old (act.Sends passed) new = SendsNext passed old new
@@ -276,7 +287,7 @@ pub record Moves (old new : MachineState) : Type 0 where
   pub count : ℕ
   pub steps : StepsBy count old new
 
--- moves that ask nothing, and then one that asks this; or the budget is spent
+-- moves that ask nothing, and then one that asks this
 pub record AsksAtLast (old : MachineState) (asked : Request) (new : MachineState) : Type 0 where
   pub middle : MachineState
   pub act : Act
@@ -284,5 +295,10 @@ pub record AsksAtLast (old : MachineState) (asked : Request) (new : MachineState
   pub last : Steps middle act new
   pub is : request_of act ≡ Some asked
 
+-- the most moves of a call
+abbrev pub budget : ℕ
+budget = 64
+
+-- or the budget is spent
 abbrev pub Asks : MachineState → Request → MachineState → Type 0
-Asks old asked new = AsksAtLast old asked new ⊎ ((asked ≡ request.Again) × Moves old new)
+Asks old asked new = AsksAtLast old asked new ⊎ ((asked ≡ request.Again) × StepsBy budget old new)

@@ -8,7 +8,7 @@ use Rattle.ahci_controller.specs.declared.next.Next.TheVariants as next
 use Rattle.block_engine.specs.Engine.{AsksNothing, IsEngineStart}
 use Rattle.fan_out.specs.{FanOuts.{GivesDownThere, GivesUpThere, Sends, Tells, port_count, wants_at}, declared.fan_out.FanOut.FanOut}
 use Rattle.sata_disk.specs.{Sending.IsOut, State.DiskState}
-use Rattle.ahci_machine.specs.{Acts.{Moves, Steps}, Gathers.GatheringState, States.{MachineState, bay_at, gathering_at}}
+use Rattle.ahci_machine.specs.{Acts.{HasWritten, Moves, Steps}, Gathers.GatheringState, States.{MachineState, bay_at, gathering_at}}
 use Rattle.ahci_machine.specs.declared.{act.Act.TheVariants.Rests, bay.{Bay.Bay, Unit.{Unit as Inside, TheVariants.{Disk, Own}}}}
 
 -- ---- the interrupt
@@ -131,7 +131,7 @@ abbrev pub NothingIsSaid : MachineState → Type 0
 NothingIsSaid m = m.kept ≡ None → (after : ControllerState) × Turns m.controller next.Nothing after
 
 pub record IsAtRest (m : MachineState) : Type 0 where
-  pub written : m.writing ≡ false
+  pub written : HasWritten m
   pub told : IsToldAll m
   pub carried : IsCarried m
   pub ports : ArePortsQuiet m

@@ -1,8 +1,8 @@
 //! What the controller has to do.
 
-ghost use Rattle.std.specs.Prelude.{◌≡◌, ◌<◌, false, None, Some, IfNone, IfOk, IfSome, OnErr, OnOk, slice_set};
+ghost use Rattle.std.specs.Prelude.{◌≡◌, ◌<◌, None, Some, IfNone, IfOk, IfSome, OnErr, OnOk, slice_set};
 ghost use Rattle.std.specs.Option.{option_map};
-ghost use Rattle.ahci_machine.specs.Acts.{AwaitsAt, GathersBy, MayDo, MissesOf, TurnsNext, feeding, lent_by};
+ghost use Rattle.ahci_machine.specs.Acts.{AwaitsAt, GathersBy, HasWritten, MayDo, MissesOf, TurnsNext, feeding, lent_by};
 ghost use Rattle.ahci_machine.specs.Gathers.{asked_for, host_stamp as host_stamp_of};
 ghost use Rattle.ahci_machine.specs.Resting.{IsToldAll, NoneGathers, NoneGoes, NoneIsTaken, NoneRises, NothingIsDone};
 ghost use Rattle.ahci_machine.specs.States.{gathering_at};
@@ -34,9 +34,9 @@ impl Machine {
     /// What is to be written to the guest for the frame that was taken last, and for bytes that moved.
     pub(crate) fn write_next(&mut self) -> Option<Act>
         ensures does { MayDo self.old result self.new }
-        ensures none { IfNone result (self.old.writing ≡ false) }
+        ensures none { IfNone result (HasWritten self.old) }
     {
-        if !self.writing {
+        if !self.writing && !self.controller.has_writes() {
             return None;
         }
         match self.controller.next_write() {
@@ -57,7 +57,7 @@ impl Machine {
 
     /// What the caller is to know of the interrupt, once nothing is to be written to the guest.
     pub(crate) fn tell_next(&mut self) -> Option<Act>
-        requires { self.old.writing ≡ false }
+        requires { HasWritten self.old }
         ensures does { MayDo self.old result self.new }
         ensures none { IfNone result (IsToldAll self.old) }
     {
@@ -75,7 +75,8 @@ impl Machine {
 
     /// What the controller says to do next.
     pub(crate) fn turn_next(&mut self) -> Next
-        requires { self.old.kept ≡ None }
+        requires kept { self.old.kept ≡ None }
+        requires written { HasWritten self.old }
         ensures { TurnsNext result self.old self.new }
     {
         let next = self.controller.next();

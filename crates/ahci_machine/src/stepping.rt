@@ -1,7 +1,7 @@
 //! What is next to do.
 
-ghost use Rattle.std.specs.Prelude.{◌≡◌, ◌<◌, ℕ, false, IfNone, IfOk, Ok, OnErr};
-ghost use Rattle.ahci_machine.specs.Acts.{Asks, MayDo, MayStep, Moves, Steps, unlent};
+ghost use Rattle.std.specs.Prelude.{◌≡◌, ◌<◌, ℕ, IfNone, IfOk, Ok, OnErr};
+ghost use Rattle.ahci_machine.specs.Acts.{Asks, HasWritten, MayDo, MayStep, Moves, Steps, unlent};
 ghost use Rattle.ahci_machine.specs.Resting.{EndsAtRest, IsAtRest, IsCarried, IsToldAll, NoneGathers, NothingIsSaid};
 ghost use Rattle.ahci_machine.specs.declared.act.Act.TheVariants.{Rests};
 ghost use Rattle.ahci_machine.specs.declared.request.Request.TheVariants.{Nothing};
@@ -44,7 +44,7 @@ impl Machine {
     // What comes before all else: writes to the guest, and the line.
     fn urgent(&mut self) -> Option<Act>
         ensures does { MayDo self.old result self.new }
-        ensures written { IfNone result (self.old.writing ≡ false) }
+        ensures written { IfNone result (HasWritten self.old) }
         ensures told { IfNone result (IsToldAll self.old) }
     {
         if let Some(act) = self.write_next() {
@@ -129,6 +129,7 @@ impl Machine {
 
     // What the controller has to do, where it was noticed to.
     fn turn_likely(&mut self) -> Option<Act>
+        requires { HasWritten self.old }
         ensures { MayStep self.old result self.new }
     {
         if !self.hints.turns || self.kept.is_some() {
@@ -140,6 +141,7 @@ impl Machine {
 
     // What was noticed to be next. The ports and the controller take turns.
     fn likely(&mut self, alloc: Global) -> Result<Option<Act>, AllocError>
+        requires { HasWritten self.old }
         ensures ok { IfOk result (λ act. MayStep self.old act self.new) }
         ensures err { OnErr result (self.new ≡ self.old) }
     {
@@ -163,6 +165,7 @@ impl Machine {
     // What the controller has to do, where nothing else is next.
     #[tactic(auto, using(crate::proofs::MoveLemmas::rests_same))]
     fn turn_last(&mut self) -> Act
+        requires { HasWritten self.old }
         ensures ok { Steps self.old result self.new }
         ensures said { result ≡ Rests → NothingIsSaid self.old }
     {
@@ -197,7 +200,7 @@ impl Machine {
     }
 
     /// Makes moves until one asks something of the caller, but at most 64. `Nothing` is asked only by a machine at rest.
-    #[tactic(auto, using(crate::proofs::MoveLemmas::no_moves, crate::proofs::MoveLemmas::one_more))]
+    #[tactic(auto, using(crate::proofs::MoveLemmas::no_moves, crate::proofs::MoveLemmas::one_more, crate::proofs::MoveLemmas::counted, crate::proofs::MoveLemmas::again))]
     pub fn next(&mut self, alloc: Global) -> Result<Request, AllocError>
         ensures ok { IfOk result (λ request. Asks (unlent self.old) request self.new) }
         ensures rests { result ≡ Ok Nothing → EndsAtRest (unlent self.old) self.new }

@@ -1,5 +1,5 @@
-use Rattle.ahci_machine.specs.Acts.{Moves, unlent}
+use Rattle.ahci_machine.specs.Acts.{StepsBy, unlent}
 use Rattle.ahci_machine.proofs.machine.Machine.next.Given as goal
 
 abbrev pub invariant-loop : goal.invariant-loop
-invariant-loop l = Moves (unlent l.fn.self) l.self
+invariant-loop l = StepsBy l.counter (unlent l.fn.self) l.self

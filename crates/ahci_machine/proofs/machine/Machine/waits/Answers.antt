@@ -1,4 +1,4 @@
-use Rattle.std.proofs.{Common.{◌<◌, length, sym, ap, subst, ◌∙◌, Option, Some, None, arith}, lemmas.List.{get_or_default}}
+use Rattle.std.proofs.{Common.{◌<◌, length, sym, ap, subst, ◌∙◌, Option, None, arith}, lemmas.List.{get_or_default}}
 use Rattle.std.specs.Prelude.{MatchOption, slice_index_or}
 use Rattle.ahci_machine.specs.{Acts.AwaitsAt, Gathers.{Awaits, GatheringState}, States.MachineState}
 use Rattle.ahci_machine.proofs.machine.Machine.waits.Goals as goal
