@@ -16,7 +16,7 @@ use Rattle.controller_laws.proofs.LineLemmas.{line_is}
 use Rattle.ahci_machine.specs.{Registers.lent_bytes, States.{HasRules, MachineState}}
 use Rattle.machine_laws.proofs.{Calls.{goes_on, ruled}, Due.{opens_due, stays_due}}
 use Rattle.machine_laws.specs.ControllerLaws.{AllFall, ControllerHasLaws, ControllerRuns, LinesAreShown, OpensLawful, RunsAreCalls, RunsRuled}
-use Rattle.machine_laws.specs.{ControllerLaws.{TurnsArePlaced, WritesArePlaced, calls_in}, Controllers.{GathersDue, deed_calls}, Deeds.Deed}
+use Rattle.machine_laws.specs.{ControllerLaws.{WritesArePlaced, calls_in}, Controllers.{GathersDue, deed_calls}, Deeds.Deed}
 
 -- the laws, as `controller_laws` has them
 pub record Laws : Type 0 where
@@ -127,11 +127,8 @@ writes law old write new h = record {
   lent = ap lent_bytes h.turns ∙ ap lent_bytes h.does.rest;
 }
 
-pub turns : places.WritesArePlaced → TurnsArePlaced
-turns law old said new h = law old.controller h.middle.controller said h.does.turns
-
 pub line_told : LinesAreShown
 line_told old line new h = (
   h.does.0.0 ∙ sym (line_is old.controller) ∙ ap (λ (m : MachineState). line_shown m.controller) (sym h.does.2) ∙ ap (λ (m : MachineState). line_shown m.controller) (sym h.turns),
-  ap (λ (m : MachineState). m.writing) h.turns ∙ ap (λ (m : MachineState). m.writing) h.does.2 ∙ h.does.0.1,
+  ap (λ (m : MachineState). next_write m.controller) h.turns ∙ ap (λ (m : MachineState). next_write m.controller) h.does.2 ∙ h.does.0.1.none,
 )

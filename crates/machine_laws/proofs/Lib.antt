@@ -7,6 +7,7 @@ pub mod Beside
 pub mod Due
 pub mod Calls
 pub mod Lawful
+pub mod NoWrites
 pub mod Framed
 pub mod Held
 pub mod RisFan

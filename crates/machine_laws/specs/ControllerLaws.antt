@@ -5,7 +5,8 @@ use Rattle.slots.specs.Slots.{has_bit}
 use Rattle.ahci_registers.specs.declared.register.Register.TheVariants.{PxCi, PxSact}
 use Rattle.hba_fbs.specs.Views.{last_command}
 use Rattle.hba_laws.specs.{CoreHistories.history_through, History.History}
-use Rattle.ahci_controller.specs.{Reading.shown, States.ControllerState, declared.next.Next.Next}
+use Rattle.ahci_controller.specs.{Next.next_write, Reading.shown, States.ControllerState, declared.next.Next.Next}
+use Rattle.ahci_controller.specs.declared.next.Next.TheVariants as next
 use Rattle.controller_laws.specs.{Active.ActiveFalls, Carrying.{AreSaid, Carrying, carrying_after}, CoreEvents.{AreCoreEvents, of_event}}
 use Rattle.controller_laws.specs.{Ends.{AreTold, Falls}, Events.Event, Interrupts.{GoesBy, IsLatched, edges_in, line_shown}, Places.IsWritten}
 use Rattle.controller_laws.specs.Sources.{AreSources, IsIssuedFrom, Source, Sources, command_of, no_sources, sources_after}
@@ -95,11 +96,18 @@ pub record WritesRightly (old : MachineState) (write : Next) (new : MachineState
 abbrev pub WritesArePlaced : Type 0
 WritesArePlaced = (old : MachineState) (write : Next) (new : MachineState) → Does old (Moved (act.Writes write)) new → WritesRightly old write new
 
--- and so is what it says to do next
-abbrev pub TurnsArePlaced : Type 0
-TurnsArePlaced = (old : MachineState) (said : Next) (new : MachineState) → Does old (Moved (act.Turns said)) new → IsWritten old.controller said
+-- bytes for the guest
+abbrev pub is_write : Next → Bool
+is_write (next.Payload m) = true
+is_write (next.Posted m) = true
+is_write (next.Counted c) = true
+is_write said = false
+
+-- what the controller says to do next is no such bytes: so all that it has for the guest is told to the caller
+abbrev pub TurnsWriteNothing : Type 0
+TurnsWriteNothing = (old : MachineState) (said : Next) (new : MachineState) → Does old (Moved (act.Turns said)) new → is_write said ≡ false
 
 -- the line that it is told is the one that IS and GHC.IE show, and nothing is to be written to the guest then
 abbrev pub LinesAreShown : Type 0
 LinesAreShown = (old : MachineState) (line : Bool) (new : MachineState) → Does old (Moved (act.Line line)) new
-    → (line ≡ line_shown new.controller) × (new.writing ≡ false)
+    → (line ≡ line_shown new.controller) × (next_write new.controller ≡ None)

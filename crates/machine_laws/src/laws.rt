@@ -1,6 +1,6 @@
 //! The laws.
 
-ghost use Rattle.machine_laws.specs.ControllerLaws.{ControllerHasLaws, LinesAreShown, OpensLawful, RunsAreCalls, TurnsArePlaced, WritesArePlaced};
+ghost use Rattle.machine_laws.specs.ControllerLaws.{ControllerHasLaws, LinesAreShown, OpensLawful, RunsAreCalls, TurnsWriteNothing, WritesArePlaced};
 ghost use Rattle.machine_laws.specs.Controllers.{ControllerGoesOn, OpensDue, StaysDue};
 ghost use Rattle.machine_laws.specs.Disks.{DisksAreReached, DisksGoOn, DisksHaveLaws, OpensReached};
 ghost use Rattle.machine_laws.specs.Lent.{CarriesTaken, FramesAreHeld, FramesAreLent, OpensHolding};
@@ -43,13 +43,14 @@ pub fn controller_goes_on()
 /// for a slot is its command; the bytes of Data go to the places of that command's table, each once, in order; a bit of PxCI
 /// falls only as its own device ends the command, or, of a queued one, answers it, and one of PxSACT as it names the command in Set Device
 /// Bits, or as a write stops or clears it; and the line goes as IS and GHC.IE show. What the caller is told to write, and the line that it
-/// is told, are of these; and the line is told only while nothing is to be written to the guest, so behind all bytes of the FIS that raised it.
+/// is told, are of these; no bytes for the guest are handed out but by such a write; and the line is told only while nothing is to be written
+/// to the guest, so behind all bytes of the FIS that raised it.
 pub fn controller_has_its_laws()
     ensures opens { OpensLawful }
     ensures runs { RunsAreCalls }
     ensures laws { ControllerHasLaws }
     ensures writes { WritesArePlaced }
-    ensures turns { TurnsArePlaced }
+    ensures turns { TurnsWriteNothing }
     ensures line { LinesAreShown }
 {
     controller_laws::events_are_core_events();

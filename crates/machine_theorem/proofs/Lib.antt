@@ -84,6 +84,7 @@ mod BroughtRead
 mod HostShut
 mod Idle
 mod Uncut
+mod ToldMoves
 mod WrittenBytes
 mod SinglesBrought
 mod SinglesSent

@@ -16,7 +16,8 @@ use Rattle.ahci_controller.specs.Writing.{WritesRegister, armed_by, link_effect,
 use Rattle.ahci_controller.specs.declared.{access.Width.Width, wide.WideWritten.WideWritten, writing.Written.Written}
 use Rattle.controller_laws.specs.{Carrying.{Carrying, carrying_after_call, cut_if, cut_wide, moves_in, moves_said, said_more}, Events.{Does, Event}}
 use Rattle.controller_laws.specs.Events as call
-use Rattle.machine_theorem.specs.ReadsWritten.{NoneTaken, moves_of}
+use Rattle.machine_theorem.specs.ReadsWritten.{NoneTaken}
+use Rattle.machine_theorem.proofs.ToldMoves.{said_by}
 use Rattle.machine_theorem.proofs.{CoreStems.IsWritten, Idle.written_start}
 
 -- ---- the higher dword of a write
@@ -179,7 +180,7 @@ wide_carried true old offset width value result new h d cut runs = by h.middle.c
 
 pub call_carried : (e : Event) (old new : ControllerState) (does : Does old e new) (d : Carrying) → NoneTaken (e ∷ []) → new.core.registers.started ≡ true
     → d.cut ≡ false
-    → Carries d (moves_of e) (carrying_after_call old e new does (Some d))
+    → Carries d (said_by e) (carrying_after_call old e new does (Some d))
 call_carried (call.Took frame took) old new does d none runs cut = absurd none
 call_carried (call.Wrote offset value written) old new does d none runs cut = cut_carried d new.core.registers.started cut runs
 call_carried (call.WroteWide offset width value written) old new does d none runs cut =

@@ -14,13 +14,14 @@ use Rattle.controller_laws.specs.{CoreEvents.of_event, Events.{Does as Calls, Ev
 use Rattle.controller_laws.specs.Events as call
 use Rattle.ahci_machine.specs.States.{HasRules, IsOpeningMachine, MachineState}
 use Rattle.ahci_machine.specs.declared.act.Act.TheVariants as act
-use Rattle.machine_laws.specs.{ControllerLaws.{ControllerRuns, OpensSo, RunsRuled, calls_in}, Controllers.deed_calls, Deeds.{Deed, Moved}}
-use Rattle.machine_theorem.specs.{Commands.AreNotIssued, ReadsWritten.{IsWritten, NoneTaken, ReadsAreWritten, moves_of, told_moves}}
+use Rattle.machine_laws.specs.{ControllerLaws.{ControllerRuns, OpensSo, RunsRuled, TurnsWriteNothing, calls_in}, Controllers.deed_calls, Deeds.{Deed, Moved}}
+use Rattle.machine_theorem.specs.{Commands.AreNotIssued, ReadsWritten.{IsWritten, NoneTaken, ReadsAreWritten, told_moves}}
 use Rattle.machine_theorem.specs.SingleReads.{IsWrittenThen}
 use Rattle.machine_theorem.proofs.{Brought.read_from, BroughtAt.{Brought, brought_ever, byte_is}, BroughtRead.none_later, CoreStems.call_stems}
 use Rattle.machine_theorem.proofs.{Falls.{core_events, kept_of}, FilledFrames.{brought_is, wrote_reaches}, HasSource.{HasSource, all_have}}
 use Rattle.machine_theorem.proofs.{Idle.{IsIdle, call_idle}, Ordered.first_ruled, Own.last_ruled, SentOnce.none_told, SetupCalls.first_kept}
 use Rattle.machine_theorem.proofs.{Still.all_kept, Stood.HasIssued, Uncut.{Carries, call_carried, same_carried}, WasTaken.deed_none}
+use Rattle.machine_theorem.proofs.ToldMoves.{all_said, all_told as machine_told, said_by}
 use Rattle.machine_theorem.proofs.BroughtAt as moments
 use Rattle.machine_theorem.proofs.Falls as falls
 
@@ -93,15 +94,15 @@ module _ (laws : falls.Laws) (s : ℕ) (low : s < 32) where
 
   carried_over : (events : List Event) (old new : ControllerState) (run : Runs old events new) → NoneTaken events → AreNotIssued s events → IsIdle s old.core
       → (i : Issue) → issue_at new.core.slots s ≡ Some i → (d : Carrying) → d.cut ≡ false
-      → Carries d (told_moves events) (carrying_after (Some d) old events new run)
+      → Carries d (all_said events) (carrying_after (Some d) old events new run)
   carried_over [] old new run none alone idle i is d cut = same_carried d cut
   carried_over (e ∷ later) old new run none alone idle i is d cut =
       let mid : ControllerState = run.1.0 in
       let idle_mid : IsIdle s mid.core = call_idle e s old mid run.1.1 low (are_core old mid e later new run.0 run.1.1 run.1.2) idle in
       let there = stood_back later mid new run.1.2 alone.1 i is in
-      let one : Carries d (moves_of e) (carrying_after_call old e mid run.1.1 (Some d)) =
+      let one : Carries d (said_by e) (carrying_after_call old e mid run.1.1 (Some d)) =
       call_carried e old mid run.1.1 d (none_head e later none) (started_of s mid idle_mid there.0 there.1) cut in
-      let rest : Carries one.then' (told_moves later) (carrying_after (Some one.then') mid later new run.1.2) =
+      let rest : Carries one.then' (all_said later) (carrying_after (Some one.then') mid later new run.1.2) =
       carried_over later mid new run.1.2 (none_tail e later none) alone.1 idle_mid i is one.then' one.cut in
       record {
         then' = rest.then';
@@ -109,7 +110,7 @@ module _ (laws : falls.Laws) (s : ℕ) (low : s < 32) where
         frame = rest.frame ∙ one.frame;
         wrote = rest.wrote ∙ one.wrote;
         table = rest.table ∙ one.table;
-        said = rest.said ∙ ap (λ l. l ++ told_moves later) one.said ∙ append_assoc d.said (moves_of e) (told_moves later);
+        said = rest.said ∙ ap (λ l. l ++ all_said later) one.said ∙ append_assoc d.said (said_by e) (all_said later);
         cut = rest.cut;
       }
 
@@ -181,6 +182,7 @@ pub record Laws : Type 0 where
   pub own : DataIsOwn
   pub whole : DataIsWhole
   pub all : AllAreSaid
+  pub told : TurnsWriteNothing
 
 some_is : (o : Option Fetched) → is_some o ≡ true → (f : Fetched) × (o ≡ Some f)
 some_is None e = absurd (cc)
@@ -315,7 +317,7 @@ module _ (laws : Laws) (ports : ℕ) (legacy : Bool) (old : MachineState) (openi
       ap (carrying_by mid.controller f) b.brings.brought
       ∙ ap (λ (o : Option Fetched). match_some o None (λ g. Some (carrying_of f wrote g))) command.1
 
-  carried : Carries first (told_moves calls) (carrying_after (Some first) after calls u.next.controller runs_over.calls.1.2)
+  carried : Carries first (all_said calls) (carrying_after (Some first) after calls u.next.controller runs_over.calls.1.2)
   carried =
       carried_over facts s low calls after u.next.controller runs_over.calls.1.2 u.none (alone_first s calls more alone) idle_after stands.0 stands.1 first refl
 
@@ -337,9 +339,10 @@ module _ (laws : Laws) (ports : ℕ) (legacy : Bool) (old : MachineState) (openi
 
   all_told : singles f (told_moves calls) ≡ named command.0.table.entries wrote.offset (drop 4 f)
   all_told =
-      whole_written f wrote command.0.table (told_moves calls) b.brings.whole
+      ap (singles f) (sym (machine_told laws.told b.cut.next u.until u.next u.way))
+      ∙ whole_written f wrote command.0.table (all_said calls) b.brings.whole
       (wrote_reaches mid.controller after f b.took takes wrote wrote_is command.0 command.1)
-      (all_written first (told_moves calls) _ carried refl (laws.all u.next.controller carried.then' said numbered u.free carried.cut))
+      (all_written first (all_said calls) _ carried refl (laws.all u.next.controller carried.then' said numbered u.free carried.cut))
 
   abbrev number : ℕ
   number = k - wrote.offset

@@ -4,7 +4,7 @@ use Rattle.std.specs.Prelude.{ℕ, ◌≡◌, ◌<◌, ◌-◌, Bool, List, [], 
 use Rattle.guest_fetch.specs.{Commands.Fetched, Places.{named, place, single, singles}, declared.moves.Move.Move}
 use Rattle.slots.specs.Slots.{Issue}
 use Rattle.ahci_controller.specs.States.{kept}
-use Rattle.controller_laws.specs.{Carrying.{moves_in, moves_said}, Events.Event, Sources.{Source, command_of, no_sources, sources_after, unmoved}}
+use Rattle.controller_laws.specs.{Carrying.moves_said, Events.Event, Sources.{Source, command_of, no_sources, sources_after, unmoved}}
 use Rattle.controller_laws.specs.Events as call
 use Rattle.ahci_machine.specs.States.{IsOpeningMachine, MachineState}
 use Rattle.machine_laws.specs.{ControllerLaws.{ControllerRuns, RunsRuled, calls_in}, Deeds.Deed}
@@ -12,7 +12,6 @@ use Rattle.machine_theorem.specs.Brought.{ByteIsBrought, IsReadDone}
 
 -- what the caller is told to write of payload by some calls, in order
 abbrev pub moves_of : Event → List Move
-moves_of (call.Turned next) = moves_in next
 moves_of (call.Said write) = moves_said write
 moves_of event = []
 

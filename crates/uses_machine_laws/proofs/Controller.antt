@@ -1,14 +1,14 @@
 -- What each call is to the controller.
-use Rattle.std.proofs.Common.{◌≡◌, ℕ, zero, suc, Bool, List, [], ◌∷◌, ◌++◌, Option, Result, Ok, Err, refl, sym, subst, inl, inr}
+use Rattle.std.proofs.Common.{◌≡◌, ℕ, zero, suc, Bool, false, List, [], ◌∷◌, ◌++◌, Option, None, Result, Ok, Err, refl, sym, subst, inl, inr}
 use Rattle.std.specs.{Prelude.{IfOk, OnErr}, declared.alloc.AllocError.AllocError}
 use Rattle.slots.specs.Table.{IsTable}
 use Rattle.hba_fbs.specs.Views.{IsCorePort}
-use Rattle.ahci_controller.specs.{Rules.IsRuled, declared.next.Next.Next}
+use Rattle.ahci_controller.specs.{Next.next_write, Rules.IsRuled, declared.next.Next.Next}
 use Rattle.controller_laws.specs.Interrupts.{line_shown}
-use Rattle.ahci_machine.specs.{Acts.{Asks, Moves, Steps, StepsBy, unlent}, States.{HasRules, MachineState}, declared.act.Act.Act}
+use Rattle.ahci_machine.specs.{Acts.{Asks, Moves, Steps, StepsBy, budget, unlent}, States.{HasRules, MachineState}, declared.act.Act.Act}
 use Rattle.ahci_machine.specs.{declared.request.Request.Request, Registers.lent_bytes}
 use Rattle.ahci_machine.specs.declared.act.Act.TheVariants as act
-use Rattle.machine_laws.specs.{ControllerLaws.{ControllerRuns, LinesAreShown, RunsRuled, WritesArePlaced, WritesRightly}, Lent.FramesAreLent}
+use Rattle.machine_laws.specs.{ControllerLaws.{ControllerRuns, LinesAreShown, RunsRuled, TurnsWriteNothing, WritesArePlaced, WritesRightly, is_write}, Lent.FramesAreLent}
 use Rattle.machine_laws.specs.{Lent.{HoldsFrame, Lends}, Deeds.{Deed, Does, Moved, Unlent}}
 use Rattle.uses_machine_laws.specs.Kept.{AreMoves, KeepsLaws, KeepsMoves, Laws}
 
@@ -39,8 +39,12 @@ pub lent : FramesAreLent → (old new : MachineState) (told : Result Act AllocEr
 lent law old new told step write is last holds = law old write new (subst (λ (r : Result Act AllocError). IfOk r (λ a. Steps old a new)) is step) last holds
 
 pub line : LinesAreShown → (old new : MachineState) (told : Result Act AllocError) → IfOk told (λ a. Steps old a new) → (l : Bool) → told ≡ Ok (act.Line l)
-    → (l ≡ line_shown new.controller) × (new.writing ≡ false)
+    → (l ≡ line_shown new.controller) × (next_write new.controller ≡ None)
 line law old new told step l is = law old l new (subst (λ (r : Result Act AllocError). IfOk r (λ a. Steps old a new)) is step)
+
+pub turns : TurnsWriteNothing → (old new : MachineState) (told : Result Act AllocError) → IfOk told (λ a. Steps old a new) → (said : Next) → told ≡ Ok (act.Turns said)
+    → is_write said ≡ false
+turns law old new told step said is = law old said new (subst (λ (r : Result Act AllocError). IfOk r (λ a. Steps old a new)) is step)
 
 -- ---- moves one after another
 
@@ -74,7 +78,7 @@ steps (suc count) old new rules is = one_more old is.middle new is.act (steps co
 
 pub asked : (old : MachineState) (request : Request) (new : MachineState) → HasRules old → HasRules new → Asks old request new → MoveRun old new
 asked old request new rules rules_new (inl h) = one_more old h.middle new h.act (steps h.quiet.count old h.middle rules h.quiet.steps) h.last rules_new
-asked old request new rules rules_new (inr h) = steps h.1.count old new rules h.1.steps
+asked old request new rules rules_new (inr h) = steps budget old new rules h.1
 
 pub asks : Laws → (old new : MachineState) (told : Result Request AllocError) → HasRules old → HasRules new → IfOk told (λ request. Asks (unlent old) request new) → OnErr told (Moves (unlent old) new) → KeepsMoves old new
 asks laws old new told rules rules_new ok err = by told ok err

@@ -6,7 +6,7 @@ use Rattle.disk_pages.specs.declared.profile.Profile.{Profile}
 use Rattle.sata_disk.specs.State.{DiskState, new_disk}
 use Rattle.sata_disk_laws.specs.Calls.{after_calls}
 use Rattle.ahci_controller.specs.declared.{access.Width.Width, wide.WideWritten.WideWritten}
-use Rattle.ahci_machine.specs.{Acts.{Asks, Moves, Steps, StepsBy, unlent}, Answers.AnswersMachine, Ports.{PullsMachine, Puts}}
+use Rattle.ahci_machine.specs.{Acts.{Asks, Moves, Steps, StepsBy, budget, unlent}, Answers.AnswersMachine, Ports.{PullsMachine, Puts}}
 use Rattle.ahci_machine.specs.{Registers.WritesMachine, States.MachineState, declared.{act.Act.Act, answers.MediumError.MediumError}}
 use Rattle.ahci_machine.specs.declared.{bay.Unit.{Unit as Inside, TheVariants.Disk}, ports.PortFault.PortFault, request.MediumId.MediumId}
 use Rattle.ahci_machine.specs.declared.request.Request.{Request}
@@ -45,7 +45,7 @@ steps_keep law (suc count) old new is are = step_keeps law is.middle is.act new 
 
 asked_keep : DisksAreReached → (old : MachineState) (request : Request) (new : MachineState) → Asks old request new → Keeps old new
 asked_keep law old request new (inl h) are = step_keeps law h.middle h.act new h.last (steps_keep law h.quiet.count old h.middle h.quiet.steps are)
-asked_keep law old request new (inr h) are = steps_keep law h.1.count old new h.1.steps are
+asked_keep law old request new (inr h) are = steps_keep law budget old new h.1 are
 
 unlent_keeps : DisksAreReached → (old : MachineState) → Keeps old (unlent old)
 unlent_keeps law old = keep law old (unlent old) Unlent refl tt

@@ -1,15 +1,16 @@
 //! A caller of a machine that has, after each of its calls, the laws of the disks in it.
 #![tactic(auto)]
 
-ghost use Rattle.std.specs.Prelude.{◌≡◌, ◌≤◌, ℕ, Bool, List, [], ◌∷◌, Option, None, IfOk, Ok};
+ghost use Rattle.std.specs.Prelude.{◌≡◌, ◌≤◌, ℕ, Bool, false, List, [], ◌∷◌, Option, None, IfOk, Ok};
 ghost use Rattle.ahci_machine.specs.Registers.{lent_bytes};
 ghost use Rattle.sata_disk.specs.State.{DiskState};
+ghost use Rattle.ahci_controller.specs.Next.{next_write};
 ghost use Rattle.ahci_controller.specs.declared.next.Next as next_move;
 ghost use Rattle.controller_laws.specs.Interrupts.{line_shown};
 ghost use Rattle.ahci_machine.specs.States.{bay_at};
 ghost use Rattle.ahci_machine.specs.declared.act.Act.TheVariants as act;
 ghost use Rattle.ahci_machine.specs.declared.bay.Unit.TheVariants.{Disk};
-ghost use Rattle.machine_laws.specs.ControllerLaws.{OpensSo, WritesRightly};
+ghost use Rattle.machine_laws.specs.ControllerLaws.{OpensSo, WritesRightly, is_write};
 ghost use Rattle.machine_laws.specs.Deeds as deed;
 ghost use Rattle.machine_laws.specs.Disks.{AreReached, HasLaws};
 ghost use Rattle.machine_laws.specs.Lent.{HoldsFrame, Lends};
@@ -147,13 +148,15 @@ pub fn offers(machine: &mut Machine, port: u8, frame: Frame) -> Result<(), Frame
 }
 
 /// The machine moves. What goes to the guest are bytes of the frame that was taken last, at the places of their command's table, or that
-/// frame, or PRDBC. The line that is told is the one that the registers show, and nothing is to be written to the guest then. Where it rests, each command of a disk waits for somebody.
+/// frame, or PRDBC, and no turn of the controller has such bytes. The line that is told is the one that the registers show, and nothing is
+/// to be written to the guest then. Where it rests, each command of a disk waits for somebody.
 pub fn moves(alloc: Global, machine: &mut Machine) -> Result<Act, AllocError>
     ensures keeps { Keeps machine.old machine.new }
     ensures controller { IfOk result (λ move. KeepsLaws machine.old (deed.Moved move ∷ []) machine.new) }
     ensures writes { (write : next_move.Next) → result ≡ Ok (act.Writes write) → WritesRightly machine.old write machine.new }
     ensures lent { (write : next_move.Next) → result ≡ Ok (act.Writes write) → (last : Option (List ℕ)) → HoldsFrame machine.old last → Lends write last (lent_bytes machine.new) }
-    ensures line { (line : Bool) → result ≡ Ok (act.Line line) → (line ≡ line_shown machine.new.controller) × (machine.new.writing ≡ false) }
+    ensures turns { (said : next_move.Next) → result ≡ Ok (act.Turns said) → is_write said ≡ false }
+    ensures line { (line : Bool) → result ≡ Ok (act.Line line) → (line ≡ line_shown machine.new.controller) × (next_write machine.new.controller ≡ None) }
     ensures waits { result ≡ Ok act.Rests → AreReached machine.old → AllWait machine.old }
 {
     machine_laws::disks_have_their_laws();

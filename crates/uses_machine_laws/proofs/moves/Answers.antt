@@ -1,4 +1,4 @@
-use Rattle.uses_machine_laws.proofs.{Controller.{lent, line, moved, ruled, writes}, Keep.moves_keep}
+use Rattle.uses_machine_laws.proofs.{Controller.{lent, line, moved, ruled, turns, writes}, Keep.moves_keep}
 use Rattle.uses_machine_laws.proofs.moves.Goals as goal
 
 pub returns-clause-keeps : goal.returns-clause-keeps
@@ -13,6 +13,9 @@ returns-clause-controller c =
 
 pub returns-clause-writes : goal.returns-clause-writes
 returns-clause-writes c = writes c.controller_has_its_laws.ensures.writes c.args.machine.now c.step-moved.new.self c.step-moved.result c.step-moved.ensures.ok
+
+pub returns-clause-turns : goal.returns-clause-turns
+returns-clause-turns c = turns c.controller_has_its_laws.ensures.turns c.args.machine.now c.step-moved.new.self c.step-moved.result c.step-moved.ensures.ok
 
 pub returns-clause-line : goal.returns-clause-line
 returns-clause-line c = line c.controller_has_its_laws.ensures.line c.args.machine.now c.step-moved.new.self c.step-moved.result c.step-moved.ensures.ok

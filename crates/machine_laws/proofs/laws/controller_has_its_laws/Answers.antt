@@ -1,4 +1,4 @@
-use Rattle.machine_laws.proofs.Lawful.{Laws, have, line_told, opens, runs, turns, writes}
+use Rattle.machine_laws.proofs.{Lawful.{Laws, have, line_told, opens, runs, writes}, NoWrites.turns}
 use Rattle.machine_laws.proofs.laws.controller_has_its_laws.Goals as goal
 
 pub returns-clause-opens : goal.returns-clause-opens
@@ -26,7 +26,7 @@ pub returns-clause-writes : goal.returns-clause-writes
 returns-clause-writes c = writes c.writes_are_placed.ensures
 
 pub returns-clause-turns : goal.returns-clause-turns
-returns-clause-turns c = turns c.writes_are_placed.ensures
+returns-clause-turns c = turns
 
 pub returns-clause-line : goal.returns-clause-line
 returns-clause-line c = line_told

@@ -33,4 +33,5 @@ returns c =
       own = c.bytes_go_to_their_places.ensures.own;
       whole = c.bytes_go_to_their_places.ensures.whole;
       all = c.bytes_go_to_their_places.ensures.all;
+      told = c.controller_has_its_laws.ensures.turns;
     })

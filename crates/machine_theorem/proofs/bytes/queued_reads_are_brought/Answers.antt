@@ -87,6 +87,7 @@ returns c =
       own = c.bytes_go_to_their_places.ensures.own;
       whole = c.bytes_go_to_their_places.ensures.whole;
       all = c.bytes_go_to_their_places.ensures.all;
+      told = c.controller_has_its_laws.ensures.turns;
     } in
     let disks : sent.Laws = record { given = c.data_are_given.ensures; asked = c.commands_are_asked.ensures; parts = c.data_rise_unchanged.ensures.parts } in
     queued_reads (record { moments = at; supplied = laws; places = own; disks = disks; written = whole })

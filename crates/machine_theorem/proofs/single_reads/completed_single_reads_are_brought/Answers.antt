@@ -35,6 +35,7 @@ returns c =
         own = c.bytes_go_to_their_places.ensures.own;
         whole = c.bytes_go_to_their_places.ensures.whole;
         all = c.bytes_go_to_their_places.ensures.all;
+        told = c.controller_has_its_laws.ensures.turns;
       };
       fall = c.issues_fall.ensures.falls;
     } in
