@@ -15,12 +15,18 @@ fn identifies(rig: &mut Rig) -> Result<bool, Fail> {
     Ok(rig.reads(0x138) == 0 && rig.holds(BUFFER + 54, 4) == [0x45, 0x47, 0x53, 0x46].as_slice())
 }
 
+/// What a driver writes to have the line down: PxSERR, PxIS and IS.
+static CLEARS: [(u32, u32); 3] = [(0x130, 0xFFFF_FFFF), (0x110, 0xFFFF_FFFF), (0x08, 1)];
+
 fn says_what_it_is(rt: &impl Abort, rig: &mut Rig) -> Result<(), Fail> {
     assert!(rt; starts(rig)?);
     assert_eq!(rt; rig.reads(0x120), 0x150);
     assert_eq!(rt; rig.reads(0x124), 0x101);
+    assert!(rt; rig.write_all(&CLEARS)?);
+    assert!(rt; !rig.line());
     assert!(rt; identifies(rig)?);
     assert!(rt; rig.line());
+    assert!(rt; !rig.rose_early());
     Ok(())
 }
 
@@ -50,6 +56,8 @@ enum Check {
     Reads,
     /// Sectors are written.
     Writes,
+    /// They are written by the command of the last slot.
+    WritesLast,
     /// A command is not taken.
     NotTaken,
     /// A command cannot be served.
@@ -61,6 +69,7 @@ fn is_so(rig: &mut Rig, check: Check) -> Result<bool, Fail> {
     match check {
         Check::Reads => reads_dma(rig),
         Check::Writes => writes_queued(rig),
+        Check::WritesLast => writes_last(rig),
         Check::NotTaken => is_not_taken(rig),
         Check::Missed => is_missed(rig),
     }
@@ -93,9 +102,18 @@ fn writes_queued(rig: &mut Rig) -> Result<bool, Fail> {
     Ok(rig.reads(0x138) == 0 && rig.reads(0x134) == 0 && rig.stores(0, 9 * 512 + 511) == Some(0xA5))
 }
 
+/// A write by DMA, in slot 31.
+fn writes_last(rig: &mut Rig) -> Result<bool, Fail> {
+    rig.fills(BUFFER, &[0x5A; 512]);
+    command(rig, 31, 0, true, &h2d(0x35, 0, 11, 1), 512);
+    rig.writes(0x138, 0x8000_0000)?;
+    Ok(rig.reads(0x138) == 0 && rig.stores(0, 11 * 512 + 511) == Some(0x5A))
+}
+
 #[test]
 fn sectors_are_written(rt: HostRuntime) -> Result<(), Fail> {
-    assert_holds(&rt, rt.alloc(), Check::Writes)
+    assert_holds(&rt, rt.alloc(), Check::Writes)?;
+    assert_holds(&rt, rt.alloc(), Check::WritesLast)
 }
 
 /// A command whose FIS is none of a host, in slot 5.

@@ -20,6 +20,7 @@ pub struct Rig {
     memory: Vec<u8>,
     media: Vec<u8>,
     line: bool,
+    early: bool,
     refused: Option<Told>,
 }
 
@@ -116,6 +117,7 @@ impl Rig {
             memory,
             media,
             line: false,
+            early: false,
             refused: None,
         };
         come(alloc, &mut rig.machine, count)?;
@@ -201,7 +203,10 @@ impl Rig {
                     let _ = self.machine.answer(id, Answer::Done);
                 }
             },
-            Request::Line(line) => self.line = line,
+            Request::Line(line) => {
+                self.early = self.early || line && self.machine.incoming().is_some();
+                self.line = line;
+            }
         }
         Ok(true)
     }
@@ -240,6 +245,11 @@ impl Rig {
     /// The interrupt line.
     pub fn line(&self) -> bool {
         self.line
+    }
+
+    /// Whether the line rose while something of a frame was still to be written.
+    pub fn rose_early(&self) -> bool {
+        self.early
     }
 
     /// Writes bytes to the guest's memory.
