@@ -615,8 +615,9 @@ gef_status gef_machine_restore(gef_machine *machine, const uint8_t *bytes, size_
  *     register reads what `ahci_controller` says, and a write leaves what it says; a disk at a port does what `sata_disk` says; FISes
  *     pass the multiplier as above. What gef_machine_next says is what the last of its moves asks; GEF_EVENT_NOTHING comes only where
  *     no part can move, and you know how the line stands. The laws of the controller (`controller_laws`) hold of its calls in a
- *     machine: bytes of a Data FIS go only to places that the command's table named as you gave it, in order, each once; a command's
- *     bit falls only by an end that its own device sent, or by a stop or a reset.
+ *     machine: bytes of a Data FIS go only to places that the command's table named as you gave it, in order, each once. A bit of PxCI
+ *     falls only as its own device ends the command or answers a queued one, and as a control frame goes; one of PxSACT as that device
+ *     names it in Set Device Bits, once all its bytes were moved; and both as a write stops the port, or clears or resets the device.
  *
  * Not proved but tested: the words of gef_fis_text; that the fields of a gef_event are those that the library says; that drivers of
  * operating systems work with the machine (guests/RESULTS.md says which did). Not claimed: that anything happens in the end, or how
