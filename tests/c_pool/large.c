@@ -25,11 +25,12 @@ void rattle_dealloc(void *block);
 enum { BLOCKS = 64, THREADS = 4, LARGEST = 300000 };
 
 /* A block is of the thread that took it from here. */
-static struct {
+typedef struct {
     unsigned char *at;
     size_t bytes;
     unsigned char mark;
-} blocks[BLOCKS];
+} held;
+static held blocks[BLOCKS];
 static pthread_mutex_t lock = PTHREAD_MUTEX_INITIALIZER;
 static time_t end;
 
@@ -54,45 +55,57 @@ static int has_its_bytes(const unsigned char *at, size_t bytes, unsigned char ma
     return 1;
 }
 
+static held taken_from(size_t place) {
+    held it;
+    pthread_mutex_lock(&lock);
+    it = blocks[place];
+    blocks[place].at = NULL;
+    pthread_mutex_unlock(&lock);
+    return it;
+}
+
+/* Where another thread put one meanwhile, it goes. */
+static void put_to(size_t place, held it) {
+    pthread_mutex_lock(&lock);
+    if (!blocks[place].at) {
+        blocks[place] = it;
+        it.at = NULL;
+    }
+    pthread_mutex_unlock(&lock);
+    rattle_dealloc(it.at);
+}
+
+/* A block that was there goes or grows; where none was, one comes. Whether there is one now. */
+static int changes(held *it, uint64_t chance) {
+    if (!it->at) {
+        it->bytes = (chance >> 33) % LARGEST + 1;
+        it->at = block_of(it->bytes);
+        return 1;
+    }
+    must(has_its_bytes(it->at, it->bytes, it->mark), "a block has other bytes");
+    if (chance >> 32 & 1) {
+        rattle_dealloc(it->at);
+        return 0;
+    }
+    it->at = rattle_realloc(it->at, it->bytes, it->bytes + 5000, 16).at;
+    must(it->at && has_its_bytes(it->at, it->bytes, it->mark), "a block that grew has other bytes");
+    it->bytes += 5000;
+    return 1;
+}
+
 static void *plays(void *seed) {
     uint64_t state = 88172645463325252u + (uintptr_t)seed;
     while (time(NULL) < end) {
-        size_t place, bytes;
-        unsigned char *at, mark;
+        held it;
         state ^= state << 13;
         state ^= state >> 7;
         state ^= state << 17;
-        place = state % BLOCKS;
-        pthread_mutex_lock(&lock);
-        at = blocks[place].at;
-        bytes = blocks[place].bytes;
-        mark = blocks[place].mark;
-        blocks[place].at = NULL;
-        pthread_mutex_unlock(&lock);
-        if (at) {
-            must(has_its_bytes(at, bytes, mark), "a block has other bytes");
-            if (state >> 32 & 1) {
-                rattle_dealloc(at);
-                continue;
-            }
-            at = rattle_realloc(at, bytes, bytes + 5000, 16).at;
-            must(at && has_its_bytes(at, bytes, mark), "a block that grew has other bytes");
-            bytes += 5000;
-        } else {
-            bytes = (state >> 33) % LARGEST + 1;
-            at = block_of(bytes);
+        it = taken_from(state % BLOCKS);
+        if (changes(&it, state)) {
+            it.mark = (unsigned char)(state >> 24);
+            memset(it.at, it.mark, it.bytes);
+            put_to(state % BLOCKS, it);
         }
-        mark = (unsigned char)(state >> 24);
-        memset(at, mark, bytes);
-        pthread_mutex_lock(&lock);
-        if (!blocks[place].at) {
-            blocks[place].at = at;
-            blocks[place].bytes = bytes;
-            blocks[place].mark = mark;
-            at = NULL;
-        }
-        pthread_mutex_unlock(&lock);
-        rattle_dealloc(at);
     }
     return NULL;
 }
