@@ -17,16 +17,16 @@
  *
  * Rules that hold for every call:
  *
- *   - Each call returns a gef_status. GEF_OK is 0. Any other leaves everything as it was, unless the comment of the
- *     call says otherwise.
+ *   - Each call but gef_version and gef_status_text returns a gef_status. GEF_OK is 0. Any other leaves everything as it
+ *     was, unless the comment of the call says otherwise.
  *   - Memory that you pass is read or written only during the call. The library keeps no pointer of yours, and you
  *     keep none of its. Two pointers of one call must not overlap, except for a FIS that is only read.
  *   - A length in bytes comes with each pointer. A null pointer returns GEF_NULL, even if its length is 0.
  *   - Ports are numbered from 0. 15 is the control port of the multiplier.
  *   - No call waits, starts a thread, or calls back. Two handles share nothing. Only one thread may use a handle at a
  *     time. You may hand it to another thread if your program orders the two, for example by a lock or a join.
- *   - Memory comes from malloc and is returned by free. Of blocks of 32 KiB and more the last few that were freed wait for the next, for all
- *     handles of the process, 8 MiB at most.
+ *   - Memory comes from malloc and is returned by free. With glibc, of blocks of 32 KiB and more the last few that were freed wait for the
+ *     next, for all handles of the process, 8 MiB at most.
  *   - Make no call from a signal handler, or in a forked child of a process with threads.
  */
 #ifndef GEFSUNK_H
@@ -317,8 +317,9 @@ gef_status gef_disk_new(gef_disk *disk, const gef_disk_profile *profile);
 gef_status gef_disk_free(gef_disk *disk);
 
 /*
- * The disk is plugged in, as power comes: what was under way is dropped, and it sends its signature next. A new disk sends nothing
- * by itself before this call. A store or a discard that it asked for is still to be answered. Can return GEF_CLOSED.
+ * The disk is plugged in: what was under way is dropped, and it sends its signature next. What its host set (SET FEATURES, SET
+ * MULTIPLE MODE) stays set. A new disk sends nothing by itself before this call. A store or a discard that it asked for is still to be
+ * answered. Can return GEF_CLOSED.
  */
 gef_status gef_disk_plug(gef_disk *disk);
 
@@ -361,7 +362,7 @@ gef_status gef_disk_answer_done(gef_disk *disk, const gef_request *request);
 
 /*
  * A request could not be done, first at this sector (of a flush or a discard: 0). The host is told. GEF_UNC of a
- * store is refused by GEF_OTHER_KIND.
+ * store, or of the flush behind a write, is refused by GEF_OTHER_KIND.
  * Can return GEF_CLOSED, GEF_BAD_ERROR, GEF_NOT_OUT, GEF_OTHER_KIND, GEF_OTHER_SECTOR.
  */
 gef_status gef_disk_answer_failed(gef_disk *disk, const gef_request *request, uint32_t error, uint64_t lba);
@@ -456,9 +457,9 @@ gef_status gef_machine_put_disk(gef_machine *machine, uint8_t port, const gef_di
 gef_status gef_machine_put_device(gef_machine *machine, uint8_t port);
 
 /*
- * What is at a port is plugged in, and begins anew. A multiplier says that to its host as of any device that comes: no FIS of it goes
- * up before the host has opened the port, and has cleared its SError. For disks that are there as power comes call
- * gef_machine_power_on behind the last of them.
+ * What is at a port is plugged in, and begins anew, a disk as gef_disk_plug says. A multiplier says that to its host as of any device
+ * that comes: no FIS of it goes up before the host has opened the port, and has cleared its SError. For disks that are there as power
+ * comes call gef_machine_power_on behind the last of them.
  * Can return GEF_CLOSED, GEF_NO_PORT, GEF_NOT_THERE, GEF_PLUGGED_IN, GEF_SPENT.
  */
 gef_status gef_machine_plug(gef_machine *machine, uint8_t port);
@@ -471,8 +472,8 @@ gef_status gef_machine_plug(gef_machine *machine, uint8_t port);
 gef_status gef_machine_power_on(gef_machine *machine);
 
 /*
- * What is at a port is pulled, and stays at hand: all that it had to do is gone, and the guest hears nothing more of it. A store or a
- * discard that a disk asked for is still to be answered.
+ * What is at a port is pulled, and stays at hand: all that it had to do is gone, and no FIS of it comes up any more but one that has
+ * left its port, and is on its way to the controller. A store or a discard that a disk asked for is still to be answered.
  * Can return GEF_CLOSED, GEF_NO_PORT, GEF_NOT_THERE.
  */
 gef_status gef_machine_pull(gef_machine *machine, uint8_t port);
@@ -498,12 +499,12 @@ gef_status gef_machine_lent(gef_machine *machine, uint8_t *bytes, size_t room, s
 
 /*
  * The bytes that are wanted of the guest's memory, as you read them. What is not wanted any more, as after a reset, or is not so
- * many bytes, changes nothing, and is no error. GEF_NO_MEMORY: they are wanted still; pass them again.
+ * many bytes, changes nothing, and is no error. GEF_NO_MEMORY: these bytes are dropped, and gef_machine_next asks for them anew.
  * Can return GEF_CLOSED, GEF_NOT_WANTED (no event has such a `wanted`), GEF_NO_MEMORY.
  */
 gef_status gef_machine_supply(gef_machine *machine, const gef_wanted *wanted, const uint8_t *bytes, size_t len);
 
-/* Some of the bytes that are wanted are not memory. Can return GEF_CLOSED, GEF_NOT_WANTED, GEF_NO_MEMORY. */
+/* Some of the bytes that are wanted are not memory. Can return GEF_CLOSED, GEF_NOT_WANTED. */
 gef_status gef_machine_no_memory(gef_machine *machine, const gef_wanted *wanted);
 
 /*
@@ -525,7 +526,7 @@ gef_status gef_machine_answer_done(gef_machine *machine, const gef_request *requ
 
 /*
  * A request could not be done, first at this sector (of a flush or a discard: 0). The guest is told. GEF_UNC of a
- * store is refused by GEF_OTHER_KIND.
+ * store, or of the flush behind a write, is refused by GEF_OTHER_KIND.
  * Can return GEF_CLOSED, GEF_BAD_ERROR, GEF_OTHER_DISK, GEF_NOT_OUT, GEF_OTHER_KIND, GEF_OTHER_SECTOR.
  */
 gef_status gef_machine_answer_failed(gef_machine *machine, const gef_request *request, uint32_t error, uint64_t lba);
@@ -533,7 +534,8 @@ gef_status gef_machine_answer_failed(gef_machine *machine, const gef_request *re
 /*
  * Copies bytes of a store into the room, from an offset on, as many as there are and fit, and their number into *len. They are
  * there until the store is answered, or its disk is reset or pulled, or an error ends its command. GEF_NOT_OUT: they are gone, and the
- * store is still to be answered if it was not; so it is of any request that is no store. The bytes are never those of another request.
+ * store is still to be answered if it was not; or the request is no store. GEF_OTHER_KIND: a flush or a discard that is of no command
+ * of the queue. The bytes are never those of another request.
  * Can return GEF_CLOSED, GEF_OTHER_DISK, GEF_NOT_OUT, GEF_OTHER_KIND.
  */
 gef_status gef_machine_stored(gef_machine *machine, const gef_request *request, size_t from, uint8_t *bytes, size_t room,
@@ -613,8 +615,9 @@ gef_status gef_machine_restore(gef_machine *machine, const uint8_t *bytes, size_
  *     register reads what `ahci_controller` says, and a write leaves what it says; a disk at a port does what `sata_disk` says; FISes
  *     pass the multiplier as above. What gef_machine_next says is what the last of its moves asks; GEF_EVENT_NOTHING comes only where
  *     no part can move, and you know how the line stands. The laws of the controller (`controller_laws`) hold of its calls in a
- *     machine: bytes of a Data FIS go only to places that the command's table named as you gave it, in order, each once; a command's
- *     bit falls only by an end that its own device sent, or by a stop or a reset.
+ *     machine: bytes of a Data FIS go only to places that the command's table named as you gave it, in order, each once. A bit of PxCI
+ *     falls only as its own device ends the command or answers a queued one, and as a control frame goes; one of PxSACT as that device
+ *     names it in Set Device Bits, once all its bytes were moved; and both as a write stops the port, or clears or resets the device.
  *
  * Not proved but tested: the words of gef_fis_text; that the fields of a gef_event are those that the library says; that drivers of
  * operating systems work with the machine (guests/RESULTS.md says which did). Not claimed: that anything happens in the end, or how

@@ -104,7 +104,8 @@ static inline gef_status gef_files_discard(gef_machine *machine, int file, const
 /*
  * Does what an event asks of a medium that is this file, and answers. The room has GEF_FILES_ROOM bytes. One that comes behind a reset or a
  * pull is to be passed, too, since a store or a discard keeps its sectors until it is answered. It returns what the machine says: GEF_OK;
- * GEF_OTHER_DISK or GEF_NOT_OUT where nobody waits any more; GEF_NO_MEMORY: then call it again with the event.
+ * GEF_OTHER_DISK or GEF_NOT_OUT where nobody waits any more; GEF_NO_MEMORY: then call it again with the event. GEF_NOTHING: the event is
+ * for no medium.
  */
 static inline gef_status gef_files_serve(gef_machine *machine, int file, uint8_t *room, const gef_event *event) {
     switch (event->kind) {

@@ -207,7 +207,8 @@ impl<G: GuestMemory, M: Medium> Ahci<G, M> {
         self.machine.power_on()
     }
 
-    /// What is at a port is pulled, and stays at hand. Answers for requests of before are refused.
+    /// What is at a port is pulled, and stays at hand. Answers for loads and flushes of before are refused; stores and discards are still
+    /// to be answered.
     ///
     /// # Errors
     /// [`Error::NoPort`] and [`Error::NotThere`].

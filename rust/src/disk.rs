@@ -49,7 +49,7 @@ impl Disk {
         Ok(Disk { owned })
     }
 
-    /// The disk is plugged in, as power comes: what was under way is gone, and it sends its signature next.
+    /// The disk is plugged in: what was under way is gone, what its host set stays set, and it sends its signature next.
     ///
     /// # Errors
     /// None that these bindings leave possible.

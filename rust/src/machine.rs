@@ -248,7 +248,7 @@ impl Machine {
     /// The bytes that are wanted of the guest's memory. What is not wanted any more changes nothing.
     ///
     /// # Errors
-    /// [`Error::NotWanted`]. [`Error::NoMemory`]: give them again.
+    /// [`Error::NotWanted`]. [`Error::NoMemory`]: they are dropped, and the next event asks for them anew.
     pub fn supply(&mut self, wanted: &Wanted, bytes: &[u8]) -> Result<(), Error> {
         self.owned
             .call(|machine| ffi::machine_supply(machine, &wanted.0, bytes))
@@ -257,7 +257,7 @@ impl Machine {
     /// Some of the bytes that are wanted are not memory.
     ///
     /// # Errors
-    /// [`Error::NotWanted`] and [`Error::NoMemory`].
+    /// [`Error::NotWanted`].
     pub fn no_memory(&mut self, wanted: &Wanted) -> Result<(), Error> {
         self.owned
             .call(|machine| ffi::gef_machine_no_memory(machine, &wanted.0))

@@ -133,8 +133,9 @@ pub enum Answer<'bytes> {
 /// Where the sectors of a disk lie. Sectors have [`SECTOR`] bytes each.
 ///
 /// A call may answer at once, by `Ok(Reply::Done)` or a failure. Or it keeps the request, starts what is to be done elsewhere, and
-/// says `Ok(Reply::Later)`. Requests that are out at one time share no sector, unless they are loads. After a reset, or once the
-/// disk was pulled, an answer that comes later is refused; the work may still be done.
+/// says `Ok(Reply::Later)`. Requests that are out at one time share no sector, unless they are loads. After a reset, an error, or once
+/// the disk was pulled, a late answer to a load or a flush is refused. A store or a discard is to be answered all the same: the work may
+/// still be done, so until then its sectors, and with a discard the whole disk, take no command.
 ///
 /// Where memory was refused a call may be made once more with the same request.
 ///
