@@ -10,7 +10,7 @@ pub enum Status {
     Closed = 2,
     /// The handle is open already.
     Open = 3,
-    /// The allocator refused memory. Nothing has changed.
+    /// The allocator refused memory. What may have changed the header says at the call.
     NoMemory = 4,
     /// A port multiplier cannot have this many ports.
     BadPorts = 5,

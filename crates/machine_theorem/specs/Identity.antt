@@ -63,8 +63,9 @@ NoneNamed tag (f ∷ later) = NamesNo tag f × NoneNamed tag later
 
 -- ---- the beginning of a stretch
 
--- A disk is at a port, and has no command under the tag; nothing is on its way to it. No FIS of this port that names the tag is on its way to the
--- controller, of whatever connection, and no command that was sent to the disk stands in the slot of this number. Whatever was before.
+-- A disk is at a port, and has no command under the tag; no FIS is on the controller's link down, for whichever device, and none waits for the disk. No FIS
+-- of this port that names the tag is on its way to the controller, of whatever connection, and no queued command that was sent to the disk stands in the slot
+-- of this number. Whatever was before.
 pub record IsAtRest (many : Bool) (n tag : ℕ) (old : MachineState) (before : List Deed) (at : MachineState) (first : RunsRuled old before at) : Type 0 where
   pub disk : DiskState
   pub there : (bay_at at n).unit ≡ Disk disk

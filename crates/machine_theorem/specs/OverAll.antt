@@ -2,7 +2,7 @@
 -- Device Bits FISes, 11.4, software reset, and 13.6, native command queuing). A disk at a port says that a write ended well, queued or not. Then it may be
 -- pulled and plugged, its link and the disk itself are reset, commands fail and others run: anything, but it is not taken from the port. Behind that a read
 -- is issued, queued or not, and the disk sends Data of it, or says that it ended well. If its medium gives what it was last told to keep
--- (`sata_disk_media`), these Data have the bytes that came for the write, at each sector that nothing else stored to or discarded since the write ended.
+-- (`sata_disk_media`), these Data have the bytes that came for the write, at each sector of which no other store and no discard was asked for since the write ended.
 use Rattle.std.specs.Prelude.{ℕ, ◌≡◌, ◌⊎◌, ◌<◌, ◌≤◌, ◌+◌, ◌-◌, ◌*◌, Bool, true, false, List, [], ◌∷◌, ◌++◌, length, Some}
 use Rattle.std.proofs.Common.{refl, subst, sym}
 use Rattle.fis_view.specs.Frames.{Stamped}
@@ -142,7 +142,7 @@ IsVacant p limit calls place = (is_taken (commands (reached p limit calls)) plac
 -- ---- what is read
 
 -- By the first calls of a disk the write of a page ended, and then came others, behind which the read of a page ends. Each sector of both has, in the Data that
--- went for the read, the bytes that came for the write, unless something else stored to it or discarded it in between. READ VERIFY sends none.
+-- went for the read, the bytes that came for the write, unless another store or a discard of it was asked for in between. READ VERIFY sends none.
 pub record HasFollowed (p : Profile) (limit : ℕ) (ended calls : List Call) (written read : Page) : Type 0 where
   pub since : List Call
   pub is : calls ≡ ended ++ since

@@ -1,5 +1,5 @@
 -- Read after write, as the guest of a machine sees it: the Data that it is given for a queued read have the bytes of a queued write that it saw completed
--- before it issued the read, at each sector that nothing else stored to or discarded in between (AHCI 1.3.1, 3.3.13, PxSACT, and 5.3; Serial ATA 3.x, 10.5,
+-- before it issued the read, at each sector of which no other store and no discard was asked for in between (AHCI 1.3.1, 3.3.13, PxSACT, and 5.3; Serial ATA 3.x, 10.5,
 -- Data and Set Device Bits, and 13.6, native command queuing). So it is over each stretch of a run that begins at rest, in which the guest keeps to the
 -- standard (Identity) and no FIS of the disk is lost or at fault (OwnSlots), if the medium gives what it was last told to keep (`sata_disk_media`).
 use Rattle.std.specs.Prelude.{ℕ, zero, suc, ◌≡◌, ◌⊎◌, ◌<◌, Bool, true, false, List, [], ◌∷◌, ◌++◌, drop, Some}
@@ -58,7 +58,7 @@ IsUntouched p limit first later s = AreSparing (reached p limit first) s later
     ⊎ ((before after : List Call) → later ≡ before ++ after → IsUndisturbed p limit (first ++ before) s)
 
 -- By these calls of a disk the write of a page ended, and then came others; Data go next of slot r. Each whole sector in them that the write wrote has the
--- bytes that came for the write, unless something else stored to it or discarded it since then.
+-- bytes that came for the write, unless another store or a discard of it was asked for since then.
 pub record IsBack (p : Profile) (limit : ℕ) (ended calls : List Call) (written : Page) (r : ℕ) (bytes : List ℕ) : Type 0 where
   pub since : List Call
   pub is : calls ≡ ended ++ since

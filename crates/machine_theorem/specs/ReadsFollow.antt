@@ -1,5 +1,5 @@
--- A queued read that the guest sees completed was sent the bytes of a queued write that it saw completed before it issued the read, at each sector that nothing
--- else stored to or discarded in between (AHCI 1.3.1, 3.3.13, PxSACT, and 5.3; Serial ATA 3.x, 10.5, Set Device Bits, and 13.6, native command queuing). So it
+-- A queued read that the guest sees completed was sent the bytes of a queued write that it saw completed before it issued the read, at each sector of which no
+-- other store and no discard was asked for in between (AHCI 1.3.1, 3.3.13, PxSACT, and 5.3; Serial ATA 3.x, 10.5, Set Device Bits, and 13.6, queuing). So it
 -- is over each stretch of a run that begins at rest and in which the guest keeps to the standard (Identity), if the medium gives what it was last told to keep
 -- (`sata_disk_media`). Of the Data FISes by which the bytes come nothing is asked.
 use Rattle.std.specs.Prelude.{ℕ, ◌≡◌, ◌<◌, Bool, true, false, List, [], ◌∷◌, ◌++◌}
@@ -18,7 +18,7 @@ use Rattle.machine_theorem.specs.{Completions.IsDone, FirstDeeds.{first_deeds, f
 use Rattle.machine_theorem.specs.ReadBack.{Falls, FallsAt, IsSinceNew, IsSuppliedPage, IsUntouched}
 
 -- By the first calls of a disk the write of a page ended, and then came others, behind which the read of a page ends. Each sector of both has, in the Data that
--- went for the read, the bytes that came for the write, unless something else stored to it or discarded it in between.
+-- went for the read, the bytes that came for the write, unless another store or a discard of it was asked for in between.
 pub record IsFollowing (p : Profile) (limit : ℕ) (ended calls : List Call) (written read : Page) : Type 0 where
   pub since : List Call
   pub is : calls ≡ ended ++ since

@@ -38,8 +38,8 @@ pub fn flushes_are_of_their_slots()
 /// [`completions_are_of_their_slots`](crate::completions_are_of_their_slots) says, or not, as
 /// [`unqueued_commands_are_of_their_slots`](crate::unqueued_commands_are_of_their_slots) does, and then a FLUSH CACHE, as in
 /// [`flushes_are_of_their_slots`](crate::flushes_are_of_their_slots), whose stretch begins later, or whose FIS went from its slot later in the stretch: each
-/// sector of the write was stored with the bytes that came for it, as the disk asked and the caller answered, and nothing else stored to it or discarded it
-/// before the write ended; and behind that the disk asked for a flush, and the caller answered that very request, before the disk said that the FLUSH CACHE
+/// sector of the write was stored with the bytes that came for it, as the disk asked and the caller answered, and no other store and no discard of it was
+/// asked for before the write ended; and behind that the disk asked for a flush, and the caller answered that very request, before the disk said that the FLUSH CACHE
 /// ended.
 /// So it is of each write that the disk had ended well as it heard the FLUSH CACHE. The disk of the later stretch is the one of the first as long as nothing is
 /// put at its port or taken from it, and its calls go on.

@@ -3,8 +3,8 @@
 ghost use Rattle.machine_theorem.specs.Identity.{CommandsAreTheSlots};
 
 /// A law for callers; it runs no code. Over each stretch of a run of a machine from its opening: it begins at any moment at which the disk at a port
-/// has no command under a tag, nothing is on its way to it, no FIS of the port that names the tag is on its way to the controller, and no command
-/// that was sent stands in the slot of this number, whatever was before. In it the guest keeps to the standard: a FIS that asks the disk for a queued
+/// has no command under a tag, no FIS is on the link down and none waits for it, no FIS of the port that names the tag is on its way to the controller,
+/// and no queued command that was sent stands in the slot of this number, whatever was before. In it the guest keeps to the standard: a FIS that asks the disk for a queued
 /// command with the tag is that of a queued command in the slot of this number, and no write takes a bit of such a slot out of PxSACT; the link and
 /// the connection of the disk last. Then at the end of it a command that is under way at the disk under the tag is the one that stands in the slot:
 /// there a queued command for the disk stands that was sent; of the FISes that the controller sent to the disk, the disk heard each that asks for the

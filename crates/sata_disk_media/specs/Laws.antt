@@ -150,7 +150,7 @@ pub record IsReadBack (p : Profile) (limit : ℕ) (calls : List Call) (place n s
   pub has : HasSector read (next_data p limit calls place) s
 
 -- In every run with an honest medium a read that was heard after the end of a write went brings the bytes that came for the write, at each
--- sector that nothing else stored to or discarded in between.
+-- sector of which no other store and no discard was asked for in between.
 abbrev pub ReadsBringWrites : Type 0
 ReadsBringWrites = (p : Profile) (limit : ℕ) (calls : List Call) (place n s : ℕ) (written read : Page)
     → AreCalls (new_disk p limit) calls → IsHonest p limit calls → IsReadBack p limit calls place n s written read

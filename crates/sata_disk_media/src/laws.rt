@@ -34,7 +34,7 @@ pub fn stores_are_of_writes()
 {}
 
 /// A law. In every run with an honest medium a read that is heard after the end of a write went brings the bytes that came for that write,
-/// at each sector that nothing else stored to or discarded in between.
+/// at each sector of which no other store and no discard was asked for in between.
 pub fn reads_bring_writes()
     ensures { ReadsBringWrites }
 {
@@ -43,7 +43,7 @@ pub fn reads_bring_writes()
 }
 
 /// A law. In every run with an honest medium what the caller gave for a read that is heard after the end of a write went has the bytes that
-/// came for that write, at each sector that nothing else stored to or discarded in between, whether Data of it went or not.
+/// came for that write, at each sector of which no other store and no discard was asked for in between, whether Data of it went or not.
 pub fn reads_are_given_writes()
     ensures { GivenIsWritten }
 {
