@@ -171,6 +171,12 @@ class Emulator:
         self.wait("the machine", lambda: self.state() != "inmigrate")
         return self
 
+    def resets(self):
+        """The virtual machine, as by its button."""
+        self.qmp("system_reset")
+        self.wait("the reset", lambda: self.state() and any(it.get("event") == "RESET" for it in self.events))
+        self.events = []
+
     # ---- the guest's accesses
 
     def say(self, command):
