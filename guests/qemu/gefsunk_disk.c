@@ -158,9 +158,6 @@ static void worked(void *opaque, int ret)
     BlockErrorAction action = BLOCK_ERROR_ACTION_IGNORE;
     if (ret < 0) {
         action = blk_get_error_action(blk, is_read, -ret);
-        if (action == BLOCK_ERROR_ACTION_REPORT) {
-            block_acct_failed(blk_get_stats(blk), &work->account);
-        }
         if (action == BLOCK_ERROR_ACTION_STOP) {
             QTAILQ_INSERT_TAIL(&work->disk->stopped, work, next);
         } else if (is_read) {
@@ -168,15 +165,17 @@ static void worked(void *opaque, int ret)
         }
         trace_gefsunk_error(work->disk->port, work->event.u.medium.lba, -ret, action);
         blk_error_action(blk, action, is_read, -ret);
-    } else {
-        block_acct_done(blk_get_stats(blk), &work->account);
     }
     if (action == BLOCK_ERROR_ACTION_REPORT) {
+        block_acct_failed(blk_get_stats(blk), &work->account);
         gefsunk_fail(work, work->event.u.medium.lba);
-    } else if (action == BLOCK_ERROR_ACTION_IGNORE && work->event.kind == GEF_EVENT_DISCARD) {
-        go_on(work);
     } else if (action == BLOCK_ERROR_ACTION_IGNORE) {
-        gefsunk_answer(work, 0, 0);
+        block_acct_done(blk_get_stats(blk), &work->account);
+        if (work->event.kind == GEF_EVENT_DISCARD) {
+            go_on(work);
+        } else {
+            gefsunk_answer(work, 0, 0);
+        }
     }
 }
 

@@ -233,7 +233,7 @@ def tells_of_errors(folder):
         e.qmp("cont")
         e.wait("the end", lambda: not e.read(CI))
         found = e.qmp("query-blockstats")[0]["stats"]
-        ask("writes, and those that failed", [found["wr_operations"], found["failed_wr_operations"]], [1, 1])
+        ask("what was done, and what failed", [found[f"{which}{way}_operations"] for way in ("rd", "wr") for which in ("", "failed_")], [2, 0, 1, 1])
 
 
 def moves_while_it_waits(folder):
