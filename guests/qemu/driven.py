@@ -1,7 +1,7 @@
 """An emulator that a rig drives: its monitor by QMP, and the registers of a controller by the emulator's own protocol for tests (qtest).
 No guest runs.
 
-Memory that was freed is overwritten (MALLOC_PERTURB_), so that a use behind that shows. GEFSUNK_EMULATOR is a program that starts the
+Memory that was freed is overwritten (GLIBC_TUNABLES), so that a use behind that shows. GEFSUNK_EMULATOR is a program that starts the
 emulator in another way, as under valgrind, and GEFSUNK_SLOWER by how much all takes longer then.
 """
 import json
@@ -71,7 +71,7 @@ class Emulator:
              "none", "-m", "16", "-accel", "qtest", "-qtest", "stdio", "-qtest-log", "/dev/null",
              "-qmp", f"unix:{self.folder.name}/qmp,server=on,wait=off", *words],
             stdin=subprocess.PIPE, stdout=subprocess.PIPE, stderr=self.err, text=True, bufsize=1, pass_fds=arrives,
-            env=dict(os.environ, MALLOC_PERTURB_="165"))
+            env=dict(os.environ, GLIBC_TUNABLES="glibc.malloc.perturb=165:glibc.malloc.tcache_count=0"))
         for arriving in arrives:
             os.close(arriving)
         self.socket, self.monitor, self.events = None, None, []
