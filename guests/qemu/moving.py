@@ -118,9 +118,9 @@ def refuses_odd_requests(folder):
     with open(f"{folder}/state", "rb") as file:
         state = file.read()
     end = section(state)[1]
-    request = "a request of no disk that is here"
+    request, damaged = "a request of no disk that is here", "the state of the machine is damaged"
     for why, *edits in (request, ("request", "port", 1)), (request, ("request", "at", 2046)), (request, ("request", "count", 1000)), \
-            (request, ("request", "kind", 8), ("request", "count", 0)), ("the state of the machine is damaged", ("event", "kind", 2), ("event", "count", 1 << 62)):
+            (request, ("request", "kind", 8), ("request", "count", 0)), (damaged, ("event", "kind", 2), ("event", "count", 1 << 62)):
         with open(f"{folder}/odd", "wb") as file:
             file.write(edited(state, end, *edits))
         with Emulator(*OURS, *drive("d0", f"{folder}/a", ",file.locking=off"), *disk(), state=f"{folder}/odd") as e:
