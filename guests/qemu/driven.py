@@ -71,7 +71,7 @@ class Emulator:
              "none", "-m", "16", "-accel", "qtest", "-qtest", "stdio", "-qtest-log", "/dev/null",
              "-qmp", f"unix:{self.folder.name}/qmp,server=on,wait=off", *words],
             stdin=subprocess.PIPE, stdout=subprocess.PIPE, stderr=self.err, text=True, bufsize=1, pass_fds=arrives,
-            env=dict(os.environ, GLIBC_TUNABLES="glibc.malloc.perturb=165:glibc.malloc.tcache_count=0"))
+            env=dict(os.environ, GLIBC_TUNABLES="glibc.malloc.perturb=135:glibc.malloc.tcache_count=0"))
         for arriving in arrives:
             os.close(arriving)
         self.socket, self.monitor, self.events = None, None, []
