@@ -1,7 +1,7 @@
 """An emulator that a rig drives: its monitor by QMP, and the registers of a controller by the emulator's own protocol for tests (qtest).
 No guest runs.
 
-Memory that was freed is overwritten (MALLOC_PERTURB_), so that a use behind that shows. GEFSUNK_EMULATOR is a program that starts the
+Memory that was freed is overwritten (GLIBC_TUNABLES), so that a use behind that shows. GEFSUNK_EMULATOR is a program that starts the
 emulator in another way, as under valgrind, and GEFSUNK_SLOWER by how much all takes longer then.
 """
 import json
@@ -17,10 +17,11 @@ EMULATOR = os.environ.get("GEFSUNK_EMULATOR", os.path.join(WORK, "build/qemu-sys
 SECONDS = 5 * int(os.environ.get("GEFSUNK_SLOWER", "1"))
 Q35, PC = "q35,sata=off,smbus=off", "pc"
 BAR, LIST, AREA, TABLES, DATA = 0xE0000000, 0x10000, 0x11000, 0x20000, 0x100000
-CLB, FB, IS, CMD, TFD, SCTL, SERR, CI, FBS = 0x100, 0x108, 0x110, 0x118, 0x120, 0x12C, 0x130, 0x138, 0x140
+CLB, FB, IS, IE, CMD, TFD, SCTL, SERR, SACT, CI, FBS = 0x100, 0x108, 0x110, 0x114, 0x118, 0x120, 0x12C, 0x130, 0x134, 0x138, 0x140
 ST, FRE = 1, 0x10
 OFS, IFS, HBDS, HBFS, TFES = 1 << 24, 1 << 27, 1 << 28, 1 << 29, 1 << 30
 READ, WRITE, FLUSH, IDENTIFY, TRIM = 0x25, 0x35, 0xEA, 0xEC, 0x06
+QUEUED_READ, QUEUED_WRITE, WRITE_PORT = 0x60, 0x61, 0xE8
 SECTOR = 512
 
 
@@ -70,7 +71,7 @@ class Emulator:
              "none", "-m", "16", "-accel", "qtest", "-qtest", "stdio", "-qtest-log", "/dev/null",
              "-qmp", f"unix:{self.folder.name}/qmp,server=on,wait=off", *words],
             stdin=subprocess.PIPE, stdout=subprocess.PIPE, stderr=self.err, text=True, bufsize=1, pass_fds=arrives,
-            env=dict(os.environ, MALLOC_PERTURB_="165"))
+            env=dict(os.environ, GLIBC_TUNABLES="glibc.malloc.perturb=135:glibc.malloc.tcache_count=0"))
         for arriving in arrives:
             os.close(arriving)
         self.socket, self.monitor, self.events = None, None, []
@@ -171,6 +172,12 @@ class Emulator:
         self.wait("the machine", lambda: self.state() != "inmigrate")
         return self
 
+    def resets(self):
+        """The virtual machine, as by its button."""
+        self.qmp("system_reset")
+        self.wait("the reset", lambda: self.state() and any(it.get("event") == "RESET" for it in self.events))
+        self.events = []
+
     # ---- the guest's accesses
 
     def say(self, command):
@@ -182,6 +189,11 @@ class Emulator:
         if not answer or answer[0] != "OK":
             raise NotSo(f"the emulator ended at `{command[:40]}`: {self.said()[-400:]}")
         return answer[1] if len(answer) > 1 else ""
+
+    def say_at_once(self, *commands):
+        """Nothing of the emulator's own comes between them: the last word of each answer."""
+        self.run.stdin.write("".join(f"{command}\n" for command in commands))
+        return [self.run.stdout.readline().split()[-1] for _ in commands]
 
     def config(self, at, value=None, slot=3):
         self.say(f"outl 0xcf8 {0x80000000 | slot << 11 | at:#x}")
@@ -222,17 +234,46 @@ class Emulator:
         self.write(CMD, 6 | FRE | ST)
         return self
 
-    def issue(self, code, lba=0, count=1, at=DATA, features=0, table=TABLES):
-        """A command whose bytes are at an address."""
+    def issue(self, code, lba=0, count=1, at=DATA, features=0, table=TABLES, port=0):
+        """A command whose bytes are at an address, for a port of the multiplier if there is one."""
         place = lba.to_bytes(6, "little")
-        fis = bytes([0x27, 0x80, code, features, *place[:3], 0x40, *place[3:], 0, count & 0xFF, count >> 8])
+        fis = bytes([0x27, 0x80 | port, code, features, *place[:3], 0x40, *place[3:], 0, count & 0xFF, count >> 8])
         prd = at.to_bytes(12, "little") + (max(count, 1) * SECTOR - 1).to_bytes(4, "little")
         moves = code != FLUSH
         if table == TABLES:
             self.put(table, fis.ljust(0x80, b"\0") + prd)
-        self.put(LIST, (5 | (code in (WRITE, TRIM)) << 6 | moves << 16).to_bytes(4, "little") + bytes(4) + table.to_bytes(8, "little") + bytes(16))
+        self.put(LIST, (5 | (code in (WRITE, TRIM)) << 6 | port << 12 | moves << 16).to_bytes(8, "little") + table.to_bytes(8, "little") + bytes(16))
         self.write(IS, 0xFFFFFFFF)
         self.write(CI, 1)
+
+    def queue(self, code, *commands):
+        """Queued commands: the slot of each, its first sector, how many, and the address of its bytes."""
+        slots = 0
+        for slot, lba, count, at in commands:
+            place, table = lba.to_bytes(6, "little"), TABLES + 0x1000 * slot
+            fis = bytes([0x27, 0x80, code, count & 0xFF, *place[:3], 0x40, *place[3:], count >> 8, slot << 3])
+            self.put(table, fis.ljust(0x80, b"\0") + at.to_bytes(12, "little") + (count * SECTOR - 1).to_bytes(4, "little"))
+            self.put(LIST + 32 * slot, (5 | (code == QUEUED_WRITE) << 6 | 1 << 16).to_bytes(8, "little") + table.to_bytes(8, "little") + bytes(16))
+            slots |= 1 << slot
+        self.write(IS, 0xFFFFFFFF)
+        self.write(SACT, slots)
+        self.write(CI, slots)
+
+    def tells_multiplier(self, fis, flags=0):
+        """A FIS to the control port of the multiplier."""
+        self.put(TABLES, bytes(fis).ljust(0x80, b"\0"))
+        self.put(LIST, (5 | 15 << 12 | flags).to_bytes(8, "little") + TABLES.to_bytes(8, "little") + bytes(16))
+        self.write(CI, 1)
+        self.wait("the multiplier", lambda: not self.read(CI))
+
+    def opens(self, port):
+        """A port of the multiplier, which is reset by software first: by 0 in its SControl, and then ones in its SError."""
+        for control, flags in (4, 1 << 8 | 1 << 10), (0, 0):
+            self.tells_multiplier([0x27, 0x0F, *[0] * 13, control], flags)
+        self.wait("its signature", lambda: not self.read(TFD) & 0x88)
+        for register, value in (2, 0), (1, 0xFFFFFFFF):
+            low, *high = value.to_bytes(4, "little")
+            self.tells_multiplier([0x27, 0x8F, WRITE_PORT, register, *high, port, 0, 0, 0, 0, low])
 
     def is_over(self):
         return not self.read(CI) or bool(self.read(IS) & (OFS | IFS | HBDS | HBFS | TFES))
@@ -243,10 +284,10 @@ class Emulator:
         self.wait(f"the end of {code:x}h", self.is_over)
         return self.read(TFD)
 
-    def loads(self, lba, count=1):
+    def loads(self, lba, count=1, port=0):
         """The bytes of sectors."""
         self.put(DATA, bytes(count * SECTOR))
-        ask(f"PxTFD of a read of sector {lba}", self.does(READ, lba, count), 0x50)
+        ask(f"PxTFD of a read of sector {lba}", self.does(READ, lba, count, port=port), 0x50)
         return self.memory(DATA, count * SECTOR)
 
     def identifies(self):

@@ -220,7 +220,7 @@ void gefsunk_run(GefsunkAhci *s)
         } else if (has_next(s)) {
             do_event(s, &s->event);
         } else {
-            rests = !gefsunk_fis_move(s);
+            rests = s->has_event || !gefsunk_fis_move(s); /* behind an event that waits, a disk may have to begin anew */
         }
         count++;
     }

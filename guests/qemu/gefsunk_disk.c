@@ -125,9 +125,14 @@ void gefsunk_answer(Work *work, uint32_t error, uint64_t lba)
     }
 }
 
+static uint32_t error_of(const Work *work)
+{
+    return work->event.kind == GEF_EVENT_LOAD ? GEF_UNC : GEF_ABRT;
+}
+
 void gefsunk_fail(Work *work, uint64_t lba)
 {
-    gefsunk_answer(work, work->event.kind == GEF_EVENT_LOAD ? GEF_UNC : GEF_ABRT, lba);
+    gefsunk_answer(work, error_of(work), lba);
 }
 
 /* A discard goes on with its next range. What begins while the backend is drained would wait, and end behind that. */
@@ -153,9 +158,6 @@ static void worked(void *opaque, int ret)
     BlockErrorAction action = BLOCK_ERROR_ACTION_IGNORE;
     if (ret < 0) {
         action = blk_get_error_action(blk, is_read, -ret);
-        if (action == BLOCK_ERROR_ACTION_REPORT) {
-            block_acct_failed(blk_get_stats(blk), &work->account);
-        }
         if (action == BLOCK_ERROR_ACTION_STOP) {
             QTAILQ_INSERT_TAIL(&work->disk->stopped, work, next);
         } else if (is_read) {
@@ -163,15 +165,17 @@ static void worked(void *opaque, int ret)
         }
         trace_gefsunk_error(work->disk->port, work->event.u.medium.lba, -ret, action);
         blk_error_action(blk, action, is_read, -ret);
-    } else {
-        block_acct_done(blk_get_stats(blk), &work->account);
     }
     if (action == BLOCK_ERROR_ACTION_REPORT) {
+        block_acct_failed(blk_get_stats(blk), &work->account);
         gefsunk_fail(work, work->event.u.medium.lba);
-    } else if (action == BLOCK_ERROR_ACTION_IGNORE && work->event.kind == GEF_EVENT_DISCARD) {
-        go_on(work);
     } else if (action == BLOCK_ERROR_ACTION_IGNORE) {
-        gefsunk_answer(work, 0, 0);
+        block_acct_done(blk_get_stats(blk), &work->account);
+        if (work->event.kind == GEF_EVENT_DISCARD) {
+            go_on(work);
+        } else {
+            gefsunk_answer(work, 0, 0);
+        }
     }
 }
 
@@ -344,21 +348,27 @@ static void changed(void *opaque, bool is_running, RunState state)
     }
 }
 
-void gefsunk_settle(GefsunkAhci *s, GefsunkDisk *disk)
+/* Work that nobody does any more. A disk by itself outlives a reset of the machine, so it is told: else it would wait for ever. */
+static void drop_all(GefsunkDisk *disk, Works *works)
 {
     Work *work;
+    while ((work = QTAILQ_FIRST(works))) {
+        QTAILQ_REMOVE(works, work, next);
+        if (disk->fis) {
+            gef_disk_answer_failed(&disk->link.disk, &work->event.u.medium.request, error_of(work), work->event.u.medium.lba);
+        }
+        end_work(work);
+    }
+}
+
+void gefsunk_settle(GefsunkAhci *s, GefsunkDisk *disk)
+{
     bool was_held = s->is_held;
     s->is_held = true;
     blk_drain(disk->conf.blk);
     s->is_held = was_held;
-    while ((work = QTAILQ_FIRST(&disk->stopped))) {
-        QTAILQ_REMOVE(&disk->stopped, work, next);
-        end_work(work);
-    }
-    while ((work = QTAILQ_FIRST(&disk->medium.waiting))) {
-        QTAILQ_REMOVE(&disk->medium.waiting, work, next);
-        end_work(work);
-    }
+    drop_all(disk, &disk->stopped);
+    drop_all(disk, &disk->medium.waiting);
 }
 
 /* The port that the user named, or the first that is free. */

@@ -38,6 +38,7 @@
 #include "qapi/error.h"
 #include "qemu/cutils.h"
 #include "qemu/error-report.h"
+#include "qemu/main-loop.h"
 #include "qemu/timer.h"
 #include "migration/blocker.h"
 #include "gefsunk_ahci.h"
@@ -111,6 +112,7 @@ static void works_again(GefsunkDisk *disk)
 static void talks_again(GefsunkDisk *disk)
 {
     disk->link.is_deaf = disk->link.is_mute = disk->link.is_held = false;
+    qemu_bh_schedule(gefsunk_controller_of(disk)->later); /* what was held goes up */
 }
 
 static gef_status pull(GefsunkAhci *s, GefsunkDisk *disk, const Fault *f)

@@ -1,6 +1,6 @@
 /*
- * The controller is saved and restored, and migrated: the machine by gef_machine_save, beside it what an error stopped. The media are
- * those of the emulator's block layer, and are its to move.
+ * The controller is saved and restored, and migrated: the machine by gef_machine_save, beside it what an error stopped or a script of
+ * faults kept waiting. The media are those of the emulator's block layer, and are its to move.
  */
 #include "qemu/osdep.h"
 #include "qemu/error-report.h"
@@ -88,8 +88,8 @@ static gef_event of_medium(const GefsunkSaved *from)
 /* ---- saving */
 
 /*
- * Work that an error stopped, and of a store its bytes. The machine may have them no more: the guest could reset the disk before the virtual
- * machine had stopped.
+ * Work that waits, and of a store its bytes. The machine may have them no more: the guest could reset the disk before the virtual machine
+ * had stopped.
  */
 static void save_work(GefsunkAhci *s, const Work *work, size_t *room)
 {
@@ -102,6 +102,14 @@ static void save_work(GefsunkAhci *s, const Work *work, size_t *room)
         }
         memcpy(s->bytes + s->bytes_size, work->bytes, work->vector.size);
         s->bytes_size += work->vector.size;
+    }
+}
+
+static void save_works(GefsunkAhci *s, const Works *works, size_t *room)
+{
+    const Work *work;
+    QTAILQ_FOREACH(work, works, next) {
+        save_work(s, work, room);
     }
 }
 
@@ -124,12 +132,14 @@ static int forget(void *opaque)
     return 0;
 }
 
-/* The virtual machine is stopped, so of the media's work only that is left which an error stopped. */
+/*
+ * The virtual machine is stopped, so of the media's work only that is left which an error stopped, or a script of faults that went
+ * since: its clock stands, so what the script kept waiting has not begun.
+ */
 static int pre_save(void *opaque)
 {
     GefsunkAhci *s = opaque;
     size_t size, room = 0;
-    Work *work;
     forget(s);
     gefsunk_must(gef_machine_state_size(&s->machine, &size));
     s->state = g_malloc(size);
@@ -140,14 +150,13 @@ static int pre_save(void *opaque)
         s->told[port] = told_at(s, port);
         s->media[port] = s->disks[port] ? s->disks[port]->there : 0;
         if (s->disks[port]) {
-            QTAILQ_FOREACH(work, &s->disks[port]->stopped, next) {
-                save_work(s, work, &room);
-            }
+            save_works(s, &s->disks[port]->stopped, &room);
+            save_works(s, &s->disks[port]->medium.waiting, &room);
         }
     }
     trace_gefsunk_save(s->state_size, s->works_count, s->bytes_size);
     if (s->state_size > MOST_STATE || s->bytes_size > MOST_STATE) {
-        error_report("gefsunk-ahci: what an error stopped is too much to be saved");
+        error_report("gefsunk-ahci: what the media have to do still is too much to be saved");
         return -EFBIG;
     }
     return 0;
