@@ -230,7 +230,8 @@ typedef struct gef_disk_profile {
 /* What an event is. Its part of the union is named with it; those without one have none. */
 #define GEF_EVENT_NOTHING 0u     /* nothing, until the guest, a medium or a device does something */
 #define GEF_EVENT_AGAIN 1u       /* a budget of moves is spent, so that a call is short: ask again */
-#define GEF_EVENT_READ_GUEST 2u  /* `read`: `len` bytes of the guest's memory from `at` on are wanted: answer with `wanted` */
+#define GEF_EVENT_READ_GUEST 2u  /* `read`: `len` bytes of the guest's memory from `at` on are wanted: answer with `wanted`, */
+                                 /* now or later, beside other events */
 #define GEF_EVENT_WRITE_GUEST 3u /* `write`: `len` bytes, which gef_machine_lent gives, go to the guest's memory from `at` on: */
                                  /* write them before you ask anything else, and before the guest reads a register */
 #define GEF_EVENT_LOAD 4u        /* `medium`: `count` sectors from `lba` on of the disk at `port` are wanted */
@@ -238,7 +239,7 @@ typedef struct gef_disk_profile {
 #define GEF_EVENT_FLUSH 6u       /* `medium`: what was stored is to last a loss of power */
 #define GEF_EVENT_DISCARD 7u     /* `medium`: sectors, which gef_machine_discarded or gef_disk_discarded gives, are not needed */
 #define GEF_EVENT_LINE 8u        /* `up`: the interrupt line is up (1), or down (0), from now on */
-#define GEF_EVENT_MESSAGE 9u     /* a message is due, where messages (MSI) stand for the line */
+#define GEF_EVENT_MESSAGE 9u     /* a message (MSI) is due. It comes in every machine, beside GEF_EVENT_LINE: use the one and ignore the other */
 #define GEF_EVENT_TO_DEVICE 10u  /* a FIS for your device at `port`: gef_machine_take_frame gives it */
 #define GEF_EVENT_BEGINS 11u     /* what is at `port` begins anew: a device of yours forgets what it had to do, and sends its */
                                  /* signature. It comes for disks, too, which do so by themselves: ignore it there */
@@ -474,7 +475,7 @@ gef_status gef_machine_power_on(gef_machine *machine);
 /*
  * What is at a port is pulled, and stays at hand: all that it had to do is gone, and no FIS of it comes up any more but one that has
  * left its port, and is on its way to the controller. A store or a discard that a disk asked for is still to be answered.
- * Can return GEF_CLOSED, GEF_NO_PORT, GEF_NOT_THERE.
+ * Can return GEF_CLOSED, GEF_NO_PORT, GEF_NOT_THERE (nothing is plugged in there).
  */
 gef_status gef_machine_pull(gef_machine *machine, uint8_t port);
 
@@ -499,7 +500,8 @@ gef_status gef_machine_lent(gef_machine *machine, uint8_t *bytes, size_t room, s
 
 /*
  * The bytes that are wanted of the guest's memory, as you read them. What is not wanted any more, as after a reset, or is not so
- * many bytes, changes nothing, and is no error. GEF_NO_MEMORY: these bytes are dropped, and gef_machine_next asks for them anew.
+ * many bytes, changes nothing, and is no error: after bytes of another length they are wanted still, and no event says so again.
+ * GEF_NO_MEMORY: these bytes are dropped, and gef_machine_next asks for them anew.
  * Can return GEF_CLOSED, GEF_NOT_WANTED (no event has such a `wanted`), GEF_NO_MEMORY.
  */
 gef_status gef_machine_supply(gef_machine *machine, const gef_wanted *wanted, const uint8_t *bytes, size_t len);
@@ -534,8 +536,8 @@ gef_status gef_machine_answer_failed(gef_machine *machine, const gef_request *re
 /*
  * Copies bytes of a store into the room, from an offset on, as many as there are and fit, and their number into *len. They are
  * there until the store is answered, or its disk is reset or pulled, or an error ends its command. GEF_NOT_OUT: they are gone, and the
- * store is still to be answered if it was not; or the request is no store. GEF_OTHER_KIND: a flush or a discard that is of no command
- * of the queue. The bytes are never those of another request.
+ * store is still to be answered if it was not; or the request is no store, or of a disk that was taken from its port. GEF_OTHER_KIND: a
+ * flush or a discard that is of no command of the queue. The bytes are never those of another request.
  * Can return GEF_CLOSED, GEF_OTHER_DISK, GEF_NOT_OUT, GEF_OTHER_KIND.
  */
 gef_status gef_machine_stored(gef_machine *machine, const gef_request *request, size_t from, uint8_t *bytes, size_t room,
@@ -563,7 +565,8 @@ gef_status gef_machine_offer(gef_machine *machine, uint8_t port, const uint8_t *
 /* ---- a machine: saved and restored */
 
 /*
- * Says how many bytes the state of the machine has now: below 64 KiB for fifteen disks that are at rest, and the bytes under way beside.
+ * Says how many bytes the state of the machine has now: below 64 KiB for fifteen disks that are at rest, and beside that eight for each
+ * byte under way, so at most eight times the `limit` of each disk.
  * Can return GEF_CLOSED, GEF_NO_MEMORY.
  */
 gef_status gef_machine_state_size(gef_machine *machine, size_t *len);
@@ -586,7 +589,11 @@ gef_status gef_machine_save(gef_machine *machine, uint8_t *bytes, size_t room, s
  *
  * Bytes of anybody may be passed: they give a machine whose calls are as safe as those of any other, which asks for no sector that its
  * disks do not have, and where no two requests of a disk have one number, or are refused. The disks have as many sectors as the bytes
- * say: that your media have them is yours to test.
+ * say: that your media have them is yours to test. A state has no checksum, and damage that makes another state of it is not found.
+ *
+ * A request, or what is wanted, is of one handle, from its making or this call to its end: a state of before has numbers that came again
+ * since. So have no answer on its way to the machine that goes, and drop those that come later. The call wants 1 MiB of stack as one compiler
+ * made it, and gef_machine_new 104 KiB.
  * Can return GEF_OPEN (free it first), GEF_NOT_A_STATE, GEF_OTHER_VERSION, GEF_BAD_STATE, GEF_NO_MEMORY.
  */
 gef_status gef_machine_restore(gef_machine *machine, const uint8_t *bytes, size_t len);
@@ -627,7 +634,7 @@ gef_status gef_machine_restore(gef_machine *machine, const uint8_t *bytes, size_
  *
  *   - Each length is that of the memory behind its pointer, each text ends with a 0, and pointers of one call do not overlap.
  *   - The fields of a handle, of a gef_wanted and of a gef_request are as the library left them, and you use an open handle through
- *     one copy only.
+ *     one copy only. A gef_wanted and a gef_request go back to the handle that they came from, as it was opened then.
  *   - One call at a time on a handle.
  *   - A FIS for gef_pm_from_device was sent by the device that is at the port, and by none before it.
  *   - The bytes for gef_machine_supply were read from the guest's memory at the place and in the number that the event has, those for

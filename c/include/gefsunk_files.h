@@ -61,14 +61,28 @@ static inline gef_status gef_files_load(gef_machine *machine, int file, uint8_t 
     return gef_machine_answer_loaded(machine, request, room, len);
 }
 
-/* The bytes of a store. Where a reset, a pull or an error dropped them it fails, which nobody hears: then its sectors are free again. */
+/* Whether a file ends before the last sector of an event: then `lba` is the first that it does not have. A device has no such length. */
+static inline int gef_files_ends_before(int file, const gef_event *event, uint64_t *lba) {
+    struct stat about;
+    uint64_t sectors, first = event->u.medium.lba;
+    if (fstat(file, &about) || !S_ISREG(about.st_mode)) return 0;
+    sectors = (uint64_t)about.st_size / 512;
+    *lba = first < sectors ? sectors : first;
+    return first + event->u.medium.count > sectors;
+}
+
+/*
+ * The bytes of a store. Where a reset, a pull or an error dropped them it fails, which nobody hears: then its sectors are free again. A file
+ * gets no longer by it.
+ */
 static inline gef_status gef_files_store(gef_machine *machine, int file, uint8_t *room, const gef_event *event) {
     const gef_request *request = &event->u.medium.request;
-    uint64_t lba = event->u.medium.lba;
+    uint64_t lba = event->u.medium.lba, end;
     size_t len = 0, done = 0;
     gef_status status = gef_machine_stored(machine, request, 0, room, GEF_FILES_ROOM, &len);
     if (status == GEF_NOT_OUT) return gef_machine_answer_failed(machine, request, GEF_ABRT, lba);
     if (status != GEF_OK) return status;
+    if (gef_files_ends_before(file, event, &end)) return gef_machine_answer_failed(machine, request, GEF_IDNF, end);
     while (done < len) {
         ssize_t put = pwrite(file, room + done, len - done, (off_t)(lba * 512 + done));
         if (put < 0 && errno == EINTR) continue;

@@ -178,6 +178,8 @@ int main(void) {
     for (at = 9; at < 16; at++) {
         if (ftruncate(file, 512 * (off_t)at)) fail("no file", at);
         hears("a read behind the end", READ, 0, 0, GEF_IDNF, (uint8_t)at);
+        hears("a write behind the end", WRITE, 0, 0, GEF_IDNF, (uint8_t)at);
+        if (lseek(file, 0, SEEK_END) != 512 * (off_t)at) fail("a write made the file longer", at);
     }
     must("free", gef_machine_free(&machine));
     close(file);
