@@ -175,12 +175,15 @@ int main(void) {
     is_late_for("a late discard", TRIM, 0x51);
     memset(memory + data_of(0), 0x52, 4096);
     is_late_for("a late store", WRITE, 0x53);
-    for (at = 9; at < 16; at++) {
+    for (at = 6; at < 16; at++) {
+        uint8_t first = (uint8_t)(at < 8 ? 8 : at);
         if (ftruncate(file, 512 * (off_t)at)) fail("no file", at);
-        hears("a read behind the end", READ, 0, 0, GEF_IDNF, (uint8_t)at);
-        hears("a write behind the end", WRITE, 0, 0, GEF_IDNF, (uint8_t)at);
+        hears("a read behind the end", READ, 0, 0, GEF_IDNF, first);
+        hears("a write behind the end", WRITE, 0, 0, GEF_IDNF, first);
         if (lseek(file, 0, SEEK_END) != 512 * (off_t)at) fail("a write made the file longer", at);
     }
+    if (ftruncate(file, 512 * (off_t)16)) fail("no file", 16);
+    hears("a write up to the end", WRITE, 0, 0, 0, 0);
     must("free", gef_machine_free(&machine));
     close(file);
     puts("each call on the file failed once");
