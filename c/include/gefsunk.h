@@ -566,7 +566,7 @@ gef_status gef_machine_offer(gef_machine *machine, uint8_t port, const uint8_t *
 
 /*
  * Says how many bytes the state of the machine has now: below 64 KiB for fifteen disks that are at rest, and beside that eight for each
- * byte under way, so at most eight times the `limit` of each disk.
+ * byte under way: of the commands of disks, which their `limit` bounds, and of FISes that wait.
  * Can return GEF_CLOSED, GEF_NO_MEMORY.
  */
 gef_status gef_machine_state_size(gef_machine *machine, size_t *len);
@@ -591,8 +591,8 @@ gef_status gef_machine_save(gef_machine *machine, uint8_t *bytes, size_t room, s
  * disks do not have, and where no two requests of a disk have one number, or are refused. The disks have as many sectors as the bytes
  * say: that your media have them is yours to test. A state has no checksum, and damage that makes another state of it is not found.
  *
- * A request, or what is wanted, is of one handle, from its making or this call to its end: a state of before has numbers that came again
- * since. So have no answer on its way to the machine that goes, and drop those that come later. The call wants 1 MiB of stack as one compiler
+ * What was asked and not answered as the state was saved is out again, under its numbers, and nothing else is. Numbers that were given
+ * behind the save come again for something else: so drop each answer to what was asked then. The call wants 1 MiB of stack as one compiler
  * made it, and gef_machine_new 104 KiB.
  * Can return GEF_OPEN (free it first), GEF_NOT_A_STATE, GEF_OTHER_VERSION, GEF_BAD_STATE, GEF_NO_MEMORY.
  */
@@ -634,7 +634,7 @@ gef_status gef_machine_restore(gef_machine *machine, const uint8_t *bytes, size_
  *
  *   - Each length is that of the memory behind its pointer, each text ends with a 0, and pointers of one call do not overlap.
  *   - The fields of a handle, of a gef_wanted and of a gef_request are as the library left them, and you use an open handle through
- *     one copy only. A gef_wanted and a gef_request go back to the handle that they came from, as it was opened then.
+ *     one copy only. A gef_wanted and a gef_request go back to the machine that gave them, or to one restored of a state that has them.
  *   - One call at a time on a handle.
  *   - A FIS for gef_pm_from_device was sent by the device that is at the port, and by none before it.
  *   - The bytes for gef_machine_supply were read from the guest's memory at the place and in the number that the event has, those for
