@@ -431,7 +431,8 @@ gef_status gef_machine_free(gef_machine *machine);
 
 /*
  * The guest reads registers: width is 1, 2, 4 or 8 bytes at an offset (those of the port begin at 100h). 0 where no register is,
- * and for an access that crosses a boundary of eight bytes. It changes nothing.
+ * and for an access that crosses a boundary of eight bytes. It changes nothing. Without a multiplier PxSSTS (128h) shows a device while
+ * one is plugged in, and no interrupt tells the guest of a plug or a pull: it sees that as it resets the link.
  * Can return GEF_CLOSED, GEF_BAD_WIDTH.
  */
 gef_status gef_machine_read(gef_machine *machine, uint32_t offset, uint32_t width, uint64_t *value);

@@ -1,13 +1,39 @@
 -- Registers of a machine: those of its controller (AHCI 1.3.1, 3). A write that resets the link has what is behind it begin anew (10.4.2,
 -- port reset).
-use Rattle.std.specs.Prelude.{◌≡◌, ◌+◌, ◌||◌, ◌&&◌, ℕ, nat_le, Bool, true, false, if◌then◌else◌, List, [], take, drop, length, Option, Some, None}
+use Rattle.std.specs.Prelude.{◌≡◌, ◌+◌, ◌*◌, ◌/◌, ◌^◌, ◌==◌, ◌||◌, ◌&&◌, ℕ, nat_le, Bool, true, false, if◌then◌else◌, List, [], take, drop, length, Option, Some, None}
 use Rattle.fis_view.specs.Frames.{Stamped}
-use Rattle.ahci_controller.specs.{Wide.WritesWide, declared.{access.Width.Width, next.Next.Next, wide.WideWritten.WideWritten}}
+use Rattle.ahci_controller.specs.{States.ControllerState, Wide.{WritesWide, read_wide}, declared.access.Width.{Width, TheVariants.Dword}}
+use Rattle.ahci_controller.specs.declared.{next.Next.Next, wide.WideWritten.WideWritten}
 use Rattle.ahci_controller.specs.declared.next.Next.TheVariants as next
 use Rattle.ahci_registers.specs.declared.link.Effect.{Effect, TheVariants.{Nothing, LinkReset, LinkUp}}
-use Rattle.fan_out.specs.FanOuts.{renewed_end}
+use Rattle.fan_out.specs.FanOuts.{is_bare, renewed_end}
 use Rattle.ahci_machine.specs.{States.{MachineState, no_gathering}, declared.machine.Lent.Lent}
 use Rattle.ahci_machine.specs.declared.machine.Lent.TheVariants as lent
+
+-- ---- what is read
+
+-- without its bytes below this power of 256
+abbrev pub above : (power value : ℕ) → ℕ
+above power value = value / power * power
+
+-- what was read from an offset on, without the bytes that are of PxSSTS, 128h to 12Bh
+abbrev pub without_status : (offset value : ℕ) → ℕ
+without_status offset value =
+    if offset == 0x128 then above (2 ^ 32) value else if offset == 0x129 then above (2 ^ 24) value
+    else if offset == 0x12A then above (2 ^ 16) value else if offset == 0x12B then above (2 ^ 8) value else value
+
+-- PxSSTS of a controller shows a device while its link is up (AHCI 1.3.1, 3.3.10)
+abbrev pub shows_device : ControllerState → Bool
+shows_device c = read_wide c 0x128 Dword == 0x133
+
+-- What the registers read: those of the controller. Where nothing is at the other end of its link PxSSTS shows no device, and no
+-- communication (DET 0).
+abbrev pub read_machine : MachineState → (offset : ℕ) → Width → ℕ
+read_machine m offset width =
+    if is_bare m.fan && shows_device m.controller then without_status offset (read_wide m.controller offset width)
+    else read_wide m.controller offset width
+
+-- ---- what is written
 
 -- The link was reset: nothing is on its way any more, and each device begins anew.
 abbrev pub renewed : MachineState → MachineState

@@ -94,7 +94,7 @@ impl Machine {
     }
 
     /// The bytes that are wanted are these. What is wanted no more, or is not so many bytes, changes nothing. Where memory is
-    /// refused, the same bytes are wanted again.
+    /// refused, the same bytes are wanted again, under another number.
     pub fn supply(
         &mut self,
         alloc: Global,

@@ -5,8 +5,8 @@ ghost use Rattle.slots.specs.Table.{IsTable};
 ghost use Rattle.hba_fbs.specs.Views.{IsCorePort};
 ghost use Rattle.ahci_controller.specs.Latch.{raised};
 ghost use Rattle.ahci_controller.specs.Rules.{IsRuled};
-ghost use Rattle.ahci_controller.specs.Wide.{read_wide};
-ghost use Rattle.ahci_machine.specs.Registers.{WritesMachine, for_host, kept_powered, lent_bytes, part_of, powered, renewed};
+ghost use Rattle.ahci_machine.specs.Registers.{WritesMachine, for_host, kept_powered, lent_bytes, part_of, powered, read_machine, renewed};
+ghost use Rattle.ahci_machine.specs.Registers.{without_status as without_status_of};
 ghost use Rattle.ahci_machine.specs.States.{IsOpeningMachine, no_gathering as no_gathering_of};
 
 mod saved;
@@ -20,6 +20,12 @@ use fan_out::FanOut;
 use fis_view::Frame;
 use std::alloc::{AllocError, Global};
 use std::marker::Model;
+
+// PxSSTS.
+const PX_SSTS: u32 = 0x128;
+
+// What it reads while the link is up.
+const ESTABLISHED: u64 = 0x133;
 
 /// What is lent to be written to the guest.
 #[derive(Clone, Copy, Debug, PartialEq, Eq)]
@@ -84,6 +90,19 @@ fn no_gathering() -> [Option<Gathering>; 16]
     Default::default()
 }
 
+// What was read from an offset on, without the bytes that are of PxSSTS.
+fn without_status(offset: u32, value: u64) -> u64
+    ensures { result ≡ without_status_of offset value }
+{
+    match offset {
+        0x128 => value / 0x1_0000_0000 * 0x1_0000_0000,
+        0x129 => value / 0x100_0000 * 0x100_0000,
+        0x12A => value / 0x1_0000 * 0x1_0000,
+        0x12B => value / 0x100 * 0x100,
+        _ => value,
+    }
+}
+
 // Whether it is done with the guest, and not with a device.
 fn for_host(next: Next) -> bool
     ensures { result ≡ for_host next }
@@ -142,11 +161,17 @@ impl Machine {
         self.controller.keeps_rules();
     }
 
-    /// What the registers read at an offset. An access that crosses a boundary of eight bytes reads 0.
+    /// What the registers read at an offset. An access that crosses a boundary of eight bytes reads 0. Without a multiplier
+    /// PxSSTS shows no device while none is plugged in.
     pub fn read(&self, offset: u32, width: Width) -> u64
-        ensures { result ≡ read_wide self.now.controller offset width }
+        ensures { result ≡ read_machine self.now offset width }
     {
-        self.controller.read(offset, width)
+        let value = self.controller.read(offset, width);
+        if self.fan.is_bare() && self.controller.read(PX_SSTS, Width::Dword) == ESTABLISHED {
+            without_status(offset, value)
+        } else {
+            value
+        }
     }
 
     /// Power comes to what is behind the controller: nothing is on its way to the devices or from them any more, and each device
@@ -177,7 +202,7 @@ impl Machine {
     }
 
     /// Writes to the registers at an offset, the lower dword first. A write that resets the link, or has it up again, has what is
-    /// behind it begin anew.
+    /// behind it begin anew. What the answer says of the line is of the registers alone: [`Machine::next`] tells of it behind all bytes.
     pub fn write(&mut self, offset: u32, width: Width, value: u64) -> WideWritten
         ensures { WritesMachine offset width value self.old result self.new }
     {

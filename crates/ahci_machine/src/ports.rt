@@ -70,7 +70,8 @@ impl Machine {
         }
     }
 
-    /// What is at a port is pulled: all that it had to do is gone, and the guest hears nothing more of it.
+    /// What is at a port is pulled: all that it had to do is gone, and it is heard no more. A FIS of it that left its port before
+    /// still comes.
     #[tactic(auto, using(crate::proofs::PortLemmas::pulled))]
     pub fn pull(&mut self, alloc: Global, port: u8) -> Result<(), PortFault>
         ensures { PullsMachine port self.old result self.new }

@@ -1,4 +1,3 @@
 mod BitLemmas
 mod LawLemmas
 mod LinkLemmas
-pub mod Door

@@ -1,6 +1,6 @@
 -- What is behind the port of a host: a link is of two ends (Serial ATA 3.x, 13), and at the other one is a device or a port
 -- multiplier (16.3).
-use Rattle.std.specs.{Prelude.{◌≡◌, ◌&&◌, ℕ, nat_lt, Bool, Option, None, Result, Ok, Err, MatchResult}, Bool.MatchBool}
+use Rattle.std.specs.{Prelude.{◌≡◌, ◌&&◌, ℕ, nat_lt, not, Bool, false, Option, None, Result, Ok, Err, MatchResult}, Bool.MatchBool}
 use Rattle.std.specs.declared.alloc.AllocError.{AllocError}
 use Rattle.fis_view.specs.Frames.{Stamped}
 use Rattle.pm_ports.specs.declared.port.Offered.{Offered, TheVariants.Dropped}
@@ -19,6 +19,11 @@ port_count (Multiplier f) = f.multiplier.registers.ports
 abbrev pub IsEnd : FanOut → Type 0
 IsEnd (Device s) = straight.IsStraight s
 IsEnd (Multiplier f) = fan.IsFan f
+
+-- nothing is at the other end
+abbrev pub is_bare : FanOut → Bool
+is_bare (Device s) = not s.seat.is_there
+is_bare (Multiplier f) = false
 
 abbrev pub has_port : FanOut → ℕ → Bool
 has_port end n = nat_lt n (port_count end)

@@ -2,7 +2,7 @@
 
 ghost use Rattle.std.specs.Prelude.{false, true, ◌≡◌, ◌≤◌, ◌<◌, IfSome, Ok};
 ghost use Rattle.pm_ports.specs.declared.port.Offered.TheVariants.{Held};
-ghost use Rattle.fan_out.specs.FanOuts.{IsEnd, GivesDownThere, GivesUpThere, Offers, Plugs, Pulls, Sends, Tells, port_count, renewed_end, wants_at};
+ghost use Rattle.fan_out.specs.FanOuts.{IsEnd, GivesDownThere, GivesUpThere, Offers, Plugs, Pulls, Sends, Tells, is_bare, port_count, renewed_end, wants_at};
 ghost use Rattle.fan_out.specs.Fans.{opening_fan};
 ghost use Rattle.fan_out.specs.Straights.{opening_straight};
 
@@ -51,6 +51,16 @@ impl FanOut {
         match self {
             FanOut::Device(straight) => straight.ports(),
             FanOut::Multiplier(fan) => fan.ports(),
+        }
+    }
+
+    /// Whether nothing is at the other end of the link: no multiplier, and no device.
+    pub fn is_bare(&self) -> bool
+        ensures { result ≡ is_bare self.now }
+    {
+        match self {
+            FanOut::Device(straight) => !straight.is_there(),
+            FanOut::Multiplier(_) => false,
         }
     }
 

@@ -70,6 +70,13 @@ impl Straight {
         1
     }
 
+    // Whether a device is there.
+    pub(crate) fn is_there(&self) -> bool
+        ensures { result ≡ self.now.seat.is_there }
+    {
+        self.seat.is_there
+    }
+
     // A device comes, as this connection.
     fn join(&mut self, conn: u32)
         requires free { self.old.seat.is_there ≡ false }

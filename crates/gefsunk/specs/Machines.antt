@@ -4,11 +4,10 @@ use Rattle.std.specs.{Prelude.{MatchOption, Result, MatchResult}, Bool.MatchBool
 use Rattle.fis_view.specs.{Frames.{Stamped, is_frame}, declared.frame.Stamp.Stamp}
 use Rattle.block_engine.specs.declared.request.Answer.{Answer, TheVariants.Failed}
 use Rattle.sata_disk.specs.State.{DiskState}
-use Rattle.ahci_controller.specs.{Wide.read_wide, declared.access.Width.{Width, TheVariants.{Byte, Word, Dword, Qword}}}
-use Rattle.ahci_controller.specs.declared.wide.WideWritten.{WideWritten}
+use Rattle.ahci_controller.specs.declared.{access.Width.{Width, TheVariants.{Byte, Word, Dword, Qword}}, wide.WideWritten.WideWritten}
 use Rattle.ahci_machine.specs.{Acts.{Asks, Moves, unlent}, Answers.{AnswersMachine, MissesMachine, OffersFrame, SuppliesMachine, TakesFrame}}
 use Rattle.ahci_machine.specs.{Answers.{discarded_of, stored_of}, Ports.{PlugsMachine, PullsMachine, Puts, Removes}, Resting.EndsAtRest}
-use Rattle.ahci_machine.specs.{Registers.{WritesMachine, lent_bytes, powered}, States.{IsOpeningMachine, MachineState}}
+use Rattle.ahci_machine.specs.{Registers.{WritesMachine, lent_bytes, powered, read_machine}, States.{IsOpeningMachine, MachineState}}
 use Rattle.ahci_machine.specs.declared.{answers.{MediumError.MediumError, Told.Told}, bay.Unit.{Unit as Inside, TheVariants.Disk}}
 use Rattle.ahci_machine.specs.declared.ports.PortFault.{PortFault}
 use Rattle.ahci_machine.specs.declared.request.{MediumId.MediumId, Request.Request, Wanted.{Wanted, TheVariants.{Command, Data}}}
@@ -28,7 +27,7 @@ width_of n = if n == 1 then Some Byte else if n == 2 then Some Word else if n ==
 
 abbrev pub ReadRule : MachineState → (offset width : ℕ) → Status → (value : ℕ) → Type 0
 ReadRule m offset width answer value =
-    MatchOption (width_of width) (answer ≡ status.BadWidth) (λ w. (answer ≡ status.Done) × (value ≡ read_wide m.controller offset w))
+    MatchOption (width_of width) (answer ≡ status.BadWidth) (λ w. (answer ≡ status.Done) × (value ≡ read_machine m offset w))
 
 pub record Writes (old : MachineState) (offset : ℕ) (width : Width) (value : ℕ) (new : MachineState) : Type 0 where
   pub told : WideWritten

@@ -35,7 +35,8 @@ pub fn opens_unread(alloc: Global, ports: u8, legacy: bool) -> Result<Machine, A
 /// reaches the other end of the link goes to the port that it names.
 pub fn goes_on(alloc: Global, machine: &mut Machine) -> Result<Act, AllocError>
     ensures falls { IfOk result (λ move. FallsOn machine.old (deed.Moved move ∷ []) machine.new) }
-    ensures orders { (dev slot : ℕ) (fis : List ℕ) → result ≡ Ok (act.Turns (next_move.Order dev slot fis)) → IsOrdered machine.old.controller dev slot fis }
+    ensures orders { (dev slot : ℕ) (fis : List ℕ) → result ≡ Ok (act.Turns (next_move.Order dev slot fis))
+        → IsOrdered machine.old.controller dev slot fis }
     ensures arrives { (went : Passed) → result ≡ Ok (act.Sends went) → ArrivesAt machine.old.fan machine.old.outgoing went }
 {
     machine_laws::frames_fall_in_order();

@@ -154,9 +154,11 @@ pub fn moves(alloc: Global, machine: &mut Machine) -> Result<Act, AllocError>
     ensures keeps { Keeps machine.old machine.new }
     ensures controller { IfOk result (λ move. KeepsLaws machine.old (deed.Moved move ∷ []) machine.new) }
     ensures writes { (write : next_move.Next) → result ≡ Ok (act.Writes write) → WritesRightly machine.old write machine.new }
-    ensures lent { (write : next_move.Next) → result ≡ Ok (act.Writes write) → (last : Option (List ℕ)) → HoldsFrame machine.old last → Lends write last (lent_bytes machine.new) }
+    ensures lent { (write : next_move.Next) → result ≡ Ok (act.Writes write) → (last : Option (List ℕ)) → HoldsFrame machine.old last
+        → Lends write last (lent_bytes machine.new) }
     ensures turns { (said : next_move.Next) → result ≡ Ok (act.Turns said) → is_write said ≡ false }
-    ensures line { (line : Bool) → result ≡ Ok (act.Line line) → (line ≡ line_shown machine.new.controller) × (next_write machine.new.controller ≡ None) }
+    ensures line { (line : Bool) → result ≡ Ok (act.Line line)
+        → (line ≡ line_shown machine.new.controller) × (next_write machine.new.controller ≡ None) }
     ensures waits { result ≡ Ok act.Rests → AreReached machine.old → AllWait machine.old }
 {
     machine_laws::disks_have_their_laws();

@@ -2,7 +2,7 @@
 use Rattle.std.proofs.Common.{◌≡◌, ℕ, ◌+◌, ◌*◌, ◌/◌, ◌%◌, ◌-◌, ◌<◌, ◌^◌, ◌&&◌, min, Bool, true, false, List, [], ◌∷◌, ◌++◌, Option, Some, None}
 use Rattle.std.proofs.{Common.{Result, Ok, Err, refl, sym, ap, subst, ◌∙◌, inl, inr, arith, bit_and}, lemmas.{Bool.{eq-eqb}, Nat.Bits.{bit_at-lt}}}
 use Rattle.std.proofs.lemmas.Nat.Bits.{bit_at_and, bit_at_cat_low, bit_at_ones, shr_and_one}
-use Rattle.std.specs.{Prelude.{◌==◌, nat_lt, MatchResult}, Int.bit_at, declared.alloc.AllocError.AllocError}
+use Rattle.std.specs.{Prelude.{◌==◌, if◌then◌else◌, nat_lt, MatchResult}, Int.bit_at, declared.alloc.AllocError.AllocError}
 use Rattle.slots.specs.Slots.{has_bit}
 use Rattle.ahci_registers.specs.{Offsets.register_at, declared.register.Register.TheVariants.{PxCi, PxSntf}}
 use Rattle.ahci_controller.specs.{Reading.shown, States.ControllerState, Wide.read_wide, declared.access.Width.TheVariants.Dword}
@@ -10,7 +10,9 @@ use Rattle.ahci_controller.specs.declared.issuing.Supply.{Supply}
 use Rattle.ahci_controller.specs.declared.issuing.Supply.TheVariants as supply
 use Rattle.controller_laws.specs.Events as call
 use Rattle.controller_laws.specs.Events.{Event}
-use Rattle.ahci_machine.specs.{Acts.Steps, Answers.{IsToldBy, SuppliesMachine, told_by}, States.{HasRules, MachineState}, declared.act.Act.Act}
+use Rattle.ahci_machine.specs.{Acts.Steps, Answers.{IsToldBy, SuppliesMachine, told_by}, Registers.{read_machine, shows_device}}
+use Rattle.ahci_machine.specs.{States.{HasRules, MachineState}, declared.act.Act.Act}
+use Rattle.fan_out.specs.FanOuts.{is_bare}
 use Rattle.ahci_machine.specs.declared.{answers.Told.Told, request.Wanted.TheVariants.Command}
 use Rattle.ahci_machine.specs.declared.answers.Told.TheVariants as told
 use Rattle.machine_laws.specs.{ControllerLaws.RunsRuled, Controllers.deed_calls, Deeds.{Deed, Does, Moved, Supplied}}
@@ -106,8 +108,19 @@ ci_read : (c : ControllerState) → read_wide c 0x138 Dword ≡ bit_and ((shown 
 unfolding register_at
 ci_read c = refl
 
-pub is_read : (c : ControllerState) (slot : ℕ) → slot < 32 → (bit_and (read_wide c 0x138 Dword / 2 ^ slot) 1 == 1) ≡ has_bit (shown PxCi c) slot
-is_read c slot below = ap (λ (n : ℕ). n == 1) (shr_and_one (read_wide c 0x138 Dword) slot ∙ ap (λ (n : ℕ). bit_at n slot) (ci_read c) ∙ low_bit (shown PxCi c) (shown PxSntf c) slot below)
+-- PxCI reads as that of the controller, whatever is at the other end of its link
+either : (b : Bool) (n : ℕ) → (if b then n else n) ≡ n
+either true n = refl
+either false n = refl
+
+machine_read : (m : MachineState) → read_machine m 0x138 Dword ≡ read_wide m.controller 0x138 Dword
+machine_read m = either (is_bare m.fan && shows_device m.controller) (read_wide m.controller 0x138 Dword)
+
+pub is_read : (m : MachineState) (slot : ℕ) → slot < 32 → (bit_and (read_machine m 0x138 Dword / 2 ^ slot) 1 == 1) ≡ has_bit (shown PxCi m.controller) slot
+is_read m slot below =
+    let c = m.controller in
+    ap (λ (n : ℕ). n == 1) (shr_and_one (read_machine m 0x138 Dword) slot
+    ∙ ap (λ (n : ℕ). bit_at n slot) (machine_read m ∙ ci_read c) ∙ low_bit (shown PxCi c) (shown PxSntf c) slot below)
 
 -- ---- the calls
 
