@@ -181,15 +181,54 @@ static bool may_master(GefsunkAhci *s)
     return !is_asleep(s) && pci_get_word(PCI_DEVICE(s)->config + PCI_COMMAND) & PCI_COMMAND_MASTER;
 }
 
-/* The next event, if there is one that can be done. What is of the guest's memory waits for bus mastering, and for power. */
+/* Where an access of the function goes, if it goes there as a whole. */
+static MemoryRegion *region_at(GefsunkAhci *s, dma_addr_t at, dma_addr_t len, bool is_write)
+{
+    hwaddr offset, there = len;
+    MemoryRegion *region = address_space_translate(pci_get_address_space(PCI_DEVICE(s)), at, &offset, &there, is_write, MEMTXATTRS_UNSPECIFIED);
+    return there < len ? NULL : region;
+}
+
+/* Whether bytes are of memory alone. What any other device does with them may have this one wait for its media. */
+static bool is_memory(GefsunkAhci *s, dma_addr_t at, dma_addr_t len, bool is_write)
+{
+    RCU_READ_LOCK_GUARD();
+    MemoryRegion *region = region_at(s, at, len, is_write);
+    return region && memory_access_is_direct(region, is_write);
+}
+
+/* Whether messages go to an interrupt controller, if there are any. */
+static bool are_messages_plain(GefsunkAhci *s)
+{
+    RCU_READ_LOCK_GUARD();
+    MemoryRegion *region;
+    if (!msi_enabled(PCI_DEVICE(s))) {
+        return true;
+    }
+    region = region_at(s, msi_get_message(PCI_DEVICE(s), 0).address, 4, true);
+    return region && object_dynamic_cast(memory_region_owner(region), "apic-common");
+}
+
+/* What is of the guest's memory waits for bus mastering, for power, and, in the turn of a medium, where it is of something else. */
+static bool must_wait(GefsunkAhci *s)
+{
+    bool is_write = s->event.kind == GEF_EVENT_WRITE_GUEST;
+    if (s->event.kind != GEF_EVENT_READ_GUEST && !is_write) {
+        return false;
+    }
+    return !may_master(s) ||
+           (s->is_within && !is_memory(s, is_write ? s->event.u.write.at : s->event.u.read.at,
+                                       is_write ? s->event.u.write.len : s->event.u.read.len, is_write));
+}
+
+/* The next event, if there is one that can be done. */
 static bool has_next(GefsunkAhci *s)
 {
     bool waited = s->has_event;
     if (!waited) {
         gefsunk_must(gef_machine_next(&s->machine, &s->event));
     }
-    s->has_event = (s->event.kind == GEF_EVENT_READ_GUEST || s->event.kind == GEF_EVENT_WRITE_GUEST) &&
-                   !may_master(s);
+    s->has_event = must_wait(s);
     if (s->has_event && !waited) {
         trace_gefsunk_waits();
     }
@@ -225,11 +264,29 @@ void gefsunk_run(GefsunkAhci *s)
         count++;
     }
     s->is_busy = false;
-    if (!rests) {
+    if (!rests || (s->has_event && s->is_within)) {
         qemu_bh_schedule(s->later);
     } else if (!s->has_event && s->record) {
         gefsunk_note(s, "settle\n");
     }
+}
+
+/*
+ * A medium has done something, and this is its turn: nothing may wait for it. So what follows is done later where it may come to that:
+ * the guest may have another device reset this function, and a recording or a script waits for media.
+ */
+void gefsunk_go_on(GefsunkAhci *s)
+{
+    if (s->is_busy) {
+        return;
+    }
+    if (s->record || s->script || !are_messages_plain(s)) {
+        qemu_bh_schedule(s->later);
+        return;
+    }
+    s->is_within = true;
+    gefsunk_run(s);
+    s->is_within = false;
 }
 
 static void run_later(void *opaque)

@@ -106,8 +106,9 @@ struct GefsunkAhci {
     QEMUBH *later;
     gef_machine machine;
     gef_event event;
-    bool has_event;        /* `event` waits for bus mastering */
+    bool has_event;        /* `event` waits, most often for bus mastering */
     bool is_busy, is_held; /* an event is being done; none begins */
+    bool is_within;        /* it is a medium's turn, which nothing may wait for */
     bool is_up;            /* the interrupt line */
     unsigned crowded;      /* disks whose media have too much to do: nothing moves meanwhile */
     VMChangeStateEntry *changes;
@@ -135,6 +136,9 @@ void gefsunk_note(GefsunkAhci *s, const char *format, ...) G_GNUC_PRINTF(2, 3);
 
 /* Does what is to be done. */
 void gefsunk_run(GefsunkAhci *s);
+
+/* The same behind what a medium did. */
+void gefsunk_go_on(GefsunkAhci *s);
 
 /* ---- gefsunk_disk.c */
 

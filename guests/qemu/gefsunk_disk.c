@@ -107,10 +107,7 @@ static gef_status told(GefsunkAhci *s, Work *work, uint32_t error, uint64_t lba)
            gef_machine_answer_done(&s->machine, request);
 }
 
-/*
- * The disk may refuse an answer, since a reset ends requests, or since it is of somebody's stream: then nobody waits for it. What follows
- * is done later, and not within the backend's own turn: the guest may have it reset this function, which waits for the backend.
- */
+/* The disk may refuse an answer, since a reset ends requests, or since it is of somebody's stream: then nobody waits for it. */
 void gefsunk_answer(Work *work, uint32_t error, uint64_t lba)
 {
     GefsunkAhci *s = gefsunk_controller_of(work->disk);
@@ -120,9 +117,7 @@ void gefsunk_answer(Work *work, uint32_t error, uint64_t lba)
         gefsunk_must(status);
     }
     end_work(work);
-    if (!s->is_busy) {
-        qemu_bh_schedule(s->later);
-    }
+    gefsunk_go_on(s);
 }
 
 static uint32_t error_of(const Work *work)
