@@ -155,11 +155,7 @@ fn refused(rt: &HostRuntime, name: &str) -> io::Result<()> {
 }
 
 /// Gives a step, and once more where memory is refused.
-fn give(
-    rt: &HostRuntime,
-    world: &mut World,
-    step: &Step,
-) -> io::Result<Result<Answer, StepError>> {
+fn give(rt: &HostRuntime, world: &mut World, step: &Step) -> io::Result<Result<Answer, StepError>> {
     match world.step(rt.alloc(), step) {
         Err(StepError::OutOfMemory) => {
             refused(rt, "World::step")?;
@@ -251,12 +247,7 @@ fn runs_on(
 
 /// Whether a run of the steps answers what they did one after another, and where memory is refused, from the step on that
 /// it stops at.
-fn runs(
-    rt: &HostRuntime,
-    world: &mut World,
-    steps: &[Step],
-    digests: &[u64],
-) -> io::Result<bool> {
+fn runs(rt: &HostRuntime, world: &mut World, steps: &[Step], digests: &[u64]) -> io::Result<bool> {
     match run(rt.alloc(), world, steps) {
         Ok(answers) => Ok(have(&answers, digests)),
         Err((i, StepError::OutOfMemory)) => {
