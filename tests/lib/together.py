@@ -111,6 +111,16 @@ def turned(folder, bodies):
     return texts
 
 
+def link_or_copy(one, other):
+    """What was proved has a second name, as rt gives it: a check replaces such a file, and changes none."""
+    try:
+        if one.endswith(".oantt"):
+            return os.link(one, other)
+    except OSError:
+        pass  # as on another disk
+    return shutil.copy2(one, other)
+
+
 def said_of(rtlib, crate, bodies):
     """What the prover says of the crate with these bodies, over what an earlier check kept."""
     with tempfile.TemporaryDirectory() as room:
@@ -120,7 +130,7 @@ def said_of(rtlib, crate, bodies):
         for file, text in turned(crate.folder, bodies).items():
             with open(f"{room}/{file}", "w", encoding="utf-8") as out:
                 out.write(text)
-        shutil.copytree(f"{crate.folder}/out/incremental", f"{room}/kept", symlinks=True)
+        shutil.copytree(f"{crate.folder}/out/incremental", f"{room}/kept", copy_function=link_or_copy)
         words = [rtlib.RATTLE, "check", *crate.words(["--jobs", "1"], keeps=False), "--incremental", f"{room}/kept"]
         ran = subprocess.run([*rtlib.guarded(), *words], cwd=room, stdin=subprocess.DEVNULL, stdout=subprocess.PIPE,
                              stderr=subprocess.STDOUT, text=True, errors="replace")
