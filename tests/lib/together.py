@@ -24,7 +24,7 @@ NAMES = re.compile(r"has no field|is not in scope|has no `|was not admitted")
 
 def tool():
     """The module of rt that knows crates and the words of a check."""
-    page = subprocess.run(["rt", "doc"], capture_output=True, text=True, check=True).stdout.strip()
+    page = subprocess.run([os.environ.get("RT", "rt"), "doc"], capture_output=True, text=True, check=True).stdout.strip()
     sys.path.insert(0, os.path.join(os.path.dirname(page), "bin"))
     sys.dont_write_bytecode = True
     import rtlib
@@ -142,7 +142,8 @@ def refused(lines, bodies):
     if not lines[-1].startswith("logic=not-proved"):
         return None
     failed = [it for it in map(VERDICT.match, lines) if it]
-    if not all(any(body.is_of(it[1]) for body in bodies) for it in failed):
+    paths = {it[1] for it in failed}
+    if not all(any(body.is_of(it) for body in bodies) for it in paths) or len({it.rpartition("::")[2] for it in paths}) < len(paths):
         return None
     told, found = [it for it in map(TOLD.match, lines) if it and not NAMES.search(it[5])], {}
     for body in bodies:
